@@ -1,0 +1,14 @@
+-- One verdict is the first that holds, and two refusals have two numbers.
+use mathlib.Core.Path.{_≡_, refl, sym, _∙_}
+use mathlib.Core.Logic.{_⊎_, inl, inr}
+use mathlib.Core.List.{List, [], _∷_}
+use Rattle.refusal.specs.declared.Verdict.{Verdict}
+use Rattle.refusal.specs.First.{Clause, First}
+
+pub first-one : (l : List Clause) {v w : Verdict} → First l v → First l w → v ≡ w
+unfolding First
+first-one [] p q = p ∙ sym q
+first-one (c ∷ l) (inl p) (inl q) = p .1 ∙ sym (q .1)
+first-one (c ∷ l) (inl p) (inr q) = absurd (q .0 (p .0))
+first-one (c ∷ l) (inr p) (inl q) = absurd (p .0 (q .0))
+first-one (c ∷ l) (inr p) (inr q) = first-one l (p .1) (q .1)

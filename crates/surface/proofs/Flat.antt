@@ -1,0 +1,88 @@
+-- A flat table and its rows, by place.
+use mathlib.Core.Path.{_≡_, refl, sym, _∙_, ap}
+use mathlib.Core.Logic.{_≢_, _⊎_, inl, inr}
+use mathlib.Core.List.{List, [], _∷_, map, List·Memᴰ·head, List·Memᴰ·tail, List·Memᴰ·cases-cons, List·Memᴰ·not-nil, Memᴰ·cast}
+use Prim.Native.Nat.{ℕ, zero, suc, _≤_, _<_, _+_, _*_}
+use native.Mathlib.Nat.{suc-inj}
+use native.Mathlib.Omega.{arith}
+use lib.ListN.{length, getD}
+use Rattle.surface.specs.Lists.{_∈_, Distinct, none, more}
+use Rattle.surface.specs.Rows.{Row, row, rows, turn-0}
+use Rattle.surface.specs.Stage.{Stage}
+
+-- the numbers of a table, row after row
+unfoldable pub flat : List Row → List ℕ
+flat [] = []
+flat (row i j k ∷ T) = i ∷ j ∷ k ∷ flat T
+
+pub rows-flat : (T : List Row) → rows (flat T) ≡ T
+unfolding rows flat
+rows-flat [] = refl
+rows-flat (row i j k ∷ T) = ap (λ l. row i j k ∷ l) (rows-flat T)
+
+pub flat-length : (T : List Row) → length (flat T) ≡ 3 * length T
+unfolding flat
+flat-length [] = refl
+flat-length (row i j k ∷ T) = let h = flat-length T in omega arith
+
+-- a flat table whose length is a multiple of three
+pub rows-length : (k : ℕ) (t : List ℕ) → length t ≡ 3 * k → length (rows t) ≡ k
+unfolding rows
+rows-length zero [] h = refl
+rows-length (suc k) [] h = absurd (omega arith)
+rows-length k (a ∷ []) h = absurd (omega arith)
+rows-length k (a ∷ b ∷ []) h = absurd (omega arith)
+rows-length zero (a ∷ b ∷ c ∷ t) h = absurd (omega arith)
+rows-length (suc k) (a ∷ b ∷ c ∷ t) h = ap suc (rows-length k t (omega arith))
+
+-- the row at place i holds the numbers from 3 i on
+pub rows-at : (i : ℕ) (t : List ℕ) (d : Row) → i < length (rows t) → getD (rows t) i d ≡ row (getD t (3 * i) 0) (getD t (3 * i + 1) 0) (getD t (3 * i + 2) 0)
+unfolding rows
+rows-at i [] d h = absurd (omega arith)
+rows-at i (a ∷ []) d h = absurd (omega arith)
+rows-at i (a ∷ b ∷ []) d h = absurd (omega arith)
+rows-at zero (a ∷ b ∷ c ∷ t) d h = refl
+rows-at (suc i) (a ∷ b ∷ c ∷ t) d h =
+    let e₀ : 3 * suc i ≡ suc (suc (suc (3 * i))) = omega arith in
+    let e₁ : suc (suc (suc (3 * i))) + 1 ≡ suc (suc (suc (3 * i + 1))) = omega arith in
+    let e₂ : suc (suc (suc (3 * i))) + 2 ≡ suc (suc (suc (3 * i + 2))) = omega arith in
+    rw (e₀, e₁, e₂) (rows-at i t d (omega arith))
+
+module _ {A : Type 0} where
+  -- an element stands at a place
+  pub at-place : (l : List A) (i : ℕ) (d : A) → i < length l → getD l i d ∈ l
+  at-place [] i d h = absurd (omega arith)
+  at-place (z ∷ l) zero d h = List·Memᴰ·head refl
+  at-place (z ∷ l) (suc i) d h = List·Memᴰ·tail (at-place l i d (omega arith))
+
+  pub place-of : {a : A} {l : List A} (d : A) → a ∈ l → (i : ℕ) × (i < length l) × (getD l i d ≡ a)
+  place-of d (List·Memᴰ·head e) = (zero, omega arith, sym e)
+  place-of d (List·Memᴰ·tail m) = let r = place-of d m in let h = r .1 in (suc (r .0), omega arith, r .2)
+
+  -- none occurs twice: two places differ in what they hold
+  pub places-differ : {l : List A} (d : A) → Distinct l → (i j : ℕ) → i < j → j < length l → getD l i d ≢ getD l j d
+  places-differ d none i j h k e = omega arith
+  places-differ d (more n s) zero zero h k e = omega arith
+  places-differ d (more {a = a} {l = l} n s) zero (suc j) h k e = n (Memᴰ·cast e (at-place l j d (omega arith)))
+  places-differ d (more n s) (suc i) zero h k e = omega arith
+  places-differ d (more n s) (suc i) (suc j) h k e = places-differ d s i j (omega arith) (omega arith) e
+
+  pub differ-places : (d : A) (l : List A) → ((i j : ℕ) → i < j → j < length l → getD l i d ≢ getD l j d) → Distinct l
+  differ-places d [] h = none
+  differ-places d (a ∷ l) h =
+      more {a = a} {l = l} (λ m. let r = place-of d m in let k = r .1 in h zero (suc (r .0)) (omega arith) (omega arith) (sym (r .2)))
+      (differ-places d l (λ i j lt k. h (suc i) (suc j) (omega arith) (omega arith)))
+
+-- a table has three numbers for each row
+pub rows-fit : (t : List ℕ) → 3 * length (rows t) ≤ length t
+unfolding rows
+rows-fit [] = omega arith
+rows-fit (a ∷ []) = omega arith
+rows-fit (a ∷ b ∷ []) = omega arith
+rows-fit (a ∷ b ∷ c ∷ t) = let h = rows-fit t in omega arith
+
+-- the numbers of a stage are below the corner count
+pub number-below : (n : ℕ) (t : List ℕ) (i : ℕ) → Stage n (rows t) → i < length (rows t) → getD t (3 * i) 0 < n
+number-below n t i s h =
+    let d = row 0 0 0 in
+    s .below (record { by = getD (rows t) i d; here = at-place (rows t) i d h; turned = turn-0 (rows-at i t d h) })

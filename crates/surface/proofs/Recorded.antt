@@ -1,0 +1,186 @@
+-- What a step writes: two rows, the earlier first. Growing back accepts it.
+use mathlib.Core.Path.{_≡_, refl, sym, _∙_, ap}
+use mathlib.Core.Logic.{_⊎_, inl, inr, ite, _↔_}
+use mathlib.Core.List.{List, [], _∷_, map, List·Memᴰ·cases-cons, List·Memᴰ·eq-of-singleton}
+use Prim.Native.Nat.{ℕ, zero, suc, _<_}
+use native.Mathlib.Omega.{arith}
+use lib.ListN.{length}
+use Rattle.surface.specs.Lists.{_∈_}
+use Rattle.surface.specs.Rows.{Row}
+use Rattle.surface.specs.Table.{Follows}
+use Rattle.surface.specs.Stage.{Stage}
+use Rattle.surface.specs.Link.{Meets, Opposite}
+use Rattle.surface.specs.Contract.{at-0, at-1, Stays, stays?, contract}
+use Rattle.surface.specs.Record.{Placed, at, later, leaving, Record, placed, Replays, Replayed, no-step, one-step}
+use Rattle.surface.specs.Grow.{Ends, in-order, crossed}
+use Rattle.surface.specs.Accept.{Accepted, GrownBack, no-record, one-record}
+use Rattle.surface.proofs.Count.{length-map}
+use Rattle.surface.proofs.Once.{turn}
+use Rattle.surface.proofs.Renumber.{stays-turned}
+use Rattle.surface.proofs.Regrow.{Third, third-0, third-1, third-2, third}
+use Rattle.surface.proofs.Linked.{opposite}
+use Rattle.surface.proofs.Counted.{used-old}
+use Rattle.surface.proofs.Accepting.{accepted-one}
+use Rattle.surface.proofs.Main.{contraction}
+use Rattle.surface.proofs.Growing.{grown, leaving-in, two-leaving}
+
+module _ (a b : ℕ) where
+  -- one entry, two entries
+  pub record One (T : List Row) : Type 0 where
+    pub i : ℕ
+    pub r : Row
+    pub is : leaving a b T ≡ at i r ∷ []
+    pub inside : i < length T
+
+  pub record Two (T : List Row) : Type 0 where
+    pub i : ℕ
+    pub j : ℕ
+    pub r : Row
+    pub z : Row
+    pub is : leaving a b T ≡ at i r ∷ at j z ∷ []
+    pub order : i < j
+    pub inside : j < length T
+
+  empty : (l : List Placed) → length l ≡ 0 → l ≡ []
+  empty [] e = refl
+  empty (p ∷ l) e = absurd (omega arith)
+
+  one-entry : (T : List Row) → length (leaving a b T) ≡ 1 → One T
+  unfolding leaving later
+  one-entry [] e = absurd (omega arith)
+  one-entry (t ∷ T) e = go (stays? a b t) e refl (λ e. one-entry T e)
+    where
+      m : length (map later (leaving a b T)) ≡ length (leaving a b T)
+      m = length-map later (leaving a b T)
+
+      go : (d : Dec (Stays a b t)) → length (ite {C = List Placed} d (map later (leaving a b T)) (at zero t ∷ map later (leaving a b T))) ≡ 1 →
+          leaving a b (t ∷ T) ≡ ite {C = List Placed} d (map later (leaving a b T)) (at zero t ∷ map later (leaving a b T)) → (length (leaving a b T) ≡ 1 → One T) → One (t ∷ T)
+      go (yes h) e k rec = let w = rec (sym m ∙ e) in record { i = suc (w .i); r = w .r; is = k ∙ ap (map later) (w .is); inside = let q = w .inside in omega arith }
+      go (no h) e k rec = record { i = zero; r = t; is = k ∙ ap (λ l. at zero t ∷ map later l) (empty (leaving a b T) (let q = m in omega arith)); inside = omega arith }
+
+  two-entries : (T : List Row) → length (leaving a b T) ≡ 2 → Two T
+  unfolding leaving later
+  two-entries [] e = absurd (omega arith)
+  two-entries (t ∷ T) e = go (stays? a b t) e refl (λ e. two-entries T e)
+    where
+      m : length (map later (leaving a b T)) ≡ length (leaving a b T)
+      m = length-map later (leaving a b T)
+
+      go : (d : Dec (Stays a b t)) → length (ite {C = List Placed} d (map later (leaving a b T)) (at zero t ∷ map later (leaving a b T))) ≡ 2 →
+          leaving a b (t ∷ T) ≡ ite {C = List Placed} d (map later (leaving a b T)) (at zero t ∷ map later (leaving a b T)) → (length (leaving a b T) ≡ 2 → Two T) → Two (t ∷ T)
+      go (yes h) e k rec =
+          let w = rec (sym m ∙ e) in
+          record { i = suc (w .i); j = suc (w .j); r = w .r; z = w .z; is = k ∙ ap (map later) (w .is); order = let q = w .order in omega arith; inside = let q = w .inside in omega arith }
+      go (no h) e k rec =
+          let w = one-entry T (let q = m in omega arith) in
+          record { i = zero; j = suc (w .i); r = t; z = w .r; is = k ∙ ap (λ l. at zero t ∷ map later l) (w .is); order = omega arith; inside = let q = w .inside in omega arith }
+
+at-row : {i j : ℕ} {r z : Row} → at i r ≡ at j z → r ≡ z
+at-row e = cc
+
+-- a step that writes the record k
+module _ (n : ℕ) (T : List Row) (k : Record) (s : Stage n T) (m : Meets T (k .kept) (k .removed)) (is : leaving (k .kept) (k .removed) T ≡ placed k) where
+  abbrev a : ℕ
+  a = k .kept
+
+  abbrev b : ℕ
+  b = k .removed
+
+  w : (x : ℕ) × (y : ℕ) × Opposite T a b x y
+  w = opposite n T s m
+
+  two : Two a b T
+  two = two-entries a b T (two-leaving n T a b (w .0) (w .1) s (w .2))
+
+  same : placed k ≡ at (two .i) (two .r) ∷ at (two .j) (two .z) ∷ []
+  same = sym is ∙ two .is
+
+  -- growing back accepts it, and gives the table back
+  pub step-accepted : a < b → Accepted n (contract a b T) k T
+  step-accepted h = record {
+    lower = h;
+    below = s .below (o .right);
+    unused = λ u. (used-old n T a b x y s o u) .1 refl;
+    grows = record {
+      x = x;
+      y = y;
+      ends = ends;
+      in-order = let e = same in let i : k .place-1 ≡ two .i = cc in let j : k .place-2 ≡ two .j = cc in let q = two .order in omega arith;
+      inside = let e = same in let j : k .place-2 ≡ two .j = cc in let q = two .inside in omega arith;
+      grown = rw is at (grown n T a b x y s o);
+    };
+    stage = s;
+    meets = m;
+    back = refl;
+    record-is = is;
+  }
+    where
+      x : ℕ
+      x = w .0
+
+      y : ℕ
+      y = w .1
+
+      o : Opposite T a b x y
+      o = w .2
+
+      which : (i : ℕ) (r : Row) → at i r ∈ leaving a b T → (r ≡ k .row-1) ⊎ (r ≡ k .row-2)
+      which i r l = go (List·Memᴰ·cases-cons (rw is at l))
+        where
+          go : (at i r ≡ at (k .place-1) (k .row-1)) ⊎ (at i r ∈ at (k .place-2) (k .row-2) ∷ []) → (r ≡ k .row-1) ⊎ (r ≡ k .row-2)
+          go (inl e) = inl (at-row e)
+          go (inr l) = inr (at-row (List·Memᴰ·eq-of-singleton l))
+
+      leaves : {v p q : ℕ} (f : Follows T v p q) → ¬ Stays a b (f .by) → (f .by ≡ k .row-1) ⊎ (f .by ≡ k .row-2)
+      leaves f l = let i = leaving-in a b T (f .here) l in which (i .0) (f .by) (i .1)
+
+      ends : Ends a b (k .row-1) (k .row-2) x y
+      ends = go (leaves (o .left) (λ l. stays-turned a b (o .left .turned) l (at-0 refl, at-1 refl))) (leaves (o .right) (λ l. stays-turned a b (o .right .turned) l (at-1 refl, at-0 refl)))
+        where
+          not-one : Third a b x b a y → ⊥
+          not-one (third-0 i j l) = s .apart (o .right) i
+          not-one (third-1 i j l) = s .apart (turn (turn (o .left))) (sym j)
+          not-one (third-2 i j l) = s .apart (turn (o .left)) i
+
+          go : (o .left .by ≡ k .row-1) ⊎ (o .left .by ≡ k .row-2) → (o .right .by ≡ k .row-1) ⊎ (o .right .by ≡ k .row-2) → Ends a b (k .row-1) (k .row-2) x y
+          go (inl e) (inl f) = absurd (not-one (third (rw (e ∙ sym f) at (o .left .turned)) (o .right .turned)))
+          go (inl e) (inr f) = in-order (rw e at (o .left .turned)) (rw f at (o .right .turned))
+          go (inr e) (inl f) = crossed (rw f at (o .right .turned)) (rw e at (o .left .turned))
+          go (inr e) (inr f) = absurd (not-one (third (rw (e ∙ sym f) at (o .left .turned)) (o .right .turned)))
+
+-- the record that a step writes
+pub written : (n : ℕ) (T : List Row) (a b : ℕ) → Stage n T → Meets T a b → Record
+written n T a b s m =
+    let w = opposite n T s m in
+    let t = two-entries a b T (two-leaving n T a b (w .0) (w .1) s (w .2)) in
+    record { kept = a; removed = b; place-1 = t .i; row-1 = t .r; place-2 = t .j; row-2 = t .z }
+
+pub written-replays : (n : ℕ) (T : List Row) (a b : ℕ) (s : Stage n T) (m : Meets T a b) → a < b → Replays T (written n T a b s m) (contract a b T)
+unfolding written
+written-replays n T a b s m h =
+    let w = opposite n T s m in
+    record { lower = h; meets = m; leaves = refl; record-is = two-entries a b T (two-leaving n T a b (w .0) (w .1) s (w .2)) .is }
+
+-- growing back accepts just what replaying accepts, the other way round
+pub replay-iff : (n : ℕ) (T : List Row) (k : Record) (T′ : List Row) → Accepted n T′ k T ↔ (Stage n T × Replays T k T′)
+replay-iff n T k T′ = (λ g. (g .stage, record { lower = g .lower; meets = g .meets; leaves = g .back; record-is = g .record-is }), λ h. there (h .0) (h .1))
+  where
+    there : Stage n T → Replays T k T′ → Accepted n T′ k T
+    there s r = rw (r .leaves) at (step-accepted n T k s (r .meets) (r .record-is) (r .lower))
+
+pub grown-replayed : {n : ℕ} {T T′ : List Row} {l : List Record} → GrownBack n T′ l T → Replayed T l T′
+grown-replayed (no-record e) = no-step e
+grown-replayed {n} (one-record g h) = one-step (((replay-iff _ _ _ _) .0 h) .1) (grown-replayed g)
+
+pub replayed-grown : {n : ℕ} {T T′ : List Row} {l : List Record} → Stage n T → Replayed T l T′ → GrownBack n T′ l T
+replayed-grown s (no-step e) = no-record e
+replayed-grown {n} s (one-step {T = T} {k = k} r c) = one-record (replayed-grown (rw (r .leaves) at (contraction n T (k .kept) (k .removed) s (r .meets))) c) ((replay-iff _ _ _ _) .1 (s, r))
+
+-- a log grows back to one table, and that is a stage
+pub grown-back-one : {n : ℕ} {T′ T₁ T₂ : List Row} {l : List Record} → GrownBack n T′ l T₁ → GrownBack n T′ l T₂ → T₁ ≡ T₂
+grown-back-one (no-record e) (no-record f) = e ∙ sym f
+grown-back-one {n} (one-record g h) (one-record g₂ h₂) = accepted-one (rw (grown-back-one g g₂) at h) h₂
+
+pub grown-back-stage : {n : ℕ} {T′ T : List Row} {l : List Record} → Stage n T′ → GrownBack n T′ l T → Stage n T
+grown-back-stage s (no-record e) = rw e s
+grown-back-stage s (one-record g h) = h .stage

@@ -1,0 +1,11 @@
+pub mod Limits
+pub mod Lists
+pub mod Rows
+pub mod Table
+pub mod Stage
+pub mod Link
+pub mod Contract
+pub mod Record
+pub mod Grow
+pub mod Accept
+pub mod Euler
