@@ -14,10 +14,11 @@ use Rattle.surface.specs.Record.{at, Record, placed}
 use Rattle.surface.specs.Grow.{put, put-back, Grown, Ends, in-order, crossed, Grows}
 use Rattle.surface.specs.Accept.{Accepted, Local}
 use Rattle.surface.proofs.Once.{turn}
-use Rattle.surface.proofs.Contracted.{re-edge, two-leave, from-a, b≢x, y≢b}
-use Rattle.surface.proofs.Linked.{one, opposite, meets}
+use Rattle.surface.proofs.Contracted.{two-leave, from-a, b≢x, y≢b}
+use Rattle.surface.proofs.Following.{re-edge, follows-same as one}
+use Rattle.surface.proofs.Linked.{opposite, meets}
 use Rattle.surface.proofs.Growing.{grown-one, leaving-out}
-use Rattle.surface.proofs.Main.{no-second}
+use Rattle.surface.proofs.Stepped.{no-second}
 use Rattle.surface.proofs.Regrow.{Third, third-0, third-1, third-2, third, T-length, T-stage, T-opposite, T-back, T-leaving}
 use Rattle.surface.proofs.Walked.{grow-back, grow-back-grown}
 

@@ -11,8 +11,7 @@ use Rattle.surface.specs.Stage.{Stage}
 use Rattle.surface.specs.Grow.{Between}
 use Rattle.surface.proofs.Reaching.{join, one-step, carry, within, Past, before}
 use Rattle.surface.proofs.Once.{turn}
-use Rattle.surface.proofs.Contracted.{re-edge}
-use Rattle.surface.proofs.Linked.{one}
+use Rattle.surface.proofs.Following.{re-edge, follows-same as one}
 
 -- from y forward round h, before x, built from the far end
 pub data Arc (T : List Row) (h x y : ℕ) : ℕ → Type 0 where

@@ -15,29 +15,15 @@ use Rattle.surface.specs.Contract.{Holds, at-0, at-1, at-2, holds?, Stay
 use Rattle.surface.proofs.Count.{fits, distinct-filter, not-two, length-map}
 use Rattle.surface.proofs.Reaching.{join, one-step, carry, Past, after, before}
 use Rattle.surface.proofs.Once.{turn, Once, once-none, once-more, Apart, follows-one, same-second, turn-it, row-one, distinct-rows, follows-tail, once-of-distinct, distinct-of-once}
+use Rattle.surface.proofs.Following.{re, re-edge, Gone, left-0, left-1, left-2, right-0, right-1, right-2, stage-once, follows-same}
 use Rattle.surface.proofs.Renumber.{filter-in, filter-out, holds-turned, turned-holds, replace-at, replace-off, replace-same, keep, Came, came, Source, source, stays-turned}
-
-pub re : {T : List Row} {v p q v′ p′ q′ : ℕ} → v ≡ v′ → p ≡ p′ → q ≡ q′ → Follows T v p q → Follows T v′ p′ q′
-re ev ep eq f = rw eq at (rw ep at (rw ev at f))
-
-pub re-edge : {T : List Row} {p q p′ q′ : ℕ} → p ≡ p′ → q ≡ q′ → Edge T p q → Edge T p′ q′
-re-edge ep eq e = (e .0, re ep eq refl (e .1))
-
--- a row that holds both a and b is one of two, however it is turned
-pub data Gone (a b x y v p q : ℕ) : Type 0 where
-  left-0 : v ≡ a → p ≡ b → q ≡ x → Gone a b x y v p q
-  left-1 : v ≡ b → p ≡ x → q ≡ a → Gone a b x y v p q
-  left-2 : v ≡ x → p ≡ a → q ≡ b → Gone a b x y v p q
-  right-0 : v ≡ b → p ≡ a → q ≡ y → Gone a b x y v p q
-  right-1 : v ≡ a → p ≡ y → q ≡ b → Gone a b x y v p q
-  right-2 : v ≡ y → p ≡ b → q ≡ a → Gone a b x y v p q
 
 module _ (n : ℕ) (T : List Row) (a b x y : ℕ) (s : Stage n T) (o : Opposite T a b x y) where
   pub once-T : Once T
-  once-T = once-of-distinct T (s .once)
+  once-T = stage-once n T s
 
   pub one : {v p q q′ : ℕ} → Follows T v p q → Follows T v p q′ → q ≡ q′
-  one f g = follows-one once-T (λ v p q f. s .apart f) f g
+  one f g = follows-same n T s f g
 
   pub one-back : {v p p′ q : ℕ} → Follows T v p q → Follows T v p′ q → p ≡ p′
   one-back f g = one (turn (turn f)) (turn (turn g))

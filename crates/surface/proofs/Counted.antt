@@ -5,6 +5,7 @@ use mathlib.Core.List.{List, [], _∷_, _++_, map, List·Memᴰ, List·Memᴰ·h
 use Prim.Native.Nat.{ℕ, suc, _≤_, _<_, _+_, _*_}
 use native.Mathlib.Decide.{ℕ-discrete, decLt}
 use native.Mathlib.Omega.{arith}
+use lib.IntN.{ℤ, pos, negℤ, _+ℤ_, _-ℤ_, +ℤ-assoc, +ℤ-comm, +ℤ-negℤ-cancel}
 use lib.ListN.{length, length-append}
 use Rattle.surface.specs.Lists.{_∈_, Distinct, none, more, Exactly}
 use Rattle.surface.specs.Rows.{Row, row}
@@ -16,7 +17,17 @@ use Rattle.surface.specs.Euler.{Rises, rises, Counts}
 use Rattle.surface.proofs.Count.{fits, not-two, length-map}
 use Rattle.surface.proofs.Once.{turn, edge-in, in-edge}
 use Rattle.surface.proofs.Renumber.{replace-at, replace-off, replace-same, Source, source}
-use Rattle.surface.proofs.Contracted.{re, re-edge, contracted, two-leave, edge-kept, from-a}
+use Rattle.surface.proofs.Contracted.{contracted, two-leave, edge-kept, from-a}
+use Rattle.surface.proofs.Following.{re, re-edge}
+
+-- equal differences of whole numbers
+pub difference-same : (a b c d : ℕ) → a + d ≡ c + b → pos a -ℤ pos b ≡ pos c -ℤ pos d
+difference-same a b c d e =
+    ap (λ z. z -ℤ pos b) (sym (+ℤ-negℤ-cancel (pos a) (pos d)) ∙ ap (λ m. pos m -ℤ pos d) e)
+    ∙ +ℤ-assoc (pos c +ℤ pos b) (negℤ (pos d)) (negℤ (pos b))
+    ∙ ap (λ z. pos c +ℤ pos b +ℤ z) (+ℤ-comm (negℤ (pos d)) (negℤ (pos b)))
+    ∙ sym (+ℤ-assoc (pos c +ℤ pos b) (negℤ (pos b)) (negℤ (pos d)))
+    ∙ ap (λ z. z -ℤ pos d) (+ℤ-negℤ-cancel (pos c) (pos b))
 
 -- a number of things is one number
 pub one-count : {A : Type 0} {P : A → Type 0} {k m : ℕ} → Exactly P k → Exactly P m → k ≡ m

@@ -18,10 +18,10 @@ use Rattle.surface.specs.Contract.{replace}
 use Rattle.surface.proofs.Reaching.{join, one-step, carry, go-back}
 use Rattle.surface.proofs.Once.{turn, Once, edge-in, in-edge, distinct-of-once}
 use Rattle.surface.proofs.Renumber.{replace-at, replace-off}
-use Rattle.surface.proofs.Contracted.{re, re-edge, Gone, left-0, left-1, left-2, right-0, right-1, right-2}
+use Rattle.surface.proofs.Following.{re, re-edge, Gone, left-0, left-1, left-2, right-0, right-1, right-2, follows-same as one}
 use Rattle.surface.proofs.Cycle.{ring-from}
 use Rattle.surface.proofs.Testing.{among, among-sound, among-whole, arrow-eq, arrow-sound, arrow-whole}
-use Rattle.surface.proofs.Linked.{one, not-same}
+use Rattle.surface.proofs.Linked.{not-same}
 use Rattle.surface.proofs.Arcs.{Arc, first, next, arc-short, re-arc, arc-edge, split, not-both, ends-at, cross}
 
 -- where a row of the new table comes from

@@ -18,7 +18,8 @@ use Rattle.surface.proofs.Reaching.{join, one-step, carry, within, Past
 use Rattle.surface.proofs.Count.{length-map}
 use Rattle.surface.proofs.Once.{turn}
 use Rattle.surface.proofs.Renumber.{filter-out, keep, replace-at, replace-off, replace-same, Source, source, stays-turned}
-use Rattle.surface.proofs.Contracted.{re, re-edge, one, one-back, stays-a, stays-b, on-b, re-stays, two-leave, Whence, whence, round-a, round-b}
+use Rattle.surface.proofs.Contracted.{one, one-back, stays-a, stays-b, on-b, re-stays, two-leave, Whence, whence, round-a, round-b}
+use Rattle.surface.proofs.Following.{re, re-edge}
 
 put-later : (l : List Placed) (z : Row) (S : List Row) → put-back (map later l) (z ∷ S) ≡ z ∷ put-back l S
 unfolding put-back later put

@@ -13,7 +13,7 @@ use Rattle.surface.specs.Link.{Meets, Opposite}
 use Rattle.surface.proofs.Count.{fits}
 use Rattle.surface.proofs.Reaching.{within}
 use Rattle.surface.proofs.Once.{turn, Once, follows-one, once-of-distinct, row-one, distinct-rows, turn-it}
-use Rattle.surface.proofs.Contracted.{re, re-edge}
+use Rattle.surface.proofs.Following.{re, re-edge, stage-once, follows-same}
 
 data Of (a b x v : ℕ) : Type 0 where
   of-a : v ≡ a → Of a b x v
@@ -22,10 +22,10 @@ data Of (a b x v : ℕ) : Type 0 where
 
 module _ (n : ℕ) (T : List Row) (s : Stage n T) where
   once-T : Once T
-  once-T = once-of-distinct T (s .once)
+  once-T = stage-once n T s
 
-  pub one : {v p q q′ : ℕ} → Follows T v p q → Follows T v p q′ → q ≡ q′
-  one f g = follows-one once-T (λ v p q f. s .apart f) f g
+  one : {v p q q′ : ℕ} → Follows T v p q → Follows T v p q′ → q ≡ q′
+  one f g = follows-same n T s f g
 
   -- two rows with the same three corners would be the whole table
   pub not-same : {a b x y : ℕ} → Follows T a b x → Follows T b a y → x ≢ y

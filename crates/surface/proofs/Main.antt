@@ -1,123 +1,95 @@
--- The theorems on a contraction, for an edge that meets the link condition.
+-- The theorems on stages and contractions, each in 01's words. Other crates cite these.
 use mathlib.Core.Path.{_≡_, refl, sym, _∙_, ap}
-use mathlib.Core.Logic.{_≢_, _⊎_, inl, inr}
-use mathlib.Core.List.{List, [], _∷_, filter, List·Memᴰ·head, List·Memᴰ·tail, List·Memᴰ·cases-cons, List·Memᴰ·not-nil}
-use Prim.Native.Nat.{ℕ, zero, suc, _≤_, _<_, _+_, _*_}
-use native.Mathlib.Decide.{ℕ-discrete, decLt}
+use mathlib.Core.Logic.{_⊎_, _↔_}
+use mathlib.Core.List.{List}
+use Prim.Native.Nat.{ℕ, _+_, _<_}
 use native.Mathlib.Omega.{arith}
+use lib.IntN.{ℤ, pos, _-ℤ_}
 use lib.ListN.{length}
-use Rattle.surface.specs.Lists.{_∈_, Distinct, none, more, Exactly}
-use Rattle.surface.specs.Rows.{Row, row}
-use Rattle.surface.specs.Table.{Arrow, _⇒_, Follows, Edge, Used, edges}
+use Rattle.surface.specs.Lists.{Exactly}
+use Rattle.surface.specs.Rows.{Row}
+use Rattle.surface.specs.Table.{Follows, Edge, Used}
 use Rattle.surface.specs.Stage.{Stage}
-use Rattle.surface.specs.Link.{Meets}
+use Rattle.surface.specs.Link.{Link, Meets, Opposite}
 use Rattle.surface.specs.Contract.{contract}
-use Rattle.surface.specs.Record.{Placed, leaving}
-use Rattle.surface.specs.Grow.{Grown}
-use Rattle.surface.specs.Euler.{Rises, rises, Counts}
-use Rattle.surface.proofs.Count.{distinct-filter}
-use Rattle.surface.proofs.Renumber.{filter-in, filter-out}
-use Rattle.surface.proofs.Once.{edge-in, in-edge}
-use Rattle.surface.proofs.Linked.{opposite}
-use Rattle.surface.proofs.Contracted.{contracted, two-leave}
-use Rattle.surface.proofs.Counted.{euler, one-count, one-corner}
-use Rattle.surface.proofs.Growing.{grown, told}
-use Rattle.surface.proofs.Round.{round, round-sound, round-whole, upto, every-upto}
+use Rattle.surface.specs.Record.{Record, leaving, Replays}
+use Rattle.surface.specs.Accept.{Accepted, Local}
+use Rattle.surface.specs.Euler.{Counts, Euler}
+use Rattle.surface.proofs.Linked.{opposite, meets}
+use Rattle.surface.proofs.Tetrahedron.{tetrahedron}
+use Rattle.surface.proofs.Common.{Common, meets-pairs}
+use Rattle.surface.proofs.Contracted.{two-leave}
+use Rattle.surface.proofs.Counted.{one-count, one-corner, difference-same}
+use Rattle.surface.proofs.Stepped as stepped
+use Rattle.surface.proofs.Accepting as accepting
+use Rattle.surface.proofs.Recorded as recorded
 
--- a contraction of an edge that meets the link condition leaves a stage
-pub contraction : (n : ℕ) (T : List Row) (a b : ℕ) → Stage n T → Meets T a b → Stage n (contract a b T)
-contraction n T a b s m = let o = opposite n T s m in contracted n T a b (o .0) (o .1) s (o .2)
+module _ (n : ℕ) (T : List Row) (s : Stage n T) where
+  -- the published link condition: the two corners opposite the edge are the only common neighbours, and no edge lies in both links
+  pub link-agrees : (a b : ℕ) → Meets T a b ↔ ((x : ℕ) × (y : ℕ) × Opposite T a b x y)
+  link-agrees a b = (λ m. opposite n T s m, λ o. meets n T s (o .2))
 
--- corners - edges + rows is kept
-pub euler-kept : (n : ℕ) (T : List Row) (a b : ℕ) → Stage n T → Meets T a b → {v e v′ e′ : ℕ} → Counts T v e → Counts (contract a b T) v′ e′ →
-    v + length T + e′ ≡ v′ + length (contract a b T) + e
-euler-kept n T a b s m c d = let o = opposite n T s m in (euler n T a b (o .0) (o .1) s (o .2) c d) .3
+  -- where the first part holds, the second fails only on the four-row tetrahedron
+  pub second-part : {a b x y : ℕ} → Follows T a b x → Follows T b a y → ((w : ℕ) → Edge T a w → Edge T b w → (w ≡ x) ⊎ (w ≡ y)) →
+      {p q : ℕ} → Link T a p q → Link T b p q → length T ≡ 4
+  second-part f g only h k = tetrahedron n T s f g only h k
 
--- the contracted table and the record tell the table
-pub no-second : (n₁ n₂ a b : ℕ) (T₁ T₂ : List Row) → Stage n₁ T₁ → Stage n₂ T₂ → Meets T₁ a b → Meets T₂ a b →
-    contract a b T₁ ≡ contract a b T₂ → leaving a b T₁ ≡ leaving a b T₂ → T₁ ≡ T₂
-no-second n₁ n₂ a b T₁ T₂ s₁ s₂ m₁ m₂ et el =
-    let o₁ = opposite n₁ T₁ s₁ m₁ in
-    let o₂ = opposite n₂ T₂ s₂ m₂ in
-    told a b n₁ n₂ T₁ T₂ (o₁ .0) (o₁ .1) (o₂ .0) (o₂ .1) s₁ s₂ (o₁ .2) (o₂ .2) et el
+  -- so past four rows the number of common neighbours decides
+  pub link-counts : {a b : ℕ} → Meets T a b ↔ (Edge T a b × (4 < length T) × Exactly (Common T a b) 2)
+  link-counts = meets-pairs n T s
 
--- the counts of a stage
-pub used? : (T : List Row) (v : ℕ) → Dec (Used T v)
-used? T v = go (round v T) (λ p q f. round-whole T f) (λ p q m. round-sound T m)
-  where
-    go : (l : List Arrow) → ((p q : ℕ) → Follows T v p q → (p ⇒ q) ∈ l) → ((p q : ℕ) → (p ⇒ q) ∈ l → Follows T v p q) → Dec (Used T v)
-    go [] w h = no (λ u. List·Memᴰ·not-nil (w (u .0) (u .1 .0) (u .1 .1)))
-    go ((p ⇒ q) ∷ l) w h = yes (p, (q, h p q (List·Memᴰ·head refl)))
+  -- its Euler number is there
+  pub euler-there : (χ : ℤ) × Euler T χ
+  euler-there = let c = stepped.counted n T s in (_, record { v = c .0; e = c .1; counts = c .2; is = refl })
 
-upto-below : (n v : ℕ) → v ∈ upto n → v < n
-upto-below zero v m = absurd (List·Memᴰ·not-nil m)
-upto-below (suc n) v m = go (List·Memᴰ·cases-cons m) (λ m. upto-below n v m)
-  where
-    go : (v ≡ n) ⊎ (v ∈ upto n) → (v ∈ upto n → v < n) → v < suc n
-    go (inl e) rec = omega arith
-    go (inr m) rec = let h = rec m in omega arith
+  -- and it is one number
+  pub euler-one : {χ χ′ : ℤ} → Euler T χ → Euler T χ′ → χ ≡ χ′
+  euler-one c d =
+      let h = one-count (c .counts .corners) (d .counts .corners) in
+      let k = one-count (c .counts .sides) (d .counts .sides) in
+      c .is ∙ difference-same (c .v + length T) (c .e) (d .v + length T) (d .e) (omega arith) ∙ sym (d .is)
 
-upto-distinct : (n : ℕ) → Distinct (upto n)
-upto-distinct zero = none
-upto-distinct (suc n) = more (λ m. let h = upto-below n n m in omega arith) (upto-distinct n)
+  -- and so is the number of its used corners
+  pub corners-there : (v : ℕ) × Exactly (Used T) v
+  corners-there = let c = stepped.counted n T s in (c .0, c .2 .corners)
 
-Up : Arrow → Type 0
-Up (p ⇒ q) = p < q
+  module _ (a b : ℕ) (m : Meets T a b) where
+    -- a contraction leaves a stage
+    pub contraction : Stage n (contract a b T)
+    contraction = stepped.contraction n T a b s m
 
-up? : (a : Arrow) → Dec (Up a)
-unfolding Up
-up? (p ⇒ q) = decLt p q
+    -- of the same Euler number
+    pub euler-kept : {χ χ′ : ℤ} → Euler T χ → Euler (contract a b T) χ′ → χ ≡ χ′
+    euler-kept c d = c .is ∙ difference-same (c .v + length T) (c .e) (d .v + length (contract a b T)) (d .e) (stepped.euler-kept n T a b s m (c .counts) (d .counts)) ∙ sym (d .is)
 
-pub counted : (n : ℕ) (T : List Row) → Stage n T → (v : ℕ) × (e : ℕ) × Counts T v e
-unfolding Up
-counted n T s = (
-  length vs,
-  length es,
-  record {
-    corners = record { list = vs; distinct = distinct-filter (used? T) (upto-distinct n); all = λ u. all-v _ u; only = λ m. (filter-out (used? T) (upto n) m) .1; count = refl };
-    sides = record { list = es; distinct = distinct-filter up? (s .once); all = λ r. all-e _ r; only = λ m. only-e _ m; count = refl };
-  },
-)
-  where
-    vs : List ℕ
-    vs = filter (used? T) (upto n)
+    -- with two rows fewer
+    pub two-fewer : length T ≡ 2 + length (contract a b T)
+    two-fewer = let o = opposite n T s m in two-leave n T a b (o .0) (o .1) s (o .2)
 
-    es : List Arrow
-    es = filter up? (edges T)
+    -- and one corner fewer used
+    pub one-fewer : {v v′ : ℕ} → Exactly (Used T) v → Exactly (Used (contract a b T)) v′ → v ≡ v′ + 1
+    one-fewer c d = let o = opposite n T s m in let h = one-corner n T a b (o .0) (o .1) s (o .2) c d in omega arith
 
-    all-v : (v : ℕ) → Used T v → v ∈ vs
-    all-v v u = filter-in (used? T) (upto n) (every-upto n v (s .below (u .1 .1))) u
+    -- the step writes a record, the places in order and inside the table
+    pub writes : a < b → (k : Record) × (k .kept ≡ a) × (k .removed ≡ b) × Replays T k (contract a b T)
+    writes h = (recorded.written n T a b s m, recorded.written-kept n T a b s m, recorded.written-removed n T a b s m, recorded.written-replays n T a b s m h)
 
-    all-e : (a : Arrow) → Rises T a → a ∈ es
-    all-e (p ⇒ q) (rises l e) = filter-in up? (edges T) (edge-in e) l
+  -- growing back undoes a step, number for number: the record of a step from T is accepted, and gives T back
+  pub grown-back : {k : Record} {T′ : List Row} → Replays T k T′ → Accepted n T′ k T
+  grown-back r = (recorded.replay-iff n T _ _) .1 (s, r)
 
-    only-e : (a : Arrow) → a ∈ es → Rises T a
-    only-e (p ⇒ q) m = let k = filter-out up? (edges T) m in rises (k .1) (in-edge T (k .0))
+  -- 01's rule for accepting a record on a stage is the local one
+  pub accepted-local : (k : Record) → ((T₀ : List Row) × Accepted n T k T₀) ↔ Local n T k
+  accepted-local k = accepting.accepted-iff n T k s
 
--- k contractions, each of an edge that meets the link condition
-pub data Steps : ℕ → List Row → List Row → Type 0 where
-  done : {T T′ : List Row} → T ≡ T′ → Steps 0 T T′
-  then : {k : ℕ} {T T′ : List Row} (a b : ℕ) → Meets T a b → Steps k (contract a b T) T′ → Steps (suc k) T T′
+-- things are counted to one number
+pub counts-one : {A : Type 0} {P : A → Type 0} {k m : ℕ} → Exactly P k → Exactly P m → k ≡ m
+counts-one c d = one-count c d
 
--- after k steps a stage stands, with k fewer corners used and 2 k fewer rows
-pub steps-stage : {n k : ℕ} {T T′ : List Row} → Stage n T → Steps k T T′ → Stage n T′
-steps-stage s (done e) = rw e at s
-steps-stage s (then a b m c) = steps-stage (contraction _ _ a b s m) c
+-- the table and the record tell the first table
+pub told : {n₁ n₂ : ℕ} {T′ T₁ T₂ : List Row} {k : Record} → Accepted n₁ T′ k T₁ → Accepted n₂ T′ k T₂ → T₁ ≡ T₂
+told g h = accepting.accepted-one g h
 
-pub steps-rows : {n k : ℕ} {T T′ : List Row} → Stage n T → Steps k T T′ → length T ≡ length T′ + 2 * k
-steps-rows s (done e) = let h = ap length e in omega arith
-steps-rows {n} {T = T} s (then a b m c) =
-    let o = opposite n T s m in
-    let i = steps-rows (contraction n T a b s m) c in
-    let h : length T ≡ 2 + length (contract a b T) = two-leave n T a b (o .0) (o .1) s (o .2) in
-    omega arith
-
-pub steps-corners : {n k : ℕ} {T T′ : List Row} → Stage n T → Steps k T T′ → {v v′ : ℕ} → Exactly (Used T) v → Exactly (Used T′) v′ → v ≡ v′ + k
-steps-corners s (done e) c d = let h = one-count (rw e at c) d in omega arith
-steps-corners {n} {T = T} s (then a b m q) c d =
-    let o = opposite n T s m in
-    let r = contraction n T a b s m in
-    let w = counted n (contract a b T) r in
-    let h = one-corner n T a b (o .0) (o .1) s (o .2) c (w .2 .corners) in
-    let i = steps-corners r q (w .2 .corners) d in
-    omega arith
+-- and the table and the record tell what a step leaves
+pub left : {T T₁ T₂ : List Row} {k : Record} → Replays T k T₁ → Replays T k T₂ → T₁ ≡ T₂
+left r q = sym (r .leaves) ∙ q .leaves

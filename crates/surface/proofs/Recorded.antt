@@ -21,7 +21,7 @@ use Rattle.surface.proofs.Regrow.{Third, third-0, third-1, third-2, thi
 use Rattle.surface.proofs.Linked.{opposite}
 use Rattle.surface.proofs.Counted.{used-old}
 use Rattle.surface.proofs.Accepting.{accepted-one}
-use Rattle.surface.proofs.Main.{contraction}
+use Rattle.surface.proofs.Stepped.{contraction}
 use Rattle.surface.proofs.Growing.{grown, leaving-in, two-leaving}
 
 module _ (a b : ℕ) where
@@ -154,6 +154,14 @@ written n T a b s m =
     let w = opposite n T s m in
     let t = two-entries a b T (two-leaving n T a b (w .0) (w .1) s (w .2)) in
     record { kept = a; removed = b; place-1 = t .i; row-1 = t .r; place-2 = t .j; row-2 = t .z }
+
+pub written-kept : (n : ℕ) (T : List Row) (a b : ℕ) (s : Stage n T) (m : Meets T a b) → written n T a b s m .kept ≡ a
+unfolding written
+written-kept n T a b s m = refl
+
+pub written-removed : (n : ℕ) (T : List Row) (a b : ℕ) (s : Stage n T) (m : Meets T a b) → written n T a b s m .removed ≡ b
+unfolding written
+written-removed n T a b s m = refl
 
 pub written-replays : (n : ℕ) (T : List Row) (a b : ℕ) (s : Stage n T) (m : Meets T a b) → a < b → Replays T (written n T a b s m) (contract a b T)
 unfolding written

@@ -18,7 +18,7 @@ use Rattle.surface.specs.Grow.{put, Between, Regrown, renamed, left-be, 
 use Rattle.surface.proofs.Count.{length-map}
 use Rattle.surface.proofs.Once.{turn, turn-it, Once, once-of-distinct, same-second}
 use Rattle.surface.proofs.Renumber.{holds-turned, turned-holds, replace-at, replace-off, Came, came, stays-turned}
-use Rattle.surface.proofs.Contracted.{re, re-edge, Gone, left-0, left-1, left-2, right-0, right-1, right-2}
+use Rattle.surface.proofs.Following.{re, re-edge, Gone, left-0, left-1, left-2, right-0, right-1, right-2}
 use Rattle.surface.proofs.Growing.{turn-to, renumber-off, renumber-back, re-turned, turned-map}
 use Rattle.surface.proofs.Arcs.{Arc, first, arc-of, arc-between, re-arc, split, not-both, ends-at}
 use Rattle.surface.proofs.Fork.{Was, plain, a-0, a-1, a-2, b-0, b-1, b-2, new, Forked, Hub, forked-stage, forked-opposite}

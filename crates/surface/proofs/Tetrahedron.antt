@@ -13,8 +13,8 @@ use Rattle.surface.specs.Link.{Link}
 use Rattle.surface.proofs.Count.{fits}
 use Rattle.surface.proofs.Reaching.{within}
 use Rattle.surface.proofs.Once.{turn, Once, once-of-distinct, row-one, distinct-rows, turn-it}
-use Rattle.surface.proofs.Contracted.{re, re-edge}
-use Rattle.surface.proofs.Linked.{one, not-same}
+use Rattle.surface.proofs.Following.{re, re-edge, stage-once, follows-same as one}
+use Rattle.surface.proofs.Linked.{not-same}
 
 -- one of three
 pub data Of₃ (a b c v : ℕ) : Type 0 where
@@ -30,7 +30,7 @@ data Of₄ (a b x y v : ℕ) : Type 0 where
 
 module _ (n : ℕ) (T : List Row) (s : Stage n T) where
   once-T : Once T
-  once-T = once-of-distinct T (s .once)
+  once-T = stage-once n T s
 
   -- round v, where p, q and r follow each other, there is no other neighbour
   pub round : {v p q r : ℕ} → Follows T v p q → Follows T v q r → Follows T v r p → {t : ℕ} → Edge T v t → Of₃ p q r t

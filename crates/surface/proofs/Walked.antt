@@ -16,8 +16,7 @@ use Rattle.surface.specs.Contract.{renumber}
 use Rattle.surface.specs.Record.{Placed}
 use Rattle.surface.specs.Grow.{put-back, Between, Regrown, renamed, left-be, Each, each-none, each-more, Grown}
 use Rattle.surface.proofs.Once.{turn, Once, once-of-distinct}
-use Rattle.surface.proofs.Contracted.{re-edge}
-use Rattle.surface.proofs.Linked.{one}
+use Rattle.surface.proofs.Following.{re-edge, follows-same as one}
 use Rattle.surface.proofs.Testing.{among, among-sound, among-whole, and-l, and-r, and-in, or-in, or-l, or-r}
 use Rattle.surface.proofs.Round.{round, round-sound, round-whole}
 use Rattle.surface.proofs.Fan.{Walks, ends, goes, walks, walks-one, passed, all-passed, no-repeat, walk-length}

@@ -14,7 +14,7 @@ Link T v p q = Follows T v p q ⊎ Follows T v q p
 pub record Meets (T : List Row) (a b : ℕ) : Type 0 where
   pub edge : Edge T a b
   pub corner : {w : ℕ} → Edge T a w → Edge T b w → Follows T a b w ⊎ Follows T b a w
-  pub no-edge : {p q : ℕ} → Link T a p q → Link T b p q → ⊥
+  pub no-edge : {u w : ℕ} → Link T a u w → Link T b u w → ⊥
 
 -- the working form: the two corners opposite the edge are the only common neighbours, and no edge lies in both links
 pub record Opposite (T : List Row) (a b x y : ℕ) : Type 0 where
