@@ -5,15 +5,12 @@ use mathlib.Core.List.{List, [], _∷_, map, List·Memᴰ·head, List·Memᴰ·t
 use Prim.Native.Nat.{ℕ, zero, suc, _≤_, _<_, _+_, _*_}
 use native.Mathlib.Nat.{suc-inj}
 use native.Mathlib.Omega.{arith}
-use lib.ListN.{length, getD}
+use native.Mathlib.Numerals.{add-one, add-two, add-three}
+use lib.ListN.{length, drop, getD}
+use lib.Seq.{drop-cons}
 use Rattle.surface.specs.Lists.{_∈_, Distinct, none, more}
-use Rattle.surface.specs.Rows.{Row, row, rows, turn-0}
+use Rattle.surface.specs.Rows.{Row, row, rows, flat, turn-0}
 use Rattle.surface.specs.Stage.{Stage}
-
--- the numbers of a table, row after row
-unfoldable pub flat : List Row → List ℕ
-flat [] = []
-flat (row i j k ∷ T) = i ∷ j ∷ k ∷ flat T
 
 pub rows-flat : (T : List Row) → rows (flat T) ≡ T
 unfolding rows flat
@@ -25,7 +22,15 @@ unfolding flat
 flat-length [] = refl
 flat-length (row i j k ∷ T) = let h = flat-length T in omega arith
 
--- a flat table whose length is a multiple of three
+-- a flat table whose length is a multiple of three is its rows' numbers
+pub flat-rows : (k : ℕ) (t : List ℕ) → length t ≡ 3 * k → flat (rows t) ≡ t
+unfolding rows flat
+flat-rows k [] h = refl
+flat-rows k (a ∷ []) h = absurd (omega arith)
+flat-rows k (a ∷ b ∷ []) h = absurd (omega arith)
+flat-rows zero (a ∷ b ∷ c ∷ t) h = absurd (omega arith)
+flat-rows (suc k) (a ∷ b ∷ c ∷ t) h = ap (λ l. a ∷ b ∷ c ∷ l) (flat-rows k t (omega arith))
+
 pub rows-length : (k : ℕ) (t : List ℕ) → length t ≡ 3 * k → length (rows t) ≡ k
 unfolding rows
 rows-length zero [] h = refl
@@ -86,3 +91,14 @@ pub number-below : (n : ℕ) (t : List ℕ) (i : ℕ) → Stage n (rows t) → i
 number-below n t i s h =
     let d = row 0 0 0 in
     s .below (record { by = getD (rows t) i d; here = at-place (rows t) i d h; turned = turn-0 (rows-at i t d h) })
+
+-- what is left of a flat table from i on begins with the three numbers there
+pub three : (l : List ℕ) (i : ℕ) → i + 3 ≤ length l → drop i l ≡ getD l i 0 ∷ getD l (i + 1) 0 ∷ getD l (i + 2) 0 ∷ drop (i + 3) l
+three l i h =
+    let h0 : i < length l = omega arith in
+    let h1 : suc i < length l = omega arith in
+    let h2 : suc (suc i) < length l = omega arith in
+    drop-cons l i 0 h0
+    ∙ ap (λ (r : List ℕ). getD l i 0 ∷ r) (drop-cons l (suc i) 0 h1)
+    ∙ ap (λ (r : List ℕ). getD l i 0 ∷ getD l (suc i) 0 ∷ r) (drop-cons l (suc (suc i)) 0 h2)
+    ∙ simp (add-one, add-two, add-three)

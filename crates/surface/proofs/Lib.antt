@@ -14,6 +14,7 @@ pub mod Contracted
 pub mod Common
 pub mod Counted
 pub mod Growing
+pub mod TwoPlaces
 pub mod Stepped
 pub mod Fan
 pub mod Arcs

@@ -70,7 +70,7 @@ module _ (n : ℕ) (T : List Row) (s : Stage n T) where
     pub one-fewer : {v v′ : ℕ} → Exactly (Used T) v → Exactly (Used (contract a b T)) v′ → v ≡ v′ + 1
     one-fewer c d = let o = opposite n T s m in let h = one-corner n T a b (o .0) (o .1) s (o .2) c d in omega arith
 
-    -- the step writes a record, the places in order and inside the table
+    -- the step writes a record
     pub writes : a < b → (k : Record) × (k .kept ≡ a) × (k .removed ≡ b) × Replays T k (contract a b T)
     writes h = (recorded.written n T a b s m, recorded.written-kept n T a b s m, recorded.written-removed n T a b s m, recorded.written-replays n T a b s m h)
 

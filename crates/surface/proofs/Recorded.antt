@@ -22,58 +22,8 @@ use Rattle.surface.proofs.Linked.{opposite}
 use Rattle.surface.proofs.Counted.{used-old}
 use Rattle.surface.proofs.Accepting.{accepted-one}
 use Rattle.surface.proofs.Stepped.{contraction}
-use Rattle.surface.proofs.Growing.{grown, leaving-in, two-leaving}
-
-module _ (a b : ℕ) where
-  -- one entry, two entries
-  pub record One (T : List Row) : Type 0 where
-    pub i : ℕ
-    pub r : Row
-    pub is : leaving a b T ≡ at i r ∷ []
-    pub inside : i < length T
-
-  pub record Two (T : List Row) : Type 0 where
-    pub i : ℕ
-    pub j : ℕ
-    pub r : Row
-    pub z : Row
-    pub is : leaving a b T ≡ at i r ∷ at j z ∷ []
-    pub order : i < j
-    pub inside : j < length T
-
-  empty : (l : List Placed) → length l ≡ 0 → l ≡ []
-  empty [] e = refl
-  empty (p ∷ l) e = absurd (omega arith)
-
-  one-entry : (T : List Row) → length (leaving a b T) ≡ 1 → One T
-  unfolding leaving later
-  one-entry [] e = absurd (omega arith)
-  one-entry (t ∷ T) e = go (stays? a b t) e refl (λ e. one-entry T e)
-    where
-      m : length (map later (leaving a b T)) ≡ length (leaving a b T)
-      m = length-map later (leaving a b T)
-
-      go : (d : Dec (Stays a b t)) → length (ite {C = List Placed} d (map later (leaving a b T)) (at zero t ∷ map later (leaving a b T))) ≡ 1 →
-          leaving a b (t ∷ T) ≡ ite {C = List Placed} d (map later (leaving a b T)) (at zero t ∷ map later (leaving a b T)) → (length (leaving a b T) ≡ 1 → One T) → One (t ∷ T)
-      go (yes h) e k rec = let w = rec (sym m ∙ e) in record { i = suc (w .i); r = w .r; is = k ∙ ap (map later) (w .is); inside = let q = w .inside in omega arith }
-      go (no h) e k rec = record { i = zero; r = t; is = k ∙ ap (λ l. at zero t ∷ map later l) (empty (leaving a b T) (let q = m in omega arith)); inside = omega arith }
-
-  two-entries : (T : List Row) → length (leaving a b T) ≡ 2 → Two T
-  unfolding leaving later
-  two-entries [] e = absurd (omega arith)
-  two-entries (t ∷ T) e = go (stays? a b t) e refl (λ e. two-entries T e)
-    where
-      m : length (map later (leaving a b T)) ≡ length (leaving a b T)
-      m = length-map later (leaving a b T)
-
-      go : (d : Dec (Stays a b t)) → length (ite {C = List Placed} d (map later (leaving a b T)) (at zero t ∷ map later (leaving a b T))) ≡ 2 →
-          leaving a b (t ∷ T) ≡ ite {C = List Placed} d (map later (leaving a b T)) (at zero t ∷ map later (leaving a b T)) → (length (leaving a b T) ≡ 2 → Two T) → Two (t ∷ T)
-      go (yes h) e k rec =
-          let w = rec (sym m ∙ e) in
-          record { i = suc (w .i); j = suc (w .j); r = w .r; z = w .z; is = k ∙ ap (map later) (w .is); order = let q = w .order in omega arith; inside = let q = w .inside in omega arith }
-      go (no h) e k rec =
-          let w = one-entry T (let q = m in omega arith) in
-          record { i = zero; j = suc (w .i); r = t; z = w .r; is = k ∙ ap (λ l. at zero t ∷ map later l) (w .is); order = omega arith; inside = let q = w .inside in omega arith }
+use Rattle.surface.proofs.Growing.{grown, leaving-in}
+use Rattle.surface.proofs.TwoPlaces.{Two, two-places}
 
 at-row : {i j : ℕ} {r z : Row} → at i r ≡ at j z → r ≡ z
 at-row e = cc
@@ -89,8 +39,8 @@ module _ (n : ℕ) (T : List Row) (k : Record) (s : Stage n T) (m : Meets T (k .
   w : (x : ℕ) × (y : ℕ) × Opposite T a b x y
   w = opposite n T s m
 
-  two : Two a b T
-  two = two-entries a b T (two-leaving n T a b (w .0) (w .1) s (w .2))
+  two : Two T (leaving a b T)
+  two = two-places n T a b s m
 
   same : placed k ≡ at (two .i) (two .r) ∷ at (two .j) (two .z) ∷ []
   same = sym is ∙ two .is
@@ -151,8 +101,7 @@ module _ (n : ℕ) (T : List Row) (k : Record) (s : Stage n T) (m : Meets T (k .
 -- the record that a step writes
 pub written : (n : ℕ) (T : List Row) (a b : ℕ) → Stage n T → Meets T a b → Record
 written n T a b s m =
-    let w = opposite n T s m in
-    let t = two-entries a b T (two-leaving n T a b (w .0) (w .1) s (w .2)) in
+    let t = two-places n T a b s m in
     record { kept = a; removed = b; place-1 = t .i; row-1 = t .r; place-2 = t .j; row-2 = t .z }
 
 pub written-kept : (n : ℕ) (T : List Row) (a b : ℕ) (s : Stage n T) (m : Meets T a b) → written n T a b s m .kept ≡ a
@@ -165,9 +114,7 @@ written-removed n T a b s m = refl
 
 pub written-replays : (n : ℕ) (T : List Row) (a b : ℕ) (s : Stage n T) (m : Meets T a b) → a < b → Replays T (written n T a b s m) (contract a b T)
 unfolding written
-written-replays n T a b s m h =
-    let w = opposite n T s m in
-    record { lower = h; meets = m; leaves = refl; record-is = two-entries a b T (two-leaving n T a b (w .0) (w .1) s (w .2)) .is }
+written-replays n T a b s m h = record { lower = h; meets = m; leaves = refl; record-is = two-places n T a b s m .is }
 
 -- growing back accepts just what replaying accepts, the other way round
 pub replay-iff : (n : ℕ) (T : List Row) (k : Record) (T′ : List Row) → Accepted n T′ k T ↔ (Stage n T × Replays T k T′)

@@ -13,6 +13,11 @@ rows (i ∷ []) = []
 rows (i ∷ j ∷ []) = []
 rows (i ∷ j ∷ k ∷ rest) = row i j k ∷ rows rest
 
+-- the numbers of a table, row after row
+unfoldable pub flat : List Row → List ℕ
+flat [] = []
+flat (row i j k ∷ T) = i ∷ j ∷ k ∷ flat T
+
 -- r is (v, p, q), however it is turned
 pub data Turned (r : Row) (v p q : ℕ) : Type 0 where
   turn-0 : r ≡ row v p q → Turned r v p q

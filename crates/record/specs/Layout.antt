@@ -1,0 +1,48 @@
+-- A record as it stands in a log: ten numbers. Nothing else lays a record out.
+use mathlib.Core.List.{List, [], _∷_, _++_}
+use Prim.Native.Nat.{ℕ, _+_}
+use lib.ListN.{getD}
+use Rattle.surface.specs.Rows.{Row, row}
+use Rattle.surface.specs.Record as surface
+use Rattle.record.specs.declared.Corner.{Corner}
+use Rattle.record.specs.declared.Place.{Place}
+use Rattle.record.specs.declared.Leaving.{Leaving}
+use Rattle.record.specs.declared.Record.{Record}
+
+-- a record is ten numbers
+abbrev pub width : ℕ
+width = 10
+
+abbrev pub three : Row → List ℕ
+three (row i j k) = i ∷ j ∷ k ∷ []
+
+-- kept, removed, place of the earlier leaving row, its three numbers, place of the later one, its three numbers
+abbrev pub numbers : surface.Record → List ℕ
+numbers k = k .kept ∷ k .removed ∷ k .place-1 ∷ (three (k .row-1) ++ (k .place-2 ∷ three (k .row-2)))
+
+-- the numbers of a log's records, first record first
+unfoldable pub log-of : List surface.Record → List ℕ
+log-of [] = []
+log-of (k ∷ l) = numbers k ++ log-of l
+
+-- what the code's record means
+abbrev pub meant : Record → surface.Record
+meant r = record {
+  kept = r .kept .0;
+  removed = r .removed .0;
+  place-1 = r .earlier .place .0;
+  row-1 = row (r .earlier .a .0) (r .earlier .b .0) (r .earlier .c .0);
+  place-2 = r .later .place .0;
+  row-2 = row (r .later .a .0) (r .later .b .0) (r .later .c .0);
+}
+
+-- the record whose numbers stand in a log from place i on
+abbrev pub record-at : List ℕ → ℕ → surface.Record
+record-at l i = record {
+  kept = getD l i 0;
+  removed = getD l (i + 1) 0;
+  place-1 = getD l (i + 2) 0;
+  row-1 = row (getD l (i + 3) 0) (getD l (i + 4) 0) (getD l (i + 5) 0);
+  place-2 = getD l (i + 6) 0;
+  row-2 = row (getD l (i + 7) 0) (getD l (i + 8) 0) (getD l (i + 9) 0);
+}

@@ -1,0 +1,4 @@
+pub mod Moving
+pub mod Leave
+pub mod Zeros
+pub mod Stepping

@@ -1,0 +1,63 @@
+use mathlib.Core.Path.{_≡_, refl, sym, _∙_, ap}
+use mathlib.Core.List.{List, _++_}
+use Prim.Native.Nat.{ℕ, _+_, _-_, _≤_}
+use lib.ListN.{length, take, drop}
+use lib.Seq.{sets, length-sets}
+use Rattle.step.specs.Flat.{after, row-from}
+use Rattle.step.proofs.Moving.{turn, ended, row-short}
+use native.Mathlib.Omega.{arith}
+use borrow.Author.Needs.{needs}
+use Rattle.step.proofs.move_up.Statement.{statement}
+use Rattle.step.proofs.move_up.Tie as tie
+use Rattle.step.proofs.move_up.Reads as reads
+use Rattle.step.proofs.move_up.Lts as lts
+use Rattle.step.proofs.move_row.Reads as move-row-reads
+
+abbrev Inv-loop : tie.InvT-loop
+Inv-loop t₀ a b i₀ j₀ t i j = (j ≤ i) × (i ≤ length t) × (length t ≡ length t₀) × (take j t ++ after a b (drop i t) ≡ after a b t₀)
+
+abbrev μ-loop : tie.MeasureT-loop
+μ-loop t₀ a b i₀ j₀ t i j = length t - i
+
+loop-holds : tie.Need-loop-holds Inv-loop μ-loop
+loop-holds c = search needs
+
+sub-loop : tie.Need-sub-loop Inv-loop μ-loop
+sub-loop c = search needs
+
+move-row-requires : tie.Need-move-row-requires Inv-loop μ-loop
+move-row-requires c κs = search needs
+
+add-i : tie.Need-add-i Inv-loop μ-loop
+add-i c = search needs
+
+loop-less : tie.Need-loop-less Inv-loop μ-loop
+loop-less c = search needs
+
+loop-again : tie.Need-loop-again Inv-loop μ-loop
+loop-again c = let w = row-from (c .before .before .before .before .before .before .before .args .a) (c .before .before .before .before .before .before .before .args .b) (c .before .before .before .before .before .loop .t) (c .before .before .before .before .before .loop .i) in
+    let short = row-short (c .before .before .before .before .before .before .before .args .a) (c .before .before .before .before .before .before .before .args .b) (c .before .before .before .before .before .loop .t) (c .before .before .before .before .before .loop .i) in
+    let long = length-sets (c .before .before .before .before .before .loop .t) (c .before .before .before .before .before .loop .j) w in
+    rw (c .before .before .move-row .ensures .wrote, c .before .before .move-row .ensures .next)
+    (omega arith, omega arith, long ∙ c .before .before .before .before .before .loop .inv .2, turn (c .before .before .before .before .before .before .before .args .a) (c .before .before .before .before .before .before .before .args .b) (c .before .before .before .before .before .loop .t) (c .before .before .before .before .before .loop .i) (c .before .before .before .before .before .loop .j) (c .before .before .before .before .before .loop .inv .0) (omega arith) ∙ c .before .before .before .before .before .loop .inv .3)
+
+same-length : tie.Need-same-length Inv-loop μ-loop
+same-length c = search needs
+
+returns : tie.Need-returns Inv-loop μ-loop
+returns c = (omega arith, c .before .loop .inv .2, sym (ended (c .before .before .before .args .a) (c .before .before .before .args .b) (c .before .loop .t) (c .before .loop .i) (c .before .loop .j) (omega arith)) ∙ c .before .loop .inv .3)
+
+pub move-up-spec : {M : Type 1} → statement M
+move-up-spec =
+    tie.close
+    (tie.spec
+    Inv-loop
+    μ-loop
+    loop-holds
+    sub-loop
+    move-row-requires
+    add-i
+    loop-less
+    loop-again
+    same-length
+    returns)

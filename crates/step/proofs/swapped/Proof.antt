@@ -1,0 +1,20 @@
+use mathlib.Core.Path.{_≡_, refl}
+use borrow.Author.Tests.{eq-eqb, ne-eqb}
+use Rattle.step.specs.Flat.{swap}
+use native.Mathlib.Omega.{arith}
+use borrow.Author.Needs.{needs}
+use Rattle.step.proofs.swapped.Statement.{statement}
+use Rattle.step.proofs.swapped.Tie as tie
+use Rattle.step.proofs.swapped.Reads as reads
+use Rattle.step.proofs.swapped.Lts as lts
+
+returns : tie.Need-returns
+unfolding swap
+returns c = rw (eq-eqb _ _ (c .if1 .taken))
+
+returns-2 : tie.Need-returns-2
+unfolding swap
+returns-2 c = rw (ne-eqb _ _ (c .if1 .left))
+
+pub swapped-spec : {M : Type 1} → statement M
+swapped-spec = tie.close (tie.spec returns returns-2)
