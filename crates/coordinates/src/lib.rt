@@ -1,0 +1,31 @@
+// Refusal 4: coordinates against their range.
+ghost use Prim.Native.Nat.{_≤_, _<_};
+ghost use lib.IntN.{natAbs};
+ghost use Rattle.surface.specs.Limits.{most-coordinate};
+ghost use Rattle.surface.specs.Stage.{InRange};
+ghost use Rattle.faults.specs.Words.{OutOfRange};
+ghost use Rattle.faults.specs.Tells.{Tells};
+
+// Whether a coordinate lies outside -50,000 to 50,000.
+fn far(x: i32) -> bool
+    ensures { λ r. ⌜ Tells r (most-coordinate < natAbs x) (natAbs x ≤ most-coordinate) ⌝ }
+{
+    if x < -surface::MOST_COORDINATE {
+        return true;
+    }
+    surface::MOST_COORDINATE < x
+}
+
+// Inner: 4, a coordinate out of range.
+pub fn out_of_range(xs: &[i32]) -> bool
+    ensures { λ r. ⌜ Tells r (OutOfRange (now (xs .entry))) (InRange (now (xs .entry))) ⌝ }
+{
+    let mut i: usize = 0;
+    while i < xs.len() {
+        if far(xs[i]) {
+            return true;
+        }
+        i += 1;
+    }
+    false
+}

@@ -1,0 +1,91 @@
+-- Each fault is the negation of its opposite; together the opposites are the stages and skins.
+use mathlib.Core.Path.{_≡_}
+use mathlib.Core.List.{List, [], _∷_}
+use Prim.Native.Nat.{ℕ, zero, suc, _*_, _<_, _%_}
+use native.Mathlib.Omega.{arith}
+use lib.IntN.{ℤ}
+use lib.ListN.{length, getD}
+use Rattle.surface.specs.Lists.{Distinct, more}
+use Rattle.surface.specs.Rows.{Row}
+use Rattle.surface.specs.Stage.{Stage, InRange, Skin}
+use Rattle.surface.proofs.Flat.{at-place}
+use Rattle.faults.specs.Counts.{RowsFit, CornersFit, corners}
+use Rattle.faults.specs.Words.{OutOfRange, NotBelow, Below, TwiceInRow, Apart, Twice, again, later, NoReverse, BothWays, Unused, AllUsed, ManyRings, OneRing, Parted, Connected, Closed}
+
+-- 4
+pub in-or-out : {xs : List ℤ} → OutOfRange xs → InRange xs → ⊥
+in-or-out f g = let h = g .range (f .here) in let k = f .far in omega arith
+
+-- 5
+pub below-or-not : {n : ℕ} {T : List Row} → NotBelow n T → Below n T → ⊥
+below-or-not f g = let h = g _ _ _ (f .here) in let k = f .past in omega arith
+
+-- 6
+pub twice-or-apart : {T : List Row} → TwiceInRow T → Apart T → ⊥
+twice-or-apart f g = g _ _ _ (f .here) (f .same)
+
+-- 7
+pub twice-or-once : {A : Type 0} {l : List A} → Twice l → Distinct l → ⊥
+twice-or-once (again m) (more n d) = n m
+twice-or-once (later t) (more n d) = twice-or-once t d
+
+-- two places that hold the same
+pub same-twice : {A : Type 0} (d : A) (l : List A) (i j : ℕ) → i < j → j < length l → getD l i d ≡ getD l j d → Twice l
+same-twice d [] i j h k e = absurd (omega arith)
+same-twice d (a ∷ l) i zero h k e = absurd (omega arith)
+same-twice d (a ∷ l) zero (suc j) h k e = again {a = a} {l = l} (rw e (at-place l j d (omega arith)))
+same-twice d (a ∷ l) (suc i) (suc j) h k e = later (same-twice d l i j (omega arith) (omega arith) e)
+
+-- 8
+pub one-or-both-ways : {T : List Row} → NoReverse T → BothWays T → ⊥
+one-or-both-ways f g = f .back (g _ _ (f .goes))
+
+-- 9
+pub unused-or-all : {n : ℕ} {T : List Row} → Unused n T → AllUsed n T → ⊥
+unused-or-all f g = f .unused (g _ (f .below))
+
+-- 10
+pub many-or-one-ring : {T : List Row} → ManyRings T → OneRing T → ⊥
+many-or-one-ring f g = f .apart (g _ _ _ (f .one) (f .other))
+
+-- 11
+pub parted-or-connected : {T : List Row} → Parted T → Connected T → ⊥
+parted-or-connected f g = f .apart (g _ _ (f .one) (f .other))
+
+-- the opposites of 2, 5 to 8, 10 and 11 are a stage
+pub stage-of : {n : ℕ} {T : List Row} → RowsFit (length T) → CornersFit n → Closed n T → OneRing T → Connected T → Stage n T
+stage-of r c k o j = record {
+  least = r .least;
+  most = r .most;
+  few = c .few;
+  many = c .many;
+  below = λ f. k .below _ _ _ f;
+  apart = λ f. k .apart _ _ _ f;
+  once = k .once;
+  both = λ e. k .both _ _ e;
+  ring = λ e g. o _ _ _ e g;
+  joined = λ e g. j _ _ e g;
+}
+
+module _ {n : ℕ} {T : List Row} (s : Stage n T) where
+  pub stage-rows : RowsFit (length T)
+  stage-rows = record { least = s .least; most = s .most }
+
+  pub stage-corners : CornersFit n
+  stage-corners = record { few = s .few; many = s .many }
+
+  pub stage-closed : Closed n T
+  stage-closed = record { below = λ v p q f. s .below f; apart = λ v p q f. s .apart f; once = s .once; both = λ p q e. s .both e }
+
+  pub stage-ring : OneRing T
+  stage-ring v p q e g = s .ring e g
+
+  pub stage-connected : Connected T
+  stage-connected p q e g = s .joined e g
+
+-- the coordinates of a skin
+pub skin-corners : {n : ℕ} {T : List Row} {xs : List ℤ} → Skin n T xs → corners xs ≡ n
+skin-corners k = let e = k .corners in omega arith
+
+pub coordinates-length : (xs : List ℤ) → length xs % 3 ≡ 0 → length xs ≡ 3 * corners xs
+coordinates-length xs h = omega arith

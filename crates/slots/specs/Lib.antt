@@ -1,0 +1,3 @@
+pub mod Slot
+pub mod Chain
+pub mod Marks
