@@ -1,0 +1,4 @@
+pub mod Quotient
+pub mod Pattern
+pub mod Laws
+pub mod Figures
