@@ -1,3 +1,3 @@
 pub mod Limit
 pub mod Answer
-pub mod Parting
+pub mod Small

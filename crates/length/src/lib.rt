@@ -3,8 +3,8 @@
 ghost use mathlib.Core.Path.{_≡_};
 ghost use Prim.Native.Nat.{_*_, _^_, _<_};
 ghost use lib.Ieee.{binary64, ofBits};
-ghost use Rattle.length.specs.Limit.{typed, reading, limit-of};
-ghost use Rattle.length.specs.Parting.{Small, PartsOf};
+ghost use Rattle.length.specs.Limit.{reading, limit-of};
+ghost use Rattle.length.specs.Small.{Small};
 
 // A length limit: a binary64 figure in metres, feet or centimetres.
 pub enum Length {
@@ -34,25 +34,14 @@ const SIGN: u64 = 0x8000_0000_0000_0000;
 // The weight of the exponent's field, and of the leading digit, which the bits leave out.
 const LEADING: u64 = 0x10_0000_0000_0000;
 
-// A typed length taken apart: its figure, then num, up and den, where its unit has num x 2^up / den centimetres.
-struct Parts(f64, u64, u64, u64);
-
-// The limit in whole centimetres.
+// The limit in whole centimetres: a line for each unit. The power of two keeps num small: 3048 / 100 is 381 x 2^3 / 100.
 pub fn read_limit(l: Length) -> Reading
     ensures { λ r. ⌜ r ≡ limit-of l ⌝ }
 {
-    let p = parts_of(l);
-    read_figure(p.0, p.1, p.2, p.3)
-}
-
-// A line for each unit. The power of two keeps num small: 3048 / 100 is 381 x 2^3 / 100.
-fn parts_of(l: Length) -> Parts
-    ensures { λ p. ⌜ PartsOf (typed l) p ⌝ }
-{
     match l {
-        Length::Metres(v) => Parts(v, 100, 0, 1),
-        Length::Feet(v) => Parts(v, 381, 3, 100),
-        Length::Centimetres(v) => Parts(v, 1, 0, 1),
+        Length::Metres(v) => read_figure(v, 100, 0, 1),
+        Length::Feet(v) => read_figure(v, 381, 3, 100),
+        Length::Centimetres(v) => read_figure(v, 1, 0, 1),
     }
 }
 

@@ -9,6 +9,7 @@ use lib.ListN.{length, getD, take, drop, replicate}
 use lib.Seq.{take-at, drop-at, length-take-le}
 use Rattle.surface.specs.Limits.{most-rows}
 use Rattle.surface.specs.Lists.{_∈_}
+use Rattle.surface.specs.Stage.{StageTable}
 use Rattle.surface.specs.Rows.{Row, row, rows}
 use Rattle.surface.specs.Contract.{Stays, contract}
 use Rattle.surface.specs.Record.{Placed, at, leaving, placed, Replays}
@@ -21,11 +22,11 @@ use Rattle.record.specs.declared.Leaving.{Leaving}
 use Rattle.record.specs.declared.Record.{Record}
 use Rattle.record.specs.Layout.{meant}
 use Rattle.step.specs.Flat.{after}
-use Rattle.step.specs.Step.{Table, Ready, row-at, SomeLeaves, NextLeaving, Stepped}
+use Rattle.step.specs.Step.{Ready, row-at, SomeLeaves, NextLeaving, Stepped}
 use Rattle.step.proofs.Moving.{after-rows, after-threes}
 use Rattle.step.proofs.Leave.{leaving-two}
 
-pub table-most : {n : ℕ} {t : List ℕ} → Table n t → length t ≤ 3 * most-rows
+pub table-most : {n : ℕ} {t : List ℕ} → StageTable n t → length t ≤ 3 * most-rows
 table-most w = let e = w .count in let h = w .stage .most in omega arith
 
 module _ (t : List ℕ) (a b : ℕ) (g : Ready t a b) where

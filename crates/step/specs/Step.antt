@@ -4,7 +4,7 @@ use mathlib.Core.List.{List}
 use Prim.Native.Nat.{ℕ, _+_, _-_, _*_, _≤_, _<_, _%_}
 use lib.ListN.{length, getD, take, drop, replicate}
 use Rattle.surface.specs.Rows.{Row, row, rows}
-use Rattle.surface.specs.Stage.{Stage}
+use Rattle.surface.specs.Stage.{StageTable}
 use Rattle.surface.specs.Link.{Meets}
 use Rattle.surface.specs.Contract.{Stays}
 use Rattle.surface.specs.Record.{Replays}
@@ -12,15 +12,10 @@ use Rattle.record.specs.declared.Leaving.{Leaving}
 use Rattle.record.specs.declared.Record.{Record}
 use Rattle.record.specs.Layout.{meant}
 
--- the flat table t is a stage over n corners, with no number over
-pub record Table (n : ℕ) (t : List ℕ) : Type 0 where
-  pub count : length t ≡ 3 * length (rows t)
-  pub stage : Stage n (rows t)
-
 -- the flat table t is a stage, and the edge from a up to b may be contracted
 pub record Ready (t : List ℕ) (a b : ℕ) : Type 0 where
   pub corners : ℕ
-  pub table : Table corners t
+  pub table : StageTable corners t
   pub rises : a < b
   pub meets : Meets (rows t) a b
 

@@ -7,7 +7,7 @@ use lib.IntN.{ℤ, natAbs}
 use lib.ListN.{length}
 use Rattle.surface.specs.Limits.{least-rows, most-rows, least-corners, most-corners, most-coordinate}
 use Rattle.surface.specs.Lists.{_∈_, Distinct, Reach}
-use Rattle.surface.specs.Rows.{Row}
+use Rattle.surface.specs.Rows.{Row, rows}
 use Rattle.surface.specs.Table.{Follows, Edge, Used, edges}
 
 -- the rows T over n corners are a stage: all that a skin is, but for the corners that are not used
@@ -27,6 +27,11 @@ pub record Stage (n : ℕ) (T : List Row) : Type 0 where
   pub ring : {v p q : ℕ} → Edge T v p → Edge T v q → Reach (Follows T v) p q
   -- any used corner is reached from any other by edges
   pub joined : {p q : ℕ} → Used T p → Used T q → Reach (Edge T) p q
+
+-- the flat table t, with no number over, is a stage
+pub record StageTable (n : ℕ) (t : List ℕ) : Type 0 where
+  pub count : length t ≡ 3 * length (rows t)
+  pub stage : Stage n (rows t)
 
 -- coordinates from -50,000 to 50,000
 pub record InRange (xs : List ℤ) : Type 0 where

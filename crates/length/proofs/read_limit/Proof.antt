@@ -1,19 +1,51 @@
--- `read_limit`: the parts say the typed length, so the figure read by its parts is the limit. No unit is named here.
-use mathlib.Core.Path.{_∙_}
+-- `read_limit`: each unit's figure is read by its own line of the table. A new unit is one more such line.
+use mathlib.Core.Path.{_≡_, sym, _∙_, ap}
+use Rattle.length.specs.Limit.{limit-of}
+use native.Mathlib.Omega.{arith}
 use borrow.Author.Needs.{needs}
-use Rattle.length.specs.Limit.{reading, limit-of}
 use Rattle.length.proofs.read_limit.Statement.{statement}
 use Rattle.length.proofs.read_limit.Tie as tie
 
-parts-of-requires : tie.Need-parts-of-requires
-parts-of-requires c κs = search needs
+enum-known-l : tie.Need-enum-known-l
+enum-known-l c = search needs
 
 read-figure-requires : tie.Need-read-figure-requires
 read-figure-requires c κs = search needs
 
+enum-known-l-2 : tie.Need-enum-known-l-2
+enum-known-l-2 c = search needs
+
+read-figure-requires-2 : tie.Need-read-figure-requires-2
+read-figure-requires-2 c κs = search needs
+
+enum-known-l-3 : tie.Need-enum-known-l-3
+enum-known-l-3 c = search needs
+
+read-figure-requires-3 : tie.Need-read-figure-requires-3
+read-figure-requires-3 c κs = search needs
+
 returns : tie.Need-returns
 unfolding limit-of
-returns c = let p = c .before .parts-of .ensures in c .read-figure .ensures ∙ (λ i. reading (p .figure i) (p .num i) (p .den i))
+returns c = c .read-figure .ensures ∙ sym (ap limit-of (c .before .before .l .given .1))
+
+returns-2 : tie.Need-returns-2
+unfolding limit-of
+returns-2 c = c .read-figure2 .ensures ∙ sym (ap limit-of (c .before .before .l2 .given .1))
+
+returns-3 : tie.Need-returns-3
+unfolding limit-of
+returns-3 c = c .read-figure3 .ensures ∙ sym (ap limit-of (c .before .before .l3 .given .1))
 
 pub read-limit-spec : {M : Type 1} → statement M
-read-limit-spec = tie.close (tie.spec parts-of-requires read-figure-requires returns)
+read-limit-spec =
+    tie.close
+    (tie.spec
+    enum-known-l
+    read-figure-requires
+    enum-known-l-2
+    read-figure-requires-2
+    enum-known-l-3
+    read-figure-requires-3
+    returns
+    returns-2
+    returns-3)
