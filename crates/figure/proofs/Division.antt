@@ -1,5 +1,5 @@
--- Signed division of a sum by the divisor: by the remainder's test, the quotient, one more or one less is the figure.
-use mathlib.Core.Path.{_≡_, refl, sym, _∙_, ap}
+-- Signed division of a sum by the divisor: by the remainder's tests, the quotient, one more or one less is the figure.
+use mathlib.Core.Path.{_≡_, sym, _∙_, ap}
 use mathlib.Core.Bool.{true, false}
 use Prim.Native.Nat.{ℕ, zero, suc, _+_, _/_, _%_, _≤_, _<_}
 use native.Mathlib.Omega.{arith}
@@ -8,52 +8,51 @@ use lib.IntN.{ℤ, pos, negsuc, negℤ, _+ℤ_, _-ℤ_, negℤ-+ℤ}
 use lib.Signed.{leZ, quotZ, remZ}
 use Rattle.figure.specs.Rounding.{divisor, half, rounded, figure}
 
--- ---- the tests of a remainder below zero, by its size k
+-- ---- the tests of a number at or below zero, by its size k
 
 true-false {ℓ} : {X : Type ℓ} → true ≡ false → X
 true-false p = let z : _≡_ {A = ℕ} 0 1 = cc in absurd (omega arith)
 
-never-up : (k : ℕ) → leZ (pos half) (negℤ (pos k)) ≡ false
-never-up zero = refl
-never-up (suc k) = refl
+not-high : (h k : ℕ) → leZ (pos h) (negℤ (pos k)) ≡ true → h ≤ 0
+not-high h zero t = leb-true h 0 t
+not-high h (suc k) t = true-false (sym t)
 
-low : (k : ℕ) → leZ (negℤ (pos k)) (negℤ (pos half)) ≡ true → half ≤ k
-low zero e = true-false (sym e)
-low (suc k) e = omega (arith, leb-true _ k e)
+low : (h k : ℕ) → leZ (negℤ (pos k)) (negsuc h) ≡ true → suc h ≤ k
+low h zero t = true-false (sym t)
+low h (suc k) t = omega (arith, leb-true h k t)
 
-not-low : (k : ℕ) → leZ (negℤ (pos k)) (negℤ (pos half)) ≡ false → k < half
-not-low zero e = omega arith
-not-low (suc k) e = omega (arith, leb-false _ k e)
+not-low : (h k : ℕ) → leZ (negℤ (pos k)) (negsuc h) ≡ false → k < suc h
+not-low h zero t = omega arith
+not-low h (suc k) t = omega (arith, leb-false h k t)
 
--- ---- the three ways out, by the true remainder
+-- ---- the three ways out: h and suc k are where the tests stand, the half above zero and below
 
-more : (s : ℤ) → leZ (pos half) (remZ s (pos divisor)) ≡ true → quotZ s (pos divisor) +ℤ pos 1 ≡ figure s
+up-from : (h : ℕ) → half ≤ h → (s : ℤ) → leZ (pos h) (remZ s (pos divisor)) ≡ true → quotZ s (pos divisor) +ℤ pos 1 ≡ figure s
 unfolding figure
-more (pos n) e = ap pos (omega (arith, leb-true half (n % divisor) e))
-more (negsuc n) e = true-false (sym e ∙ never-up (suc n % divisor))
+up-from h b (pos n) t = ap pos (omega (arith, leb-true h (n % divisor) t))
+up-from h b (negsuc n) t = absurd (omega (arith, not-high h (suc n % divisor) t))
 
-fewer : (s : ℤ) → leZ (remZ s (pos divisor)) (negℤ (pos half)) ≡ true → quotZ s (pos divisor) -ℤ pos 1 ≡ figure s
+down-from : (k : ℕ) → half ≤ suc k → (s : ℤ) → leZ (remZ s (pos divisor)) (negsuc k) ≡ true → quotZ s (pos divisor) -ℤ pos 1 ≡ figure s
 unfolding figure
-fewer (pos n) e = true-false (sym e)
-fewer (negsuc n) e =
-    let q : suc n / divisor + 1 ≡ rounded (suc n) = omega (arith, low (suc n % divisor) e) in
-    sym (negℤ-+ℤ (pos (suc n / divisor)) (pos 1)) ∙ ap (λ (k : ℕ). negℤ (pos k)) q
+down-from k b (pos n) t = true-false (sym t)
+down-from k b (negsuc n) t =
+    let q : suc n / divisor + 1 ≡ rounded (suc n) = omega (arith, low k (suc n % divisor) t) in
+    sym (negℤ-+ℤ (pos (suc n / divisor)) (pos 1)) ∙ ap (λ (m : ℕ). negℤ (pos m)) q
 
-same : (s : ℤ) → leZ (pos half) (remZ s (pos divisor)) ≡ false → leZ (remZ s (pos divisor)) (negℤ (pos half)) ≡ false → quotZ s (pos divisor) ≡ figure s
+stay-below : (h k : ℕ) → h ≤ half → suc k ≤ half → (s : ℤ) → leZ (pos h) (remZ s (pos divisor)) ≡ false → leZ (remZ s (pos divisor)) (negsuc k) ≡ false → quotZ s (pos divisor) ≡ figure s
 unfolding figure
-same (pos n) e f = ap pos (omega (arith, leb-false half (n % divisor) e))
-same (negsuc n) e f =
-    let q : suc n / divisor ≡ rounded (suc n) = omega (arith, not-low (suc n % divisor) f) in
-    ap (λ (k : ℕ). negℤ (pos k)) q
+stay-below h k a b (pos n) t u = ap pos (omega (arith, leb-false h (n % divisor) t))
+stay-below h k a b (negsuc n) t u =
+    let q : suc n / divisor ≡ rounded (suc n) = omega (arith, not-low k (suc n % divisor) u) in
+    ap (λ (m : ℕ). negℤ (pos m)) q
 
--- ---- and by the machine's
-
+-- r is the remainder as the machine has it
 module _ (s : ℤ) {r : ℤ} (e : r ≡ remZ s (pos divisor)) where
-  pub up : leZ (pos half) r ≡ true → quotZ s (pos divisor) +ℤ pos 1 ≡ figure s
-  up t = more s (rw e at t)
+  pub up : (h : ℕ) → half ≤ h → leZ (pos h) r ≡ true → quotZ s (pos divisor) +ℤ pos 1 ≡ figure s
+  up h b t = up-from h b s (rw e at t)
 
-  pub down : leZ r (negℤ (pos half)) ≡ true → quotZ s (pos divisor) -ℤ pos 1 ≡ figure s
-  down t = fewer s (rw e at t)
+  pub down : (k : ℕ) → half ≤ suc k → leZ r (negsuc k) ≡ true → quotZ s (pos divisor) -ℤ pos 1 ≡ figure s
+  down k b t = down-from k b s (rw e at t)
 
-  pub stay : leZ (pos half) r ≡ false → leZ r (negℤ (pos half)) ≡ false → quotZ s (pos divisor) ≡ figure s
-  stay t u = same s (rw e at t) (rw e at u)
+  pub stay : (h k : ℕ) → h ≤ half → suc k ≤ half → leZ (pos h) r ≡ false → leZ r (negsuc k) ≡ false → quotZ s (pos divisor) ≡ figure s
+  stay h k a b t u = stay-below h k a b s (rw e at t) (rw e at u)

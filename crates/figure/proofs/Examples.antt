@@ -1,7 +1,6 @@
 -- The definitions at work on a corner of three sides, a metre each, and at sums round a half.
 use mathlib.Core.Path.{_≡_, refl}
 use mathlib.Core.List.{List, [], _∷_}
-use Prim.Native.Nat.{ℕ}
 use lib.IntN.{ℤ, pos, negsuc}
 use Rattle.surface.specs.Rows.{row}
 use Rattle.figure.specs.Corners.{squared-distance}

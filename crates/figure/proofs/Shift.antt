@@ -1,14 +1,14 @@
 -- The shift bound: k steps of length at most L lead at most k L away. Two steps are joined by Cauchy's inequality over whole numbers.
-use mathlib.Core.Path.{_≡_, refl, sym, _∙_, ap}
+use mathlib.Core.Path.{_≡_, ap}
 use mathlib.Core.List.{List}
-use Prim.Native.Nat.{ℕ, zero, suc, _≤_, _+_, _*_, _-_}
+use Prim.Native.Nat.{ℕ, suc, _≤_, _+_, _*_, _-_}
 use native.Mathlib.Decide.{decLe}
 use native.Mathlib.Nat.{mul-le-mul, le-trans}
 use native.Mathlib.Omega.{arith}
 use lib.IntN.{ℤ, natAbs}
 use Rattle.ints.proofs.Ints.{minus-self, abs-back, abs-through}
 use Rattle.figure.specs.Corners.{coordinate, gap, squared-distance}
-use Rattle.figure.specs.Chain.{Chain, no-step, one-more}
+use Rattle.figure.specs.Chain.{Chain, chain-none, chain-more}
 
 -- ---- squares
 
@@ -87,8 +87,8 @@ module _ (xs : List ℤ) where
 -- ---- chains
 
 within-length : {xs : List ℤ} {L k a b : ℕ} → Chain xs L k a b → squared-distance xs a b ≤ (k * L) * (k * L)
-within-length {xs} {b = b} (no-step e) = rw (e, distance-none xs b) (omega arith)
-within-length {xs} {L} (one-more {k} {a} {b} {c} w h) =
+within-length {xs} {b = b} (chain-none e) = rw (e, distance-none xs b) (omega arith)
+within-length {xs} {L} (chain-more {k} {a} {b} {c} w h) =
     let e : suc k * L ≡ k * L + L = omega arith in
     rw e (distance-through xs a b c (k * L) L (within-length w) h)
 

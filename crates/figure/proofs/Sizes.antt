@@ -4,15 +4,15 @@ use mathlib.Core.List.{List, [], _∷_, List·Memᴰ·head, List·Memᴰ·tail}
 use Prim.Native.Nat.{ℕ, zero, suc, _+_, _*_, _^_, _≤_, _<_}
 use native.Mathlib.Nat.{mul-le-mul}
 use native.Mathlib.Omega.{arith}
-use lib.IntN.{ℤ, pos, _+ℤ_, _-ℤ_, _*ℤ_, natAbs}
+use lib.IntN.{ℤ, pos, _-ℤ_, natAbs}
 use lib.ListN.{length, getD}
 use mir.Syntax.{w32, w64}
-use mir.Val.{SFits, hbits, toZ, ofZ}
-use Rattle.surface.specs.Limits.{most-rows, most-coordinate}
+use mir.Val.{SFits, toZ, ofZ}
+use Rattle.surface.specs.Limits.{most-coordinate}
 use Rattle.surface.specs.Rows.{Row, row}
 use Rattle.surface.specs.Stage.{Stage, InRange}
 use Rattle.ints.proofs.Ints.{abs-add, abs-minus}
-use Rattle.ints.proofs.Machine.{Is, kept, times, plus, less, sfits-abs}
+use Rattle.ints.proofs.Machine.{Is, var, fits, kept, times, plus, less, sfits-abs}
 use Rattle.figure.specs.Corners.{coordinate, gap, gap-bound, squared-distance}
 use Rattle.figure.specs.Sum.{minor, determinant, sixfold, WithCoordinates, minor-bound, row-bound, sum-bound}
 
@@ -64,13 +64,10 @@ module _ (xs : List ℤ) (r : InRange xs) where
 
 -- ---- what fits an i64: these two fail first where the limits grow
 
-abbrev i64-room : ℕ
-i64-room = 2 ^ hbits w64
-
-pub sums-fit : sum-bound < i64-room
+pub sums-fit : sum-bound < 2 ^ 63
 sums-fit = omega arith
 
-pub changes-fit : sum-bound + sum-bound < i64-room
+pub changes-fit : sum-bound + sum-bound < 2 ^ 63
 changes-fit = omega arith
 
 module _ {T : List Row} {xs : List ℤ} (c : WithCoordinates T xs) where
@@ -79,6 +76,10 @@ module _ {T : List Row} {xs : List ℤ} (c : WithCoordinates T xs) where
 
   pub sum-fits : SFits w64 (sixfold xs T)
   sum-fits = sfits-abs w64 _ (omega (arith, sum-size, sums-fit))
+
+-- two sums as an i64 holds them
+pub difference-fits : (x y : ℤ) → SFits w64 x → SFits w64 y → natAbs x ≤ sum-bound → natAbs y ≤ sum-bound → SFits w64 (toZ w64 (ofZ w64 x) -ℤ toZ w64 (ofZ w64 y))
+difference-fits x y f g a b = fits w64 (less (var w64 f a) (var w64 g b)) changes-fit
 
 pub change-fits : {T T′ : List Row} {xs : List ℤ} → WithCoordinates T xs → WithCoordinates T′ xs → SFits w64 (sixfold xs T′ -ℤ sixfold xs T)
 change-fits {T} {T′} {xs} c c′ = sfits-abs w64 _ (omega (arith, abs-minus (sixfold xs T′) (sixfold xs T), sum-size c, sum-size c′, changes-fit))

@@ -19,14 +19,16 @@ abbrev row-at : List ℕ → ℕ → Row
 row-at t i = row (getD t i 0) (getD t (i + 1) 0) (getD t (i + 2) 0)
 
 module _ (t : List ℕ) (i : ℕ) where
+  three : i + 3 ≤ length t → drop i t ≡ getD t i 0 ∷ getD t (i + 1) 0 ∷ getD t (i + 2) 0 ∷ drop (i + 3) t
+  three h =
+      drop-cons t i 0 (omega arith)
+      ∙ ap (λ (l : List ℕ). getD t i 0 ∷ l) (drop-cons t (suc i) 0 (omega arith))
+      ∙ ap (λ (l : List ℕ). getD t i 0 ∷ getD t (suc i) 0 ∷ l) (drop-cons t (suc (suc i)) 0 (omega arith))
+      ∙ simp (add-one, add-two, add-three)
+
   one-row : i + 3 ≤ length t → rows (drop i t) ≡ row-at t i ∷ rows (drop (i + 3) t)
   unfolding rows
-  one-row h =
-      let three : drop i t ≡ getD t i 0 ∷ getD t (suc i) 0 ∷ getD t (suc (suc i)) 0 ∷ drop (suc (suc (suc i))) t =
-      drop-cons t i 0 (omega arith)
-      ∙ ap (λ (r : List ℕ). getD t i 0 ∷ r) (drop-cons t (suc i) 0 (omega arith))
-      ∙ ap (λ (r : List ℕ). getD t i 0 ∷ getD t (suc i) 0 ∷ r) (drop-cons t (suc (suc i)) 0 (omega arith)) in
-      ap rows three ∙ simp (add-one, add-two, add-three)
+  one-row h = ap rows (three h)
 
   no-row : length t - i < 3 → rows (drop i t) ≡ []
   no-row h = go (drop i t) (omega (arith, length-drop i t))

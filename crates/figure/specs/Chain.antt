@@ -7,5 +7,5 @@ use Rattle.figure.specs.Corners.{squared-distance}
 
 -- k steps lead from a to b, each of a squared length at most the squared limit L
 pub data Chain (xs : List ℤ) (L : ℕ) : ℕ → ℕ → ℕ → Type 0 where
-  no-step : {a b : ℕ} → a ≡ b → Chain xs L 0 a b
-  one-more : {k a b c : ℕ} → Chain xs L k a b → squared-distance xs b c ≤ L * L → Chain xs L (suc k) a c
+  chain-none : {a b : ℕ} → a ≡ b → Chain xs L 0 a b
+  chain-more : {k a b c : ℕ} → Chain xs L k a b → squared-distance xs b c ≤ L * L → Chain xs L (suc k) a c

@@ -17,6 +17,7 @@ Has xs v = 3 * v + 3 ≤ length xs
 abbrev pub gap : List ℤ → ℕ → ℕ → ℕ → ℕ
 gap xs a b j = natAbs (coordinate xs a j -ℤ coordinate xs b j)
 
+-- at most twice the largest coordinate
 abbrev pub gap-bound : ℕ
 gap-bound = 2 * most-coordinate
 

@@ -22,19 +22,20 @@ unfoldable pub sixfold : List ℤ → List Row → ℤ
 sixfold xs [] = pos 0
 sixfold xs (row a b c ∷ T) = determinant xs a b c +ℤ sixfold xs T
 
--- what a stage with its coordinates gives: few enough rows, the corners of every row (rows turn, so this speaks of all three), coordinates in range
+-- what a checked stage with its coordinates gives: no more rows than a table may have, each corner of a row in the table (rows turn, so this speaks of all
+-- three), coordinates in range
 pub record WithCoordinates (T : List Row) (xs : List ℤ) : Type 0 where
   pub most : length T ≤ most-rows
   pub corners : {v p q : ℕ} → Follows T v p q → Has xs v
   pub in-range : InRange xs
 
--- a minor is two products of two coordinates, a row six products of three
+-- a minor is two products of two coordinates, a row's determinant six products of three
 abbrev pub minor-bound : ℕ
 minor-bound = 2 * (most-coordinate * most-coordinate)
 
 abbrev pub row-bound : ℕ
 row-bound = 3 * (most-coordinate * minor-bound)
 
--- the sum of at most 1,024 rows
+-- the sum of as many rows as a table may have
 abbrev pub sum-bound : ℕ
 sum-bound = row-bound * most-rows

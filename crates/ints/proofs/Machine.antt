@@ -1,7 +1,7 @@
 -- Signed machine numbers of any width, each with the number that it stands for and a bound on its size.
 -- A signed local holds bits, so a goal has `toZ w (ofZ w ..)` round each parameter, element and result.
 use mathlib.Core.Path.{_≡_, refl, sym, _∙_, ap, subst}
-use Prim.Native.Nat.{ℕ, zero, _+_, _*_, _/_, _%_, _^_, _≤_, _<_}
+use Prim.Native.Nat.{ℕ, _+_, _*_, _/_, _^_, _≤_, _<_}
 use native.Mathlib.Nat.{mul-le-mul, mod-lt, div-mul-le-self, le-div-iff-mul-le}
 use native.Mathlib.Omega.{arith}
 use lib.Dec.{T}

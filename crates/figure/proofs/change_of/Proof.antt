@@ -8,6 +8,7 @@ use mir.ValLaws.{toZ-ofZ}
 use Rattle.ints.proofs.Machine.{Known, known, var, fits, kept, less}
 use Rattle.figure.specs.Sum.{sum-bound}
 use Rattle.figure.specs.Rounding.{figure}
+use Rattle.figure.proofs.Sizes.{difference-fits}
 use Rattle.figure.proofs.change_of.Statement.{statement}
 use Rattle.figure.proofs.change_of.Tie as tie
 
@@ -15,7 +16,7 @@ abbrev difference : tie.Start → Known (2 * sum-bound)
 difference c = known (less (var w64 (c .fits .later) (c .pre .1)) (var w64 (c .fits .earlier) (c .pre .0)))
 
 sub-cubic-metres : tie.Need-sub-cubic-metres
-sub-cubic-metres c = fits w64 (difference c .is) (omega arith)
+sub-cubic-metres c = search (needs, difference-fits)
 
 cubic-metres-requires : tie.Need-cubic-metres-requires
 cubic-metres-requires c κs = search needs

@@ -34,7 +34,7 @@ add-result c = fits w64 (one-more (c .before) .is) (omega arith)
 returns : tie.Need-returns
 returns c =
     let s = c .before in
-    kept w64 (one-more s .is) (omega arith) .same ∙ up (s .args .s) (remainder s .is .same) (c .if1 .taken)
+    kept w64 (one-more s .is) (omega arith) .same ∙ up (s .args .s) (remainder s .is .same) _ (omega arith) (c .if1 .taken)
 
 sub-if2 : tie.Need-sub-if2
 sub-if2 c = search needs
@@ -45,12 +45,12 @@ sub-result c = fits w64 (one-less (c .before .before) .is) (omega arith)
 returns-2 : tie.Need-returns-2
 returns-2 c =
     let s = c .before .before in
-    kept w64 (one-less s .is) (omega arith) .same ∙ down (s .args .s) (remainder s .is .same) (c .if2 .taken)
+    kept w64 (one-less s .is) (omega arith) .same ∙ down (s .args .s) (remainder s .is .same) _ (omega arith) (c .if2 .taken)
 
 returns-3 : tie.Need-returns-3
 returns-3 c =
     let s = c .before .before in
-    kept w64 (quotient s .is) (omega arith) .same ∙ stay (s .args .s) (remainder s .is .same) (c .before .if1 .left) (c .if2 .left)
+    kept w64 (quotient s .is) (omega arith) .same ∙ stay (s .args .s) (remainder s .is .same) _ _ (omega arith) (omega arith) (c .before .if1 .left) (c .if2 .left)
 
 pub cubic-metres-spec : {M : Type 1} → statement M
 cubic-metres-spec =

@@ -1,5 +1,5 @@
 -- The three products and their two sums, each as the machine has it, named once.
-use Prim.Native.Nat.{_+_, _*_}
+use Prim.Native.Nat.{_*_}
 use mir.Syntax.{w64}
 use Rattle.surface.specs.Limits.{most-coordinate}
 use Rattle.ints.proofs.Machine.{Known, known, told, tells, fits, kept, times, plus}

@@ -6,7 +6,7 @@ use borrow.Author.Needs.{needs}
 use lib.ListN.{length}
 use mir.Syntax.{w64}
 use mir.Val.{toZ}
-use Rattle.ints.proofs.Machine.{Is, Known, known, told, fits, kept, plus}
+use Rattle.ints.proofs.Machine.{Known, known, told, fits, kept, plus}
 use Rattle.figure.specs.Sum.{row-bound, sum-bound}
 use Rattle.figure.proofs.Turn.{Summing, sum-start, sum-corners, sum-more, sum-end}
 use Rattle.figure.proofs.sixfold_sum.Statement.{statement}
