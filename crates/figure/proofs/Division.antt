@@ -1,12 +1,43 @@
 -- Signed division of a sum by the divisor: by the remainder's tests, the quotient, one more or one less is the figure.
 use mathlib.Core.Path.{_≡_, sym, _∙_, ap}
 use mathlib.Core.Bool.{true, false}
-use Prim.Native.Nat.{ℕ, zero, suc, _+_, _/_, _%_, _≤_, _<_}
+use Prim.Native.Nat.{ℕ, zero, suc, _+_, _/_, _%_, _^_, _≤_, _<_}
+use native.Mathlib.Nat.{div-le-of-le-mul}
 use native.Mathlib.Omega.{arith}
 use borrow.Author.Tests.{leb-true, leb-false}
 use lib.IntN.{ℤ, pos, negsuc, negℤ, _+ℤ_, _-ℤ_, negℤ-+ℤ}
 use lib.Signed.{leZ, quotZ, remZ}
+use mir.Syntax.{w64}
+use mir.Val.{SFits, toZ, ofZ}
+use Rattle.ints.proofs.Machine.{Is, any, lit, fits, kept, over, rest, plus, less}
 use Rattle.figure.specs.Rounding.{divisor, half, rounded, figure}
+
+-- ---- as the machine has them, by any divisor above 1: the quotient, one more, one less, the remainder
+
+module _ (s : ℤ) (d : ℕ) (f : SFits w64 s) (b : 1 < d) where
+  pub quotient : Is (2 ^ 62) (quotZ s (pos d)) (quotZ (toZ w64 (ofZ w64 s)) (pos d))
+  quotient =
+      let q = over (any w64 f) d (omega arith) in
+      let h : 2 ^ 63 / d ≤ 2 ^ 62 = div-le-of-le-mul d (omega arith) in
+      record { same = q .same; size = omega (arith, q .size) }
+
+  pub one-more : Is (2 ^ 62 + 1) (quotZ s (pos d) +ℤ pos 1) (toZ w64 (ofZ w64 (quotZ (toZ w64 (ofZ w64 s)) (pos d))) +ℤ pos 1)
+  one-more = plus (kept w64 quotient (omega arith)) (lit 1)
+
+  pub one-less : Is (2 ^ 62 + 1) (quotZ s (pos d) -ℤ pos 1) (toZ w64 (ofZ w64 (quotZ (toZ w64 (ofZ w64 s)) (pos d))) -ℤ pos 1)
+  one-less = less (kept w64 quotient (omega arith)) (lit 1)
+
+  pub quotient-fits : SFits w64 (quotZ (toZ w64 (ofZ w64 s)) (pos d))
+  quotient-fits = fits w64 quotient (omega arith)
+
+  pub one-more-fits : SFits w64 (toZ w64 (ofZ w64 (quotZ (toZ w64 (ofZ w64 s)) (pos d))) +ℤ pos 1)
+  one-more-fits = fits w64 one-more (omega arith)
+
+  pub one-less-fits : SFits w64 (toZ w64 (ofZ w64 (quotZ (toZ w64 (ofZ w64 s)) (pos d))) -ℤ pos 1)
+  one-less-fits = fits w64 one-less (omega arith)
+
+pub remainder : (s : ℤ) → SFits w64 s → Is divisor (remZ s (pos divisor)) (toZ w64 (ofZ w64 (remZ (toZ w64 (ofZ w64 s)) (pos divisor))))
+remainder s f = kept w64 (rest (any w64 f) divisor (omega arith)) (omega arith)
 
 -- ---- the tests of a number at or below zero, by its size k
 
