@@ -1,0 +1,85 @@
+-- How large a sum, a change and a squared distance can be, by the names of the limits: all fit a machine number.
+use mathlib.Core.Path.{_≡_, refl}
+use mathlib.Core.List.{List, [], _∷_, List·Memᴰ·head, List·Memᴰ·tail}
+use Prim.Native.Nat.{ℕ, zero, suc, _+_, _*_, _^_, _≤_, _<_}
+use native.Mathlib.Nat.{mul-le-mul}
+use native.Mathlib.Omega.{arith}
+use lib.IntN.{ℤ, pos, _-ℤ_, natAbs}
+use lib.ListN.{length, getD}
+use mir.Syntax.{w32, w64}
+use mir.Val.{SFits, toZ, ofZ}
+use Rattle.surface.specs.Limits.{most-coordinate}
+use Rattle.surface.specs.Rows.{Row, row}
+use Rattle.surface.specs.Stage.{Stage, InRange}
+use Rattle.ints.proofs.Ints.{abs-add, abs-minus}
+use Rattle.ints.proofs.Machine.{Is, var, fits, kept, times, plus, less, sfits-abs}
+use Rattle.figure.specs.Corners.{coordinate, gap, gap-bound, squared-distance}
+use Rattle.figure.specs.Sum.{minor, determinant, sixfold, WithCoordinates, minor-bound, row-bound, sum-bound}
+
+-- a checked stage with its coordinates
+pub stage-coordinates : {n : ℕ} {T : List Row} {xs : List ℤ} → Stage n T → length xs ≡ 3 * n → InRange xs → WithCoordinates T xs
+stage-coordinates s e r = record { most = s .most; corners = λ f. omega (arith, s .below f, e); in-range = r }
+
+-- ---- coordinates
+
+rest-in-range : {z : ℤ} {xs : List ℤ} → InRange (z ∷ xs) → InRange xs
+rest-in-range r = record { range = λ m. r .range (List·Memᴰ·tail m) }
+
+pub in-range-at : (xs : List ℤ) (k : ℕ) → InRange xs → natAbs (getD xs k (pos 0)) ≤ most-coordinate
+in-range-at [] k r = omega arith
+in-range-at (z ∷ xs) zero r = r .range (List·Memᴰ·head refl)
+in-range-at (z ∷ xs) (suc k) r = in-range-at xs k (rest-in-range r)
+
+module _ (xs : List ℤ) (r : InRange xs) where
+  at : (v j : ℕ) → Is most-coordinate (coordinate xs v j) (coordinate xs v j)
+  at v j = record { same = refl; size = in-range-at xs (3 * v + j) r }
+
+  -- as it stands in the table, an i32
+  pub element : (v j : ℕ) → Is most-coordinate (coordinate xs v j) (toZ w32 (ofZ w32 (coordinate xs v j)))
+  element v j = kept w32 (at v j) (omega arith)
+
+  -- ---- sums
+
+  of-two : (b c j k : ℕ) → Is minor-bound (minor xs b c j k) (minor xs b c j k)
+  unfolding minor
+  of-two b c j k = less (times (at b j) (at c k)) (times (at b k) (at c j))
+
+  pub determinant-size : (a b c : ℕ) → natAbs (determinant xs a b c) ≤ row-bound
+  unfolding determinant
+  determinant-size a b c = plus (plus (times (at a 0) (of-two b c 1 2)) (times (at a 1) (of-two b c 2 0))) (times (at a 2) (of-two b c 0 1)) .size
+
+  pub sixfold-size : (T : List Row) → natAbs (sixfold xs T) ≤ row-bound * length T
+  unfolding sixfold
+  sixfold-size [] = omega arith
+  sixfold-size (row a b c ∷ T) = omega (arith, abs-add (determinant xs a b c) (sixfold xs T), determinant-size a b c, sixfold-size T)
+
+  -- ---- squared distances
+
+  pub distance-size : (a b : ℕ) → squared-distance xs a b ≤ 3 * (gap-bound * gap-bound)
+  unfolding squared-distance
+  distance-size a b =
+      let off : (j : ℕ) → gap xs a b j ≤ gap-bound = λ j. less (at a j) (at b j) .size in
+      let square : (j : ℕ) → gap xs a b j * gap xs a b j ≤ gap-bound * gap-bound = λ j. mul-le-mul (off j) (off j) in
+      omega (arith, square 0, square 1, square 2)
+
+-- ---- what fits an i64: these two fail first where the limits grow
+
+pub sums-fit : sum-bound < 2 ^ 63
+sums-fit = omega arith
+
+pub changes-fit : sum-bound + sum-bound < 2 ^ 63
+changes-fit = omega arith
+
+module _ {T : List Row} {xs : List ℤ} (c : WithCoordinates T xs) where
+  pub sum-size : natAbs (sixfold xs T) ≤ sum-bound
+  sum-size = omega (arith, sixfold-size xs (c .in-range) T, c .most)
+
+  pub sum-fits : SFits w64 (sixfold xs T)
+  sum-fits = sfits-abs w64 _ (omega (arith, sum-size, sums-fit))
+
+-- two sums as an i64 holds them
+pub difference-fits : (x y : ℤ) → SFits w64 x → SFits w64 y → natAbs x ≤ sum-bound → natAbs y ≤ sum-bound → SFits w64 (toZ w64 (ofZ w64 x) -ℤ toZ w64 (ofZ w64 y))
+difference-fits x y f g a b = fits w64 (less (var w64 f a) (var w64 g b)) changes-fit
+
+pub change-fits : {T T′ : List Row} {xs : List ℤ} → WithCoordinates T xs → WithCoordinates T′ xs → SFits w64 (sixfold xs T′ -ℤ sixfold xs T)
+change-fits {T} {T′} {xs} c c′ = sfits-abs w64 _ (omega (arith, abs-minus (sixfold xs T′) (sixfold xs T), sum-size c, sum-size c′, changes-fit))

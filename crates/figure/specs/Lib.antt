@@ -1,0 +1,4 @@
+pub mod Corners
+pub mod Sum
+pub mod Rounding
+pub mod Chain

@@ -1,0 +1,98 @@
+// The figures: the exact sixfold volume of a stage, the one rounding to cubic metres, the squared distance of two corners.
+// All here is inner: the calls that report figures check the stage and its coordinates first.
+ghost use mathlib.Core.Path.{_≡_};
+ghost use Prim.Native.Nat.{_*_, _<_, _≤_};
+ghost use lib.IntN.{natAbs};
+ghost use Rattle.surface.specs.Limits.{most-coordinate};
+ghost use Rattle.surface.specs.Rows.{rows};
+ghost use Rattle.surface.specs.Stage.{InRange};
+ghost use Rattle.figure.specs.Corners.{coordinate, Has, gap, gap-bound, squared-distance};
+ghost use Rattle.figure.specs.Sum.{minor, determinant, sixfold, WithCoordinates, minor-bound, row-bound, sum-bound};
+ghost use Rattle.figure.specs.Rounding.{figure, change};
+
+// Six times the cubic centimetres of a cubic metre.
+pub const DIVISOR: i64 = 6000000;
+
+const HALF: i64 = DIVISOR / 2;
+
+// Inner: the figure in cubic metres of an exact sum, any sum at all. The remainder has the sum's sign, so a half shows on either side of zero.
+pub fn cubic_metres(s: i64) -> i64
+    ensures { λ r. ⌜ r ≡ figure s ⌝ }
+{
+    let q = s / DIVISOR;
+    let r = s % DIVISOR;
+    if HALF <= r {
+        return q + 1;
+    }
+    if r <= -HALF {
+        return q - 1;
+    }
+    q
+}
+
+// Inner: the change from an earlier exact sum to a later one, rounded once.
+pub fn change_of(earlier: i64, later: i64) -> i64
+    requires { ⌜ (natAbs earlier ≤ sum-bound) × (natAbs later ≤ sum-bound) ⌝ }
+    ensures { λ r. ⌜ r ≡ change earlier later ⌝ }
+{
+    cubic_metres(later - earlier)
+}
+
+// Coordinate j of the corner v.
+fn coordinate_of(xs: &[i32], v: u32, j: usize) -> i64
+    requires { ⌜ Has (now xs) v × (j < 3) × InRange (now xs) ⌝ }
+    ensures { λ r. ⌜ (r ≡ coordinate (now (xs .entry)) v j) × (natAbs r ≤ most-coordinate) ⌝ }
+{
+    let i = 3 * (v as usize) + j;
+    xs[i] as i64
+}
+
+// The determinant of two by two of the corners b and c in the coordinates j and k.
+fn minor_of(xs: &[i32], b: u32, c: u32, j: usize, k: usize) -> i64
+    requires { ⌜ Has (now xs) b × Has (now xs) c × (j < 3) × (k < 3) × InRange (now xs) ⌝ }
+    ensures { λ r. ⌜ (r ≡ minor (now (xs .entry)) b c j k) × (natAbs r ≤ minor-bound) ⌝ }
+{
+    coordinate_of(xs, b, j) * coordinate_of(xs, c, k)
+        - coordinate_of(xs, b, k) * coordinate_of(xs, c, j)
+}
+
+// The determinant of three corners.
+fn determinant_of(xs: &[i32], a: u32, b: u32, c: u32) -> i64
+    requires { ⌜ Has (now xs) a × Has (now xs) b × Has (now xs) c × InRange (now xs) ⌝ }
+    ensures { λ r. ⌜ (r ≡ determinant (now (xs .entry)) a b c) × (natAbs r ≤ row-bound) ⌝ }
+{
+    coordinate_of(xs, a, 0) * minor_of(xs, b, c, 1, 2)
+        + coordinate_of(xs, a, 1) * minor_of(xs, b, c, 2, 0)
+        + coordinate_of(xs, a, 2) * minor_of(xs, b, c, 0, 1)
+}
+
+// Inner: the exact sixfold volume. Only whole rows count.
+pub fn sixfold_sum(t: &[u32], xs: &[i32]) -> i64
+    requires { ⌜ WithCoordinates (rows (now t)) (now xs) ⌝ }
+    ensures { λ r. ⌜ (r ≡ sixfold (now (xs .entry)) (rows (now (t .entry)))) × (natAbs r ≤ sum-bound) ⌝ }
+{
+    let mut s: i64 = 0;
+    let mut i: usize = 0;
+    while 3 <= t.len() - i {
+        s = s + determinant_of(xs, t[i], t[i + 1], t[i + 2]);
+        i = i + 3;
+    }
+    s
+}
+
+// The square of how far a and b lie apart in coordinate j.
+fn squared_gap(xs: &[i32], a: u32, b: u32, j: usize) -> u64
+    requires { ⌜ Has (now xs) a × Has (now xs) b × (j < 3) × InRange (now xs) ⌝ }
+    ensures { λ r. ⌜ (r ≡ gap (now (xs .entry)) a b j * gap (now (xs .entry)) a b j) × (r ≤ gap-bound * gap-bound) ⌝ }
+{
+    let d = coordinate_of(xs, a, j) - coordinate_of(xs, b, j);
+    (d * d) as u64
+}
+
+// Inner: the squared distance of two corners.
+pub fn squared_distance(xs: &[i32], a: u32, b: u32) -> u64
+    requires { ⌜ Has (now xs) a × Has (now xs) b × InRange (now xs) ⌝ }
+    ensures { λ r. ⌜ r ≡ squared-distance (now (xs .entry)) a b ⌝ }
+{
+    squared_gap(xs, a, b, 0) + squared_gap(xs, a, b, 1) + squared_gap(xs, a, b, 2)
+}
