@@ -1,15 +1,9 @@
 // The trial cases of 01, run over the proved crates. What it prints is held to the file stdout beside src/, which was written from 01.
-use length::{Length, Reading, read_limit};
-
-// The size of a number below zero.
-fn size(value: i64) -> u64 {
-    if value < 0 {
-        let near = -(value + 1);
-        near as u64 + 1
-    } else {
-        value as u64
-    }
-}
+use figure::change_of;
+use figure::cubic_metres;
+use length::Length;
+use length::Reading;
+use length::read_limit;
 
 // A line of a name and a whole number.
 fn show(name: &[u8], value: i64) {
@@ -17,7 +11,7 @@ fn show(name: &[u8], value: i64) {
     if value < 0 {
         io::write_all(1, b"-");
     }
-    io::print_decimal(1, size(value));
+    io::print_decimal(1, ints::size(value));
     io::write_all(1, b"\n");
 }
 
@@ -43,4 +37,20 @@ fn main() {
     show_limit(b"limit 4.75 ft: ", Length::Feet(4.75));
     show_limit(b"limit 0.29 m: ", Length::Metres(0.29));
     show_limit(b"limit 0.3 m: ", Length::Metres(0.3));
+    show(b"figure of -27,000,000: ", cubic_metres(-27000000));
+    show(b"figure of 8,000,000: ", cubic_metres(8000000));
+    show(b"figure of 4,000,000: ", cubic_metres(4000000));
+    show(b"figure of 2,000,000: ", cubic_metres(2000000));
+    show(
+        b"change from 8,000,000 to 4,000,000: ",
+        change_of(8000000, 4000000),
+    );
+    show(
+        b"change from 4,000,000 to 2,000,000: ",
+        change_of(4000000, 2000000),
+    );
+    show(
+        b"change from 8,000,000 to 2,000,000: ",
+        change_of(8000000, 2000000),
+    );
 }
