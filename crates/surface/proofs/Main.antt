@@ -10,14 +10,14 @@ use Rattle.surface.specs.Lists.{Exactly}
 use Rattle.surface.specs.Rows.{Row}
 use Rattle.surface.specs.Table.{Follows, Edge, Used}
 use Rattle.surface.specs.Stage.{Stage}
-use Rattle.surface.specs.Link.{Link, Meets, Opposite}
+use Rattle.surface.specs.Link.{Link, Meets, Opposite, Common}
 use Rattle.surface.specs.Contract.{contract}
 use Rattle.surface.specs.Record.{Record, leaving, Replays}
 use Rattle.surface.specs.Accept.{Accepted, Local}
 use Rattle.surface.specs.Euler.{Counts, Euler}
 use Rattle.surface.proofs.Linked.{opposite, meets}
 use Rattle.surface.proofs.Tetrahedron.{tetrahedron}
-use Rattle.surface.proofs.Common.{Common, meets-pairs}
+use Rattle.surface.proofs.Common.{meets-pairs}
 use Rattle.surface.proofs.Contracted.{two-leave}
 use Rattle.surface.proofs.Counted.{one-count, one-corner, difference-same, four}
 use Rattle.surface.proofs.Stepped as stepped

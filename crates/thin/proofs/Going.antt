@@ -80,9 +80,12 @@ module _ {P : ℕ → ℕ → Type 0} {n : ℕ} {t₀ : List ℕ} {r₀ : ℕ} {
         omega (arith, g .same-log)
 
     -- the step of the least edge is taken, and its record written
-    module _ (e : Record) (t′ l′ : List ℕ) (least : Least P T (meant e .kept) (meant e .removed)) (w : SteppedIn t r e t′) (same : length t′ ≡ length t) (wrote : l′ ≡ sets l (width * k) (numbers (meant e))) where
+    module _ {a b : ℕ} (e : Record) (t′ l′ : List ℕ) (least-ab : Least P T a b) (w : SteppedIn t r a b e t′) (same : length t′ ≡ length t) (wrote : l′ ≡ sets l (width * k) (numbers (meant e))) where
       S : Stage n T
       S = g .table .stage
+
+      least : Least P T (meant e .kept) (meant e .removed)
+      least = rw (w .stepped .kept-is, w .stepped .removed-is) least-ab
 
       four : 4 ≤ r
       four = let h = S .least in omega (arith, rows-r)

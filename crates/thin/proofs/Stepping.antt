@@ -8,7 +8,7 @@ use Rattle.record.specs.declared.Record.{Record}
 use Rattle.step.specs.Step.{Stepped}
 use Rattle.thin.specs.Engine.{front, SteppedIn}
 
-pub step-in : (t : List ℕ) (r : ℕ) (k : Record) (p : List ℕ) → 3 * r ≤ length t → length p ≡ length (front r t) → Stepped (front r t) k p → SteppedIn t r k (p ++ drop (3 * r) t)
-step-in t r k p h same s =
+pub step-in : (t : List ℕ) (r a b : ℕ) (k : Record) (p : List ℕ) → 3 * r ≤ length t → length p ≡ length (front r t) → Stepped (front r t) a b k p → SteppedIn t r a b k (p ++ drop (3 * r) t)
+step-in t r a b k p h same s =
     let n : length p ≡ 3 * r = same ∙ length-take-le (3 * r) t h in
     record { stepped = rw (take-at p (drop (3 * r) t) (3 * r) n) s; past = drop-at p (drop (3 * r) t) (3 * r) n }

@@ -18,9 +18,9 @@ use Rattle.step.specs.Step.{Stepped}
 abbrev pub front : ℕ → List ℕ → List ℕ
 front r t = take (3 * r) t
 
--- the step on the front of a lent table; what lies past it stays as it was
-pub record SteppedIn (t : List ℕ) (r : ℕ) (k : Record) (t′ : List ℕ) : Type 0 where
-  pub stepped : Stepped (front r t) k (front r t′)
+-- the step of the edge from a up to b on the front of a lent table; what lies past it stays as it was
+pub record SteppedIn (t : List ℕ) (r a b : ℕ) (k : Record) (t′ : List ℕ) : Type 0 where
+  pub stepped : Stepped (front r t) a b k (front r t′)
   pub past : drop (3 * r) t′ ≡ drop (3 * r) t
 
 -- the front of t is a stage over n corners, and the log l, which has d records, has room for as many as may follow: one for each used

@@ -1,6 +1,6 @@
 // Thinning: the plain engine, and the call.
-use record::{Corner, Record};
-
+use record::Corner;
+use record::Record;
 ghost use mathlib.Core.Path.{_≡_};
 ghost use Prim.Native.Nat.{_*_, _≤_};
 ghost use lib.ListN.{length};
@@ -11,7 +11,7 @@ ghost use Rattle.thin.specs.Engine.{front, SteppedIn};
 fn step_in(table: &mut [u32], rows: usize, kept: Corner, removed: Corner) -> Record
     requires { ⌜ 3 * rows ≤ length (now table) ⌝ }
     requires { ⌜ Ready (front rows (now table)) (kept .0) (removed .0) ⌝ }
-    ensures { λ k. ⌜ SteppedIn (now (table .entry)) rows k (now (table .exit)) ⌝ }
+    ensures { λ k. ⌜ SteppedIn (now (table .entry)) rows (kept .0) (removed .0) k (now (table .exit)) ⌝ }
 {
     let end = 3 * rows;
     step::contract(&mut table[..end], kept, removed)

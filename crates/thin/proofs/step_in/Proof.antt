@@ -25,7 +25,7 @@ same-length : tie.Need-same-length
 same-length c = search needs
 
 returns : tie.Need-returns
-returns c = step-in (c .before .before .before .before .before .args .table .now) (c .before .before .before .before .before .args .rows) (c .before .before .contract .result) (c .before .before .contract .last .0) (c .before .before .before .before .before .pre .0) (c .before .table .given .0) (c .before .before .contract .ensures)
+returns c = step-in (c .before .before .before .before .before .args .table .now) (c .before .before .before .before .before .args .rows) _ _ (c .before .before .contract .result) (c .before .before .contract .last .0) (c .before .before .before .before .before .pre .0) (c .before .table .given .0) (c .before .before .contract .ensures)
 
 pub step-in-spec : {M : Type 1} → statement M
 step-in-spec =
