@@ -92,4 +92,4 @@ limit-told l = go (limit-of l) refl
     go : (r : Reading) → limit-of l ≡ r →
         (Unfit (typed l) × (told (limit-of l) ≡ refused LimitUnusable)) ⊎ ((¬ Unfit (typed l)) × (c : ℕ) × (limit-of l ≡ Whole c) × (told (limit-of l) ≡ done (pos c ∷ [])))
     go Unusable e = inl ((unusable-exactly l) .0 e, ap told e)
-    go (Whole c) e = inr (λ u. usable (sym e ∙ (unusable-exactly l) .1 u), c, e, ap told e)
+    go (Whole c) e = inr (λ u. usable (sym ((unusable-exactly l) .1 u) ∙ e), c, e, ap told e)
