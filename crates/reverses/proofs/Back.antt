@@ -12,8 +12,8 @@ use Rattle.surface.specs.Table.{Follows}
 use Rattle.faults.specs.Words.{NoReverse, BothWays}
 use Rattle.slots.specs.Slot.{next-slot, Whole, Under}
 use Rattle.slots.proofs.Slots.{next-inside, next-round, follows-at, at-follows, at-edge}
-use Rattle.reverses.specs.Reverse.{Found, Reverse, Reverses, onward-slot, Onward}
-use Rattle.reverses.specs.Sweep.{FoundTo}
+use Rattle.reverses.specs.Reverse.{Reverse, Reverses, onward-slot, Onward}
+use Rattle.edges.specs.Sweep.{Found, FoundTo}
 
 module _ (t : List ℕ) (w : Whole t) where
   -- no slot is found

@@ -1,2 +1,1 @@
-pub mod Sweep
 pub mod Back

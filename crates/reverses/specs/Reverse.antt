@@ -6,13 +6,6 @@ use Prim.Native.Nat.{ℕ, _-_, _≤_, _<_}
 use lib.ListN.{length, getD}
 use Rattle.slots.specs.Slot.{next-slot}
 
--- r is one more than the last slot with the directed edge u to w; 0 where there is none
-pub record Found (t : List ℕ) (u w r : ℕ) : Type 0 where
-  pub upto : r ≤ length t
-  pub from : 0 < r → getD t (r - 1) 0 ≡ u
-  pub to : 0 < r → getD t (next-slot (r - 1)) 0 ≡ w
-  pub miss : (e : ℕ) → r ≤ e → e < length t → getD t e 0 ≡ u → getD t (next-slot e) 0 ≢ w
-
 -- the slot f has the reverse of the directed edge at e
 pub record Reverse (t : List ℕ) (e f : ℕ) : Type 0 where
   pub inside : f < length t

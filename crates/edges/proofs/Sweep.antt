@@ -16,8 +16,7 @@ use Rattle.slots.specs.Slot.{next-slot, Whole, Under}
 use Rattle.slots.specs.Chain.{Last}
 use Rattle.slots.specs.Marks.{Blank}
 use Rattle.slots.proofs.Slots.{next-inside, next-round, edges-at, edges-length, same-edge}
-use Rattle.reverses.specs.Reverse.{Found}
-use Rattle.reverses.specs.Sweep.{Picked, Entries, Entered, FoundTo, Single}
+use Rattle.edges.specs.Sweep.{Found, Picked, Entries, Entered, FoundTo, Single}
 
 -- where the walk along u's chain stands at x
 pub record Entering (t ends : List ℕ) (u x : ℕ) : Type 0 where

@@ -6,11 +6,11 @@ use Rattle.surface.specs.Limits.{most-corners}
 use Rattle.slots.proofs.Marks.{no-mark}
 use Rattle.slots.proofs.Slots.{under-more}
 use Rattle.faults.proofs.Tells.{tells-true, tells-false}
-use Rattle.reverses.proofs.Sweep.{Sweeping, sweep-none, sweep-more, sweep-once}
+use Rattle.edges.proofs.Sweep.{Sweeping, sweep-none, sweep-more, sweep-once}
 use native.Mathlib.Omega.{arith}
 use borrow.Author.Needs.{needs}
-use Rattle.reverses.proofs.edge_twice.Statement.{statement}
-use Rattle.reverses.proofs.edge_twice.Tie as tie
+use Rattle.edges.proofs.edge_twice.Statement.{statement}
+use Rattle.edges.proofs.edge_twice.Tie as tie
 
 abbrev Inv-loop : tie.InvT-loop
 Inv-loop t n last prev reverse₀ ends₀ u₀ reverse ends u = (u ≤ n) × (length reverse ≡ length reverse₀) × (length ends ≡ most-corners) × Sweeping t ends reverse u

@@ -4,11 +4,11 @@ use Prim.Native.Nat.{_-_}
 use lib.ListN.{length, length-set}
 use Rattle.slots.specs.Slot.{next-slot}
 use Rattle.slots.proofs.Slots.{next-inside}
-use Rattle.reverses.proofs.Sweep.{Finding, find-start, find-more, find-end, picked-found}
+use Rattle.edges.proofs.Sweep.{Finding, find-start, find-more, find-end, picked-found}
 use native.Mathlib.Omega.{arith}
 use borrow.Author.Needs.{needs}
-use Rattle.reverses.proofs.find.Statement.{statement}
-use Rattle.reverses.proofs.find.Tie as tie
+use Rattle.edges.proofs.find.Statement.{statement}
+use Rattle.edges.proofs.find.Tie as tie
 
 abbrev Inv-loop : tie.InvT-loop
 Inv-loop t last prev ends reverse₀ u x₀ reverse x = (length reverse ≡ length reverse₀) × Finding t reverse u x

@@ -5,11 +5,11 @@ use lib.ListN.{length, length-set}
 use Rattle.slots.specs.Slot.{next-slot}
 use Rattle.slots.proofs.Slots.{next-inside}
 use Rattle.faults.proofs.Tells.{tells-true, tells-false}
-use Rattle.reverses.proofs.Sweep.{Entering, enter-start, enter-twice, enter-more, enter-end}
+use Rattle.edges.proofs.Sweep.{Entering, enter-start, enter-twice, enter-more, enter-end}
 use native.Mathlib.Omega.{arith}
 use borrow.Author.Needs.{needs}
-use Rattle.reverses.proofs.enter.Statement.{statement}
-use Rattle.reverses.proofs.enter.Tie as tie
+use Rattle.edges.proofs.enter.Statement.{statement}
+use Rattle.edges.proofs.enter.Tie as tie
 
 abbrev Inv-loop : tie.InvT-loop
 Inv-loop t last prev ends₀ u x₀ ends x = (length ends ≡ length ends₀) × Entering t ends u x

@@ -3,8 +3,8 @@ use mathlib.Core.Path.{refl}
 use Prim.Native.Nat.{_-_}
 use native.Mathlib.Omega.{arith}
 use borrow.Author.Needs.{needs}
-use Rattle.reverses.proofs.pick.Statement.{statement}
-use Rattle.reverses.proofs.pick.Tie as tie
+use Rattle.edges.proofs.pick.Statement.{statement}
+use Rattle.edges.proofs.pick.Tie as tie
 
 returns : tie.Need-returns
 returns c = record { same = λ h. absurd (omega arith); hit = λ h. absurd (omega arith); miss = λ z h. let a = c .if1 .taken in absurd (omega arith) }
