@@ -1,12 +1,12 @@
 use mathlib.Core.Path.{sym}
 use lib.Seq.{length-take-le}
-use Rattle.thin.proofs.Stepping.{step-in}
+use Rattle.engine.proofs.Stepping.{step-in}
 use native.Mathlib.Omega.{arith}
 use borrow.Author.Needs.{needs}
-use Rattle.thin.proofs.step_in.Statement.{statement}
-use Rattle.thin.proofs.step_in.Tie as tie
-use Rattle.thin.proofs.step_in.Reads as reads
-use Rattle.thin.proofs.step_in.Lts as lts
+use Rattle.engine.proofs.step_in.Statement.{statement}
+use Rattle.engine.proofs.step_in.Tie as tie
+use Rattle.engine.proofs.step_in.Reads as reads
+use Rattle.engine.proofs.step_in.Lts as lts
 use Rattle.step.proofs.contract.Reads as contract-reads
 
 mul-end : tie.Need-mul-end

@@ -21,7 +21,7 @@ use Rattle.record.specs.declared.Record.{Record}
 use Rattle.record.specs.Layout.{width, log-of, numbers, meant}
 use Rattle.record.proofs.Log.{numbers-length, log-length, log-append}
 use Rattle.step.specs.Step.{Stepped}
-use Rattle.thin.specs.Engine.{front, SteppedIn, Ready, WentOn}
+use Rattle.engine.specs.Engine.{front, SteppedIn, Ready, WentOn}
 
 replicate-add : (m n : ℕ) → replicate {A = ℕ} m 0 ++ replicate n 0 ≡ replicate (m + n) 0
 replicate-add zero n = ap (λ k. replicate k 0) (sym (zero-add n))

@@ -1,11 +1,11 @@
-// Thinning: the plain engine, and the call.
+// The plain engine: the least edge found and contracted, until no edge qualifies.
 use record::Corner;
 use record::Record;
 ghost use mathlib.Core.Path.{_≡_};
 ghost use Prim.Native.Nat.{_*_, _≤_};
 ghost use lib.ListN.{length};
 ghost use Rattle.step.specs.Step.{Ready};
-ghost use Rattle.thin.specs.Engine.{front, SteppedIn};
+ghost use Rattle.engine.specs.Engine.{front, SteppedIn};
 
 // The step on the first rows of a lent table.
 fn step_in(table: &mut [u32], rows: usize, kept: Corner, removed: Corner) -> Record

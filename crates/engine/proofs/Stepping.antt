@@ -6,7 +6,7 @@ use lib.ListN.{length, take, drop}
 use lib.Seq.{take-at, drop-at, length-take-le}
 use Rattle.record.specs.declared.Record.{Record}
 use Rattle.step.specs.Step.{Stepped}
-use Rattle.thin.specs.Engine.{front, SteppedIn}
+use Rattle.engine.specs.Engine.{front, SteppedIn}
 
 pub step-in : (t : List ℕ) (r a b : ℕ) (k : Record) (p : List ℕ) → 3 * r ≤ length t → length p ≡ length (front r t) → Stepped (front r t) a b k p → SteppedIn t r a b k (p ++ drop (3 * r) t)
 step-in t r a b k p h same s =
