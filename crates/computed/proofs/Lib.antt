@@ -1,3 +1,4 @@
 pub mod Passing
 pub mod Linking
 pub mod Running
+pub mod Using
