@@ -1,6 +1,6 @@
 -- The sweep over the corners: one slot put down, one reverse found, one corner done.
 use mathlib.Core.Path.{_≡_, refl, sym, _∙_, ap}
-use mathlib.Core.Logic.{_≢_, _⊎_, inl, inr}
+use mathlib.Core.Logic.{_≢_, inl, inr}
 use mathlib.Core.List.{List}
 use Prim.Native.Nat.{ℕ, _+_, _-_, _≤_, _<_, _%_}
 use native.Mathlib.Decide.{ℕ-discrete, decLt}
@@ -16,7 +16,7 @@ use Rattle.slots.specs.Slot.{next-slot, Whole, Under}
 use Rattle.slots.specs.Chain.{Last}
 use Rattle.slots.specs.Marks.{Blank}
 use Rattle.slots.proofs.Slots.{next-inside, next-round, edges-at, edges-length, same-edge}
-use Rattle.edges.specs.Sweep.{Found, Picked, Entries, Entered, FoundTo, Single}
+use Rattle.edges.specs.Sweep.{Found, Swept, Picked, Entries, Entered, FoundTo}
 
 -- where the walk along u's chain stands at x
 pub record Entering (t ends : List ℕ) (u x : ℕ) : Type 0 where
@@ -29,17 +29,18 @@ pub enter-start : (t ends : List ℕ) (u x : ℕ) → Last t u (length t) x → 
 enter-start t ends u x l a = record {
   upto = l .upto;
   from = l .hit;
-  entries = record { upto = a .upto; to = a .to; who = λ w p. go w (a .upto w) (a .who w p) };
+  entries = record { upto = a .upto; to = a .to; who = λ w p. go w p (a .upto w) (a .who w p) };
   done = record { entered = λ e b c d. absurd (l .miss e b c d) };
 }
   where
-    go : (w : ℕ) → getD ends w 0 ≤ length t → (getD t (getD ends w 0 - 1) 0 < u) ⊎ ((getD t (getD ends w 0 - 1) 0 ≡ u) × (length t < getD ends w 0)) → (getD t (getD ends w 0 - 1) 0 < u) ⊎ ((getD t (getD ends w 0 - 1) 0 ≡ u) × (x < getD ends w 0))
-    go w b (inl h) = inl h
-    go w b (inr h) = let c = h .1 in absurd (omega arith)
+    go : (w : ℕ) → 0 < getD ends w 0 → getD ends w 0 ≤ length t → Swept t u (length t) (getD ends w 0 - 1) → Swept t u x (getD ends w 0 - 1)
+    go w p b (inl h) = inl h
+    go w p b (inr h) = let c = h .1 in absurd (omega arith)
 
 module _ (t : List ℕ) (w : Whole t) where
   -- the directed edge is at another slot too
-  pub enter-twice : (ends : List ℕ) (u x r : ℕ) → (x ≡ 0 → ⊥) → Entering t ends u x → Picked t (getD ends (getD t (next-slot (x - 1)) 0) 0) u r → (r ≡ 0 → ⊥) → EdgeRepeats (rows t)
+  pub enter-twice : (ends : List ℕ) (u x r : ℕ) → (x ≡ 0 → ⊥) → Entering t ends u x → Picked t (getD ends (getD t (next-slot (x - 1)) 0) 0) u r → (r ≡ 0 → ⊥) →
+      EdgeRepeats (rows t)
   enter-twice ends u x r nz s p nr =
       let e = p .same (omega arith) in
       let hit = p .hit (omega arith) in
@@ -51,15 +52,15 @@ module _ (t : List ℕ) (w : Whole t) where
       y : ℕ
       y = getD ends c 0
 
-      go : y ≤ length t → getD t (next-slot (y - 1)) 0 ≡ c → getD t (y - 1) 0 ≡ u → (getD t (y - 1) 0 < u) ⊎ ((getD t (y - 1) 0 ≡ u) × (x < y)) → EdgeRepeats (rows t)
+      go : y ≤ length t → getD t (next-slot (y - 1)) 0 ≡ c → getD t (y - 1) 0 ≡ u → Swept t u x (y - 1) → EdgeRepeats (rows t)
       go a to hit (inl h) = absurd (omega arith)
       go a to hit (inr h) =
           let l = h .1 in
           let n = edges-length t (w .threes) in
           same-twice (0 ⇒ 0) (edges (rows t)) (x - 1) (y - 1) (omega arith) (omega arith) (same-edge t (w .threes) (x - 1) (y - 1) (omega arith) (omega arith) (s .from (omega arith) ∙ sym hit) (sym to))
 
-  pub enter-more : (ends : List ℕ) (u x r y : ℕ) → (x ≡ 0 → ⊥) → getD t (next-slot (x - 1)) 0 < length ends → Entering t ends u x → Picked t (getD ends (getD t (next-slot (x - 1)) 0) 0) u r → r ≡ 0 → Last t (getD t (x - 1) 0) (x - 1) y →
-      Entering t (set ends (getD t (next-slot (x - 1)) 0) x) u y
+  pub enter-more : (ends : List ℕ) (u x r y : ℕ) → (x ≡ 0 → ⊥) → getD t (next-slot (x - 1)) 0 < length ends → Entering t ends u x →
+      Picked t (getD ends (getD t (next-slot (x - 1)) 0) 0) u r → r ≡ 0 → Last t (getD t (x - 1) 0) (x - 1) y → Entering t (set ends (getD t (next-slot (x - 1)) 0) x) u y
   enter-more ends u x r y nz small s p z l =
       let a = l .upto in
       let b = s .upto in
@@ -85,15 +86,16 @@ module _ (t : List ℕ) (w : Whole t) where
       to c (yes q) = rw (q, new) (λ h. refl)
       to c (no q) = rw (getD-set-other ends c₀ c x 0 q) (s .entries .to c)
 
-      who : (c : ℕ) → Dec (c ≡ c₀) → getD t (x - 1) 0 ≡ u → 0 < getD (set ends c₀ x) c 0 → (getD t (getD (set ends c₀ x) c 0 - 1) 0 < u) ⊎ ((getD t (getD (set ends c₀ x) c 0 - 1) 0 ≡ u) × (y < getD (set ends c₀ x) c 0))
+      who : (c : ℕ) → Dec (c ≡ c₀) → getD t (x - 1) 0 ≡ u → 0 < getD (set ends c₀ x) c 0 → Swept t u y (getD (set ends c₀ x) c 0 - 1)
       who c (yes q) v = rw (q, new) (λ h. inr (v, let a = l .upto in omega arith))
       who c (no q) v = rw (getD-set-other ends c₀ c x 0 q) (λ h. down (s .entries .who c h))
         where
-          down : (getD t (getD ends c 0 - 1) 0 < u) ⊎ ((getD t (getD ends c 0 - 1) 0 ≡ u) × (x < getD ends c 0)) → (getD t (getD ends c 0 - 1) 0 < u) ⊎ ((getD t (getD ends c 0 - 1) 0 ≡ u) × (y < getD ends c 0))
+          down : Swept t u x (getD ends c 0 - 1) → Swept t u y (getD ends c 0 - 1)
           down (inl h) = inl h
           down (inr h) = let a = l .upto in let b = h .1 in inr (h .0, omega arith)
 
-      all : (e : ℕ) → y ≤ e → e < length t → getD t e 0 ≡ u → getD t (x - 1) 0 ≡ u → Dec (e ≡ x - 1) → Dec (e < x) → Dec (getD t (next-slot e) 0 ≡ c₀) → getD (set ends c₀ x) (getD t (next-slot e) 0) 0 ≡ e + 1
+      all : (e : ℕ) → y ≤ e → e < length t → getD t e 0 ≡ u → getD t (x - 1) 0 ≡ u → Dec (e ≡ x - 1) → Dec (e < x) → Dec (getD t (next-slot e) 0 ≡ c₀) →
+          getD (set ends c₀ x) (getD t (next-slot e) 0) 0 ≡ e + 1
       all e i j k v (yes q) d f = ap (λ (z : ℕ). getD (set ends c₀ x) (getD t (next-slot z) 0) 0) q ∙ new ∙ omega arith
       all e i j k v (no q) (yes d) f = absurd (l .miss e i (omega arith) (k ∙ sym v))
       all e i j k v (no q) (no d) (yes f) =
@@ -137,12 +139,12 @@ pub record Finding (t reverse : List ℕ) (u x : ℕ) : Type 0 where
 pub find-start : (t reverse : List ℕ) (u x : ℕ) → length t % 3 ≡ 0 → Last t u (length t) x → FoundTo t reverse u (length t) → Finding t reverse u x
 find-start t reverse u x w l m = record { upto = l .upto; from = l .hit; back = record { room = m .room; found = λ k h s. m .found k h (go k h s) } }
   where
-    go : (k : ℕ) → k < length t → (getD t (next-slot k) 0 < u) ⊎ ((getD t (next-slot k) 0 ≡ u) × (x ≤ next-slot k)) → (getD t (next-slot k) 0 < u) ⊎ ((getD t (next-slot k) 0 ≡ u) × (length t ≤ next-slot k))
+    go : (k : ℕ) → k < length t → Swept t u x (next-slot k) → Swept t u (length t) (next-slot k)
     go k h (inl a) = inl a
     go k h (inr a) = absurd (l .miss (next-slot k) (a .1) (next-inside (length t) k w h) (a .0))
 
-pub find-more : (t ends reverse : List ℕ) (u x r y : ℕ) → length t % 3 ≡ 0 → (x ≡ 0 → ⊥) → Finding t reverse u x → Found t u (getD t (next-slot (next-slot (x - 1))) 0) r → Last t (getD t (x - 1) 0) (x - 1) y →
-    Finding t (set reverse (next-slot (next-slot (x - 1))) r) u y
+pub find-more : (t ends reverse : List ℕ) (u x r y : ℕ) → length t % 3 ≡ 0 → (x ≡ 0 → ⊥) → Finding t reverse u x →
+    Found t u (getD t (next-slot (next-slot (x - 1))) 0) r → Last t (getD t (x - 1) 0) (x - 1) y → Finding t (set reverse (next-slot (next-slot (x - 1))) r) u y
 find-more t ends reverse u x r y w nz m f l =
     let a = l .upto in
     let b = m .upto in
@@ -156,14 +158,16 @@ find-more t ends reverse u x r y w nz m f l =
       back = record { room = simp length-set rm; found = λ k h s. go (omega arith) e v k h s (ℕ-discrete k (next-slot (next-slot (x - 1)))) };
     }
   where
-    go : next-slot (next-slot (x - 1)) < length reverse → next-slot (next-slot (next-slot (x - 1))) ≡ x - 1 → getD t (x - 1) 0 ≡ u → (k : ℕ) → k < length t → (getD t (next-slot k) 0 < u) ⊎ ((getD t (next-slot k) 0 ≡ u) × (y ≤ next-slot k)) → Dec (k ≡ next-slot (next-slot (x - 1))) → Found t (getD t (next-slot k) 0) (getD t k 0) (getD (set reverse (next-slot (next-slot (x - 1))) r) k 0)
+    go : next-slot (next-slot (x - 1)) < length reverse → next-slot (next-slot (next-slot (x - 1))) ≡ x - 1 → getD t (x - 1) 0 ≡ u → (k : ℕ) → k < length t →
+        Swept t u y (next-slot k) → Dec (k ≡ next-slot (next-slot (x - 1))) →
+        Found t (getD t (next-slot k) 0) (getD t k 0) (getD (set reverse (next-slot (next-slot (x - 1))) r) k 0)
     go small e v k h s (yes q) = rw (q, e, v, getD-set-same reverse (next-slot (next-slot (x - 1))) r 0 small) f
     go small e v k h s (no q) = rw (getD-set-other reverse (next-slot (next-slot (x - 1))) k r 0 q) (m .back .found k h (down s))
       where
         other : next-slot k ≢ x - 1
         other z = q (sym (next-round k) ∙ ap (λ (i : ℕ). next-slot (next-slot i)) z)
 
-        down : (getD t (next-slot k) 0 < u) ⊎ ((getD t (next-slot k) 0 ≡ u) × (y ≤ next-slot k)) → (getD t (next-slot k) 0 < u) ⊎ ((getD t (next-slot k) 0 ≡ u) × (x ≤ next-slot k))
+        down : Swept t u y (next-slot k) → Swept t u x (next-slot k)
         down (inl a) = inl a
         down (inr a) = inr (a .0, two (decLt (next-slot k) x))
           where
@@ -178,20 +182,24 @@ find-end t reverse u x e m = (rw e at m) .back
 pub entries-next : (t ends : List ℕ) (u : ℕ) → Entries t ends u 0 → Entries t ends (u + 1) (length t)
 entries-next t ends u a = record { upto = a .upto; to = a .to; who = λ w p. inl (go w (a .who w p)) }
   where
-    go : (w : ℕ) → (getD t (getD ends w 0 - 1) 0 < u) ⊎ ((getD t (getD ends w 0 - 1) 0 ≡ u) × (0 < getD ends w 0)) → getD t (getD ends w 0 - 1) 0 < u + 1
+    go : (w : ℕ) → Swept t u 0 (getD ends w 0 - 1) → getD t (getD ends w 0 - 1) 0 < u + 1
     go w (inl h) = omega arith
     go w (inr h) = let k = h .0 in omega arith
 
 pub found-next : (t reverse : List ℕ) (u : ℕ) → length t % 3 ≡ 0 → FoundTo t reverse u 0 → FoundTo t reverse (u + 1) (length t)
 found-next t reverse u w m = record { room = m .room; found = λ k h s. m .found k h (go k h s) }
   where
-    go : (k : ℕ) → k < length t → (getD t (next-slot k) 0 < u + 1) ⊎ ((getD t (next-slot k) 0 ≡ u + 1) × (length t ≤ next-slot k)) → (getD t (next-slot k) 0 < u) ⊎ ((getD t (next-slot k) 0 ≡ u) × (0 ≤ next-slot k))
+    go : (k : ℕ) → k < length t → Swept t (u + 1) (length t) (next-slot k) → Swept t u 0 (next-slot k)
     go k h (inl a) = two (ℕ-discrete (getD t (next-slot k) 0) u)
       where
-        two : Dec (getD t (next-slot k) 0 ≡ u) → (getD t (next-slot k) 0 < u) ⊎ ((getD t (next-slot k) 0 ≡ u) × (0 ≤ next-slot k))
+        two : Dec (getD t (next-slot k) 0 ≡ u) → Swept t u 0 (next-slot k)
         two (yes e) = inr (e, omega arith)
         two (no n) = inl (omega arith)
     go k h (inr a) = let b = a .1 in let c = next-inside (length t) k w h in absurd (omega arith)
+
+-- the directed edge at e is at no later slot
+pub record Single (t : List ℕ) (e : ℕ) : Type 0 where
+  pub single : (f : ℕ) → e < f → f < length t → getD t f 0 ≡ getD t e 0 → getD t (next-slot f) 0 ≢ getD t (next-slot e) 0
 
 pub record Singles (t : List ℕ) (u : ℕ) : Type 0 where
   pub singles : (e : ℕ) → e < length t → getD t e 0 < u → Single t e
@@ -220,11 +228,12 @@ sweep-none t ends reverse w b r = record {
   single = record { singles = λ e h k. absurd (omega arith) };
 }
   where
-    go : (k : ℕ) → k < length t → (getD t (next-slot k) 0 < 0) ⊎ ((getD t (next-slot k) 0 ≡ 0) × (length t ≤ next-slot k)) → Found t (getD t (next-slot k) 0) (getD t k 0) (getD reverse k 0)
+    go : (k : ℕ) → k < length t → Swept t 0 (length t) (next-slot k) → Found t (getD t (next-slot k) 0) (getD t k 0) (getD reverse k 0)
     go k h (inl a) = absurd (omega arith)
     go k h (inr a) = let b = a .1 in let c = next-inside (length t) k w h in absurd (omega arith)
 
-pub sweep-more : (t ends reverse ends′ reverse′ : List ℕ) (u : ℕ) → length t % 3 ≡ 0 → Sweeping t ends reverse u → Entries t ends′ u 0 → Entered t ends′ u 0 → FoundTo t reverse′ u 0 → Sweeping t ends′ reverse′ (u + 1)
+pub sweep-more : (t ends reverse ends′ reverse′ : List ℕ) (u : ℕ) → length t % 3 ≡ 0 → Sweeping t ends reverse u → Entries t ends′ u 0 → Entered t ends′ u 0 →
+    FoundTo t reverse′ u 0 → Sweeping t ends′ reverse′ (u + 1)
 sweep-more t ends reverse ends′ reverse′ u w s a b m = record { entries = entries-next t ends′ u a; back = found-next t reverse′ u w m; single = singles-next t ends′ u (s .single) b }
 
 pub sweep-once : (t ends reverse : List ℕ) (n u : ℕ) → Whole t → Under t n → n ≤ u → Sweeping t ends reverse u → EdgesOnce (rows t)

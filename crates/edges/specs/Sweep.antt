@@ -13,6 +13,10 @@ pub record Found (t : List ℕ) (u w r : ℕ) : Type 0 where
   pub to : 0 < r → getD t (next-slot (r - 1)) 0 ≡ w
   pub miss : (e : ℕ) → r ≤ e → e < length t → getD t e 0 ≡ u → getD t (next-slot e) 0 ≢ w
 
+-- the sweep has passed the slot e: its corner is below u, or is u, and the slot is not below x
+abbrev pub Swept : List ℕ → ℕ → ℕ → ℕ → Type 0
+Swept t u x e = (getD t e 0 < u) ⊎ ((getD t e 0 ≡ u) × (x ≤ e))
+
 -- r is y where y stands for a slot of u, else 0
 pub record Picked (t : List ℕ) (y u r : ℕ) : Type 0 where
   pub same : 0 < r → r ≡ y
@@ -23,7 +27,7 @@ pub record Picked (t : List ℕ) (y u r : ℕ) : Type 0 where
 pub record Entries (t ends : List ℕ) (u x : ℕ) : Type 0 where
   pub upto : (w : ℕ) → getD ends w 0 ≤ length t
   pub to : (w : ℕ) → 0 < getD ends w 0 → getD t (next-slot (getD ends w 0 - 1)) 0 ≡ w
-  pub who : (w : ℕ) → 0 < getD ends w 0 → (getD t (getD ends w 0 - 1) 0 < u) ⊎ ((getD t (getD ends w 0 - 1) 0 ≡ u) × (x < getD ends w 0))
+  pub who : (w : ℕ) → 0 < getD ends w 0 → Swept t u x (getD ends w 0 - 1)
 
 -- every slot of u from x on stands in ends
 pub record Entered (t ends : List ℕ) (u x : ℕ) : Type 0 where
@@ -32,8 +36,5 @@ pub record Entered (t ends : List ℕ) (u x : ℕ) : Type 0 where
 -- found are the reverses of the directed edges to corners below u, and to u from its slots from x on
 pub record FoundTo (t reverse : List ℕ) (u x : ℕ) : Type 0 where
   pub room : length t ≤ length reverse
-  pub found : (k : ℕ) → k < length t → (getD t (next-slot k) 0 < u) ⊎ ((getD t (next-slot k) 0 ≡ u) × (x ≤ next-slot k)) → Found t (getD t (next-slot k) 0) (getD t k 0) (getD reverse k 0)
-
--- the directed edge at e is at no later slot
-pub record Single (t : List ℕ) (e : ℕ) : Type 0 where
-  pub single : (f : ℕ) → e < f → f < length t → getD t f 0 ≡ getD t e 0 → getD t (next-slot f) 0 ≢ getD t (next-slot e) 0
+  pub found : (k : ℕ) → k < length t → Swept t u x (next-slot k) →
+      Found t (getD t (next-slot k) 0) (getD t k 0) (getD reverse k 0)

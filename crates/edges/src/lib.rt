@@ -1,5 +1,4 @@
 // Refusal 7: each directed edge once. One sweep over the corners finds the edges from each, and their reverses with them.
-ghost use mathlib.Core.Path.{_≡_};
 ghost use Prim.Native.Nat.{_≤_, _<_};
 ghost use lib.ListN.{length};
 ghost use Rattle.surface.specs.Limits.{most-corners};

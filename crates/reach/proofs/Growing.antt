@@ -26,7 +26,8 @@ pub record Reaching (t m q : List ℕ) (h l : ℕ) : Type 0 where
   pub done : (k : ℕ) → k < h → (e : ℕ) → e < length t → getD t e 0 ≡ getD q k 0 → getD m (getD t (next-slot e) 0) 0 ≢ 0
 
 module _ (t : List ℕ) (w : Whole t) where
-  reached-new : (m q : List ℕ) (l u : ℕ) → Reached t m q l → u < length m → getD m u 0 ≡ 0 → Reach (Edge (rows t)) (getD q 0 0) u → Reached t (set m u 1) (set q l u) (l + 1)
+  reached-new : (m q : List ℕ) (l u : ℕ) → Reached t m q l → u < length m → getD m u 0 ≡ 0 → Reach (Edge (rows t)) (getD q 0 0) u →
+      Reached t (set m u 1) (set q l u) (l + 1)
   reached-new m q l u s h z c =
       let zs = zeros-set m u h z in
       let ct = s .count in
@@ -74,7 +75,8 @@ module _ (t : List ℕ) (w : Whole t) where
       reach : Reach (Edge (rows t)) (getD q 0 0) (getD t (next-slot (x - 1)) 0)
       reach = join (g .state .sound v (g .kept v mv)) (one-step (rw xv at (at-edge t (w .threes) (x - 1) (omega arith))))
 
-      near : (n : List ℕ) → ((k : ℕ) → getD m k 0 ≢ 0 → getD n k 0 ≢ 0) → getD n (getD t (next-slot (x - 1)) 0) 0 ≢ 0 → (e : ℕ) → y ≤ e → e < length t → getD t e 0 ≡ v → getD n (getD t (next-slot e) 0) 0 ≢ 0
+      near : (n : List ℕ) → ((k : ℕ) → getD m k 0 ≢ 0 → getD n k 0 ≢ 0) → getD n (getD t (next-slot (x - 1)) 0) 0 ≢ 0 → (e : ℕ) → y ≤ e → e < length t → getD t e 0 ≡ v →
+          getD n (getD t (next-slot e) 0) 0 ≢ 0
       near n kept here e a b c = two (ℕ-discrete e (x - 1)) (decLt e x)
         where
           two : Dec (e ≡ x - 1) → Dec (e < x) → getD n (getD t (next-slot e) 0) 0 ≢ 0

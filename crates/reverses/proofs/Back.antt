@@ -35,30 +35,31 @@ module _ (t : List ℕ) (w : Whole t) where
       rw (r .1 .from ∙ a .is-p, r .1 .to ∙ a .is-v) at (at-edge t (w .threes) (r .0) (r .1 .inside))
 
 -- the reverses before e stand by their slots
-pub record Placing (t reverse : List ℕ) (e : ℕ) : Type 0 where
+pub record Settling (t reverse : List ℕ) (e : ℕ) : Type 0 where
   pub room : length t ≤ length reverse
-  pub standing : (k : ℕ) → k < e → Reverse t k (getD reverse k 0)
+  pub settled : (k : ℕ) → k < e → Reverse t k (getD reverse k 0)
   pub found : (k : ℕ) → e ≤ k → k < length t → Found t (getD t (next-slot k) 0) (getD t k 0) (getD reverse k 0)
 
-pub place-none : (t reverse : List ℕ) (n : ℕ) → Whole t → Under t n → FoundTo t reverse n (length t) → Placing t reverse 0
-place-none t reverse n w u m = record {
+pub settle-none : (t reverse : List ℕ) (n : ℕ) → Whole t → Under t n → FoundTo t reverse n (length t) → Settling t reverse 0
+settle-none t reverse n w u m = record {
   room = m .room;
-  standing = λ k h. absurd (omega arith);
+  settled = λ k h. absurd (omega arith);
   found = λ k a b. m .found k b (inl (u .under (next-slot k) (next-inside (length t) k (w .threes) b)));
 }
 
-pub place-more : (t reverse : List ℕ) (e : ℕ) → Whole t → e < length t → (getD reverse e 0 ≡ 0 → ⊥) → Placing t reverse e → Placing t (set reverse e (getD reverse e 0 - 1)) (e + 1)
-place-more t reverse e w h n p =
+pub settle-more : (t reverse : List ℕ) (e : ℕ) → Whole t → e < length t → (getD reverse e 0 ≡ 0 → ⊥) → Settling t reverse e →
+    Settling t (set reverse e (getD reverse e 0 - 1)) (e + 1)
+settle-more t reverse e w h n p =
     let r = p .room in
     record {
       room = simp length-set r;
-      standing = λ k a. go k a (ℕ-discrete k e) (omega arith);
+      settled = λ k a. go k a (ℕ-discrete k e) (omega arith);
       found = λ k a b. rw (getD-set-other reverse e k (getD reverse e 0 - 1) 0 (λ q. omega arith)) (p .found k (omega arith) b);
     }
   where
     go : (k : ℕ) → k < e + 1 → Dec (k ≡ e) → e < length reverse → Reverse t k (getD (set reverse e (getD reverse e 0 - 1)) k 0)
     go k a (yes q) r = rw (q, getD-set-same reverse e (getD reverse e 0 - 1) 0 r) (reverse-at t w e (getD reverse e 0) (p .found e (omega arith) h) n)
-    go k a (no q) r = rw (getD-set-other reverse e k (getD reverse e 0 - 1) 0 q) (p .standing k (omega arith))
+    go k a (no q) r = rw (getD-set-other reverse e k (getD reverse e 0 - 1) 0 q) (p .settled k (omega arith))
 
 -- what comes next round the corner at e
 module _ (t reverse : List ℕ) (w : Whole t) (r : Reverses t reverse) where

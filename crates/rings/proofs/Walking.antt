@@ -34,7 +34,8 @@ pub record Walking (t last reverse m₀ m : List ℕ) (v e : ℕ) : Type 0 where
   pub begun : (e ≡ getD last v 0 - 1) ⊎ (getD m (getD last v 0 - 1) 0 ≢ 0)
 
 module _ (t last reverse : List ℕ) (r : Ready t last reverse) where
-  pub walk-start : (m : List ℕ) (v x : ℕ) → v < length last → x ≡ getD last v 0 → (x ≡ 0 → ⊥) → Sound t last m → HandedOn t reverse m → Walking t last reverse m m v (x - 1)
+  pub walk-start : (m : List ℕ) (v x : ℕ) → v < length last → x ≡ getD last v 0 → (x ≡ 0 → ⊥) → Sound t last m → HandedOn t reverse m →
+      Walking t last reverse m m v (x - 1)
   unfolding begin
   walk-start m v x h e n k c =
       let l = r .heads .lasts v h in
@@ -78,7 +79,8 @@ module _ (t last reverse : List ℕ) (r : Ready t last reverse) where
       near k h (inl q) = inl (ap (λ (z : ℕ). onward-slot reverse z) q)
       near k h (inr q) = two (s .nearly k h q)
         where
-          two : (onward-slot reverse k ≡ e) ⊎ (getD m (onward-slot reverse k) 0 ≢ 0) → (onward-slot reverse k ≡ onward-slot reverse e) ⊎ (getD (set m e 1) (onward-slot reverse k) 0 ≢ 0)
+          two : (onward-slot reverse k ≡ e) ⊎ (getD m (onward-slot reverse k) 0 ≢ 0) →
+              (onward-slot reverse k ≡ onward-slot reverse e) ⊎ (getD (set m e 1) (onward-slot reverse k) 0 ≢ 0)
           two (inl x) = inr (mark-new m e (onward-slot reverse k) fit x)
           two (inr x) = inr (mark-old m e (onward-slot reverse k) fit x)
 

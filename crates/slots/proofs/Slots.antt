@@ -139,7 +139,8 @@ edges-at (a ∷ b ∷ c ∷ t) (suc (suc zero)) w h = refl
 edges-at (a ∷ b ∷ c ∷ t) (suc (suc (suc e))) w h = rw (next-suc e) (edges-at t e (omega arith) (omega arith))
 
 module _ (t : List ℕ) (w : length t % 3 ≡ 0) where
-  pub same-edge : (e f : ℕ) → e < length t → f < length t → getD t e 0 ≡ getD t f 0 → getD t (next-slot e) 0 ≡ getD t (next-slot f) 0 → getD (edges (rows t)) e (0 ⇒ 0) ≡ getD (edges (rows t)) f (0 ⇒ 0)
+  pub same-edge : (e f : ℕ) → e < length t → f < length t → getD t e 0 ≡ getD t f 0 → getD t (next-slot e) 0 ≡ getD t (next-slot f) 0 →
+      getD (edges (rows t)) e (0 ⇒ 0) ≡ getD (edges (rows t)) f (0 ⇒ 0)
   same-edge e f h k a b = edges-at t e w h ∙ ap₂ (λ x y. x ⇒ y) a b ∙ sym (edges-at t f w k)
 
   -- where each directed edge occurs once, a slot is known by its directed edge

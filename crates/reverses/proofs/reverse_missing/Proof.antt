@@ -3,20 +3,20 @@ use mathlib.Core.Path.{_≡_, refl}
 use Prim.Native.Nat.{_-_, _≤_}
 use lib.ListN.{length, getD, length-set}
 use Rattle.faults.proofs.Tells.{tells-true, tells-false}
-use Rattle.reverses.proofs.Back.{Placing, place-none, place-more, no-reverse-at, both-ways}
+use Rattle.reverses.proofs.Back.{Settling, settle-none, settle-more, no-reverse-at, both-ways}
 use native.Mathlib.Omega.{arith}
 use borrow.Author.Needs.{needs}
 use Rattle.reverses.proofs.reverse_missing.Statement.{statement}
 use Rattle.reverses.proofs.reverse_missing.Tie as tie
 
 abbrev Inv-loop : tie.InvT-loop
-Inv-loop t n reverse₀ e₀ reverse e = (e ≤ length t) × (length reverse ≡ length reverse₀) × Placing t reverse e
+Inv-loop t n reverse₀ e₀ reverse e = (e ≤ length t) × (length reverse ≡ length reverse₀) × Settling t reverse e
 
 abbrev μ-loop : tie.MeasureT-loop
 μ-loop t n reverse₀ e₀ reverse e = length t - e
 
 loop-holds : tie.Need-loop-holds Inv-loop μ-loop
-loop-holds c = (omega arith, refl, place-none (c .args .t .now) (c .args .reverse .now) (c .args .n) (c .pre .0) (c .pre .1 .0) (c .pre .1 .1))
+loop-holds c = (omega arith, refl, settle-none (c .args .t .now) (c .args .reverse .now) (c .args .n) (c .pre .0) (c .pre .1 .0) (c .pre .1 .1))
 
 mul-x : tie.Need-mul-x Inv-loop μ-loop
 mul-x c = search needs
@@ -60,7 +60,7 @@ loop-again c =
     let args = c .before .before .before .before .args in
     let pre = c .before .before .before .before .pre in
     let loop-test = c .before .before .loop-test in
-    (omega arith, simp length-set (loop .inv .1), place-more (args .t .now) (loop .reverse) (loop .e) (pre .0) (loop-test .taken) (c .if1 .left) (loop .inv .2))
+    (omega arith, simp length-set (loop .inv .1), settle-more (args .t .now) (loop .reverse) (loop .e) (pre .0) (loop-test .taken) (c .if1 .left) (loop .inv .2))
 
 same-length-2 : tie.Need-same-length-2 Inv-loop μ-loop
 same-length-2 c = search needs
@@ -72,7 +72,7 @@ returns-2 c =
     let pre = c .before .before .pre in
     let i = loop .inv in
     let l = c .loop-test .left in
-    tells-false (both-ways (args .t .now) (pre .0) (λ e h. (getD (loop .reverse) e 0, i .2 .standing e (omega arith))), record { room = i .2 .room; reverses = λ e h. i .2 .standing e (omega arith) })
+    tells-false (both-ways (args .t .now) (pre .0) (λ e h. (getD (loop .reverse) e 0, i .2 .settled e (omega arith))), record { room = i .2 .room; reverses = λ e h. i .2 .settled e (omega arith) })
 
 pub reverse-missing-spec : {M : Type 1} → statement M
 reverse-missing-spec =
