@@ -42,8 +42,8 @@ pub record Going (P : ℕ → ℕ → Type 0) (n : ℕ) (t₀ : List ℕ) (r₀ 
   pub room : (v : ℕ) → Exactly (Used (rows (front r t))) v → width * (k + v) ≤ length l₀ + width * least-corners
 
 module _ {P : ℕ → ℕ → Type 0} {n : ℕ} {t₀ : List ℕ} {r₀ : ℕ} {l₀ : List ℕ} {d : ℕ} where
-  pub go-start : Ready n t₀ r₀ l₀ d → width * d ≤ length l₀ → Going P n t₀ r₀ l₀ d t₀ l₀ r₀ d
-  go-start w h = record {
+  pub go-start : Ready n t₀ r₀ l₀ d → Going P n t₀ r₀ l₀ d t₀ l₀ r₀ d
+  go-start w = record {
     log = [];
     inside = w .inside;
     table = w .table;
@@ -67,6 +67,9 @@ module _ {P : ℕ → ℕ → Type 0} {n : ℕ} {t₀ : List ℕ} {r₀ : ℕ} {
     rows-r : length T ≡ r
     rows-r = rows-length r (front r t) front-length
 
+    pub rows-four : 4 ≤ r
+    rows-four = let h = g .table .stage .least in omega (arith, rows-r)
+
     -- where an edge qualifies, the log has room for its record: a stage follows, and uses four corners
     pub room-left : {a b : ℕ} → Least P T a b → width * k + width ≤ length l
     room-left {a} {b} least =
@@ -87,9 +90,6 @@ module _ {P : ℕ → ℕ → Type 0} {n : ℕ} {t₀ : List ℕ} {r₀ : ℕ} {
       least : Least P T (meant e .kept) (meant e .removed)
       least = rw (w .stepped .kept-is, w .stepped .removed-is) least-ab
 
-      four : 4 ≤ r
-      four = let h = S .least in omega (arith, rows-r)
-
       short : length (front r t) - 6 ≡ 3 * (r - 2)
       short = omega (arith, front-length)
 
@@ -105,7 +105,7 @@ module _ {P : ℕ → ℕ → Type 0} {n : ℕ} {t₀ : List ℕ} {r₀ : ℕ} {
       -- and past it
       rest-on : drop (3 * (r - 2)) t′ ≡ replicate (3 * (r₀ - (r - 2))) 0 ++ drop (3 * r₀) t₀
       rest-on =
-          let f = four in
+          let f = rows-four in
           let h = g .inside in
           let z = g .fewer in
           let n : length (front r t′) ≡ 3 * r = length-take-le (3 * r) t′ (omega (arith, same)) in
@@ -165,7 +165,7 @@ module _ {P : ℕ → ℕ → Type 0} {n : ℕ} {t₀ : List ℕ} {r₀ : ℕ} {
 
       pub go-on : Going P n t₀ r₀ l₀ d t′ l′ (r - 2) (k + 1)
       go-on =
-          let f = four in
+          let f = rows-four in
           let a = length-append (g .log) (meant e ∷ []) in
           let h = g .inside in
           let c = g .count in

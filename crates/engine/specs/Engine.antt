@@ -28,6 +28,7 @@ pub record SteppedIn (t : List ℕ) (r a b : ℕ) (k : Record) (t′ : List ℕ)
 pub record Ready (n : ℕ) (t : List ℕ) (r : ℕ) (l : List ℕ) (d : ℕ) : Type 0 where
   pub inside : 3 * r ≤ length t
   pub table : StageTable n (front r t)
+  pub stand : width * d ≤ length l
   pub room : (v : ℕ) → Exactly (Used (rows (front r t))) v → width * (d + v) ≤ length l + width * least-corners
 
 -- the run from the front of t under the limit P: its last stage in front, zeros to where the first one ended, what lies past that as it

@@ -47,8 +47,7 @@ thinned-one {xs = xs} {t = t} {l = l} (done {b = b} f eb r ea et el) (done {b = 
     let e = under-one (sym eb ∙ ec) in
     let k = run-one (rw e at r) r₂ in
     let w = k .0 in
-    let z = k .1 in
-    (
+    let z = k .1 in (
       ea ∙ ap (λ q. Done (length q)) w ∙ sym ea₂,
       et ∙ ap (λ q. flat q ++ replicate (length t - length (flat q)) 0) z ∙ sym et₂,
       el ∙ ap (λ q. log-of q ++ drop (width * length q) l) w ∙ sym el₂,

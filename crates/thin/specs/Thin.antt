@@ -9,7 +9,7 @@ use Rattle.surface.specs.Rows.{Row, rows, flat}
 use Rattle.surface.specs.Record.{Record}
 use Rattle.refusal.specs.declared.Refusal.{Refusal}
 use Rattle.refusal.specs.declared.Refusal.the-variants.{LimitUnusable, CountsOutside, RoomShort}
-use Rattle.refusal.specs.declared.Verdict.the-variants.{Passes} 
+use Rattle.refusal.specs.declared.Verdict.the-variants.{Passes}
 use Rattle.refusal.specs.declared.Verdict.the-variants as verdict
 use Rattle.refusal.specs.First.{Clause, _when_, First}
 use Rattle.faults.specs.Counts.{CountsFitAt, corners}
