@@ -27,7 +27,7 @@ use Rattle.thin.specs.declared.Asked.the-variants.{Under, NoUse}
 use Rattle.thin.specs.declared.Thinning.{Thinning}
 use Rattle.thin.specs.declared.Thinning.the-variants.{Done, Refused}
 use Rattle.thin.specs.Order.{asked}
-use Rattle.thin.specs.Thin.{need, thin-lines, Thinned, refused, done}
+use Rattle.thin.specs.Thin.{need, thin-lines, ThinnedAs, refused, done}
 
 under-one : {b c : Bound} → Under b ≡ Under c → b ≡ c
 under-one e = cc
@@ -39,7 +39,7 @@ passes-refused : {X : Type 0} {r : Refusal} → Passes ≡ verdict.Refused r →
 passes-refused e = let z : _≡_ {A = ℕ} 0 1 = cc in absurd (omega arith)
 
 -- no second outcome satisfies the same words
-pub thinned-one : {o : Order} {xs : List ℤ} {t l : List ℕ} {a a₂ : Thinning} {t′ t₂ l′ l₂ : List ℕ} → Thinned o xs t l a t′ l′ → Thinned o xs t l a₂ t₂ l₂ → (a ≡ a₂) × (t′ ≡ t₂) × (l′ ≡ l₂)
+pub thinned-one : {k : Asked} {xs : List ℤ} {t l : List ℕ} {a a₂ : Thinning} {t′ t₂ l′ l₂ : List ℕ} → ThinnedAs k xs t l a t′ l′ → ThinnedAs k xs t l a₂ t₂ l₂ → (a ≡ a₂) × (t′ ≡ t₂) × (l′ ≡ l₂)
 thinned-one (refused f ea et el) (refused f₂ ea₂ et₂ el₂) = (ea ∙ ap Refused (refused-one (first-one _ f f₂)) ∙ sym ea₂, et ∙ sym et₂, el ∙ sym el₂)
 thinned-one (refused f ea et el) (done f₂ _ _ _ _ _) = passes-refused (first-one _ f₂ f)
 thinned-one (done f _ _ _ _ _) (refused f₂ ea et el) = passes-refused (first-one _ f f₂)

@@ -1,14 +1,17 @@
 -- Thinning in 01's words: the refusals in their order, or the run and what it leaves.
 use mathlib.Core.Path.{_≡_}
+use mathlib.Core.Bool.{true}
 use mathlib.Core.List.{List, _∷_, _++_}
-use Prim.Native.Nat.{ℕ, _-_, _*_, _<_}
+use Prim.Native.Nat.{ℕ, _-_, _*_, _≤_, _<_}
 use lib.IntN.{ℤ}
 use lib.ListN.{length, drop, replicate}
 use Rattle.surface.specs.Limits.{least-corners}
 use Rattle.surface.specs.Rows.{Row, rows, flat}
+use Rattle.surface.specs.Stage.{Skin}
 use Rattle.surface.specs.Record.{Record}
 use Rattle.refusal.specs.declared.Refusal.{Refusal}
 use Rattle.refusal.specs.declared.Refusal.the-variants.{LimitUnusable, CountsOutside, RoomShort}
+use Rattle.refusal.specs.declared.Verdict.{Verdict}
 use Rattle.refusal.specs.declared.Verdict.the-variants.{Passes}
 use Rattle.refusal.specs.declared.Verdict.the-variants as verdict
 use Rattle.refusal.specs.First.{Clause, _when_, First}
@@ -37,11 +40,23 @@ thin-lines a xs t room =
     ∷ (RoomShort when (room < need xs))
     ∷ lines-after-counts true xs t
 
--- the answer a to thinning the table t of the corners xs under the order o with the log l, and what then stands in table and log
-pub data Thinned (o : Order) (xs : List ℤ) (t l : List ℕ) (a : Thinning) (t′ l′ : List ℕ) : Type 0 where
+-- the verdict on a thinning: the first that holds; and where none does, a skin
+pub record Judged (a : Asked) (xs : List ℤ) (t : List ℕ) (room : ℕ) (v : Verdict) : Type 0 where
+  pub holds : First (thin-lines a xs t room) v
+  pub fits : v ≡ Passes → CountsFitAt xs t
+  pub skin : v ≡ Passes → Skin (corners xs) (rows t) xs
+  pub usable : v ≡ Passes → ¬ (a ≡ NoUse)
+  pub room-enough : v ≡ Passes → need xs ≤ room
+
+-- the answer r to thinning the table t of the corners xs as a asks, with the log l, and what then stands in table and log
+pub data ThinnedAs (a : Asked) (xs : List ℤ) (t l : List ℕ) (r : Thinning) (t′ l′ : List ℕ) : Type 0 where
   -- thinning refused leaves table and log untouched
-  refused : {r : Refusal} → First (thin-lines (asked o) xs t (length l)) (verdict.Refused r) → a ≡ Refused r → t′ ≡ t → l′ ≡ l → Thinned o xs t l a t′ l′
+  refused : {e : Refusal} → First (thin-lines a xs t (length l)) (verdict.Refused e) → r ≡ Refused e → t′ ≡ t → l′ ≡ l → ThinnedAs a xs t l r t′ l′
   -- done, it leaves the last stage in front, zeros in the rest of the first table's length, and the log past its records untouched
-  done : {b : Bound} {log : List Record} {last : List Row} → First (thin-lines (asked o) xs t (length l)) Passes → asked o ≡ Under b →
-      Run (Allowed b xs) (rows t) log last → a ≡ Done (length log) → t′ ≡ flat last ++ replicate (length t - length (flat last)) 0 →
-      l′ ≡ log-of log ++ drop (width * length log) l → Thinned o xs t l a t′ l′
+  done : {b : Bound} {log : List Record} {last : List Row} → First (thin-lines a xs t (length l)) Passes → a ≡ Under b →
+      Run (Allowed b xs) (rows t) log last → r ≡ Done (length log) → t′ ≡ flat last ++ replicate (length t - length (flat last)) 0 →
+      l′ ≡ log-of log ++ drop (width * length log) l → ThinnedAs a xs t l r t′ l′
+
+-- under an order
+abbrev pub Thinned : Order → List ℤ → List ℕ → List ℕ → Thinning → List ℕ → List ℕ → Type 0
+Thinned o = ThinnedAs (asked o)
