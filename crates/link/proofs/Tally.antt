@@ -17,6 +17,24 @@ stands-at l i w h e = Memᴰ·cast (sym e) (at-place l i 0 h)
 pub stands-nowhere : (l : List ℕ) (w : ℕ) → ((i : ℕ) → i < length l → getD l i 0 ≡ w → ⊥) → ¬ (w ∈ l)
 stands-nowhere l w h m = let r = place-of 0 m in h (r .0) (r .1) (r .2)
 
+-- the first i + 1 numbers of l are the first i and the one at i
+module _ (l : List ℕ) (i : ℕ) (h : i < length l) where
+  first-more : take (i + 1) l ≡ take i l ++ (getD l i 0 ∷ [])
+  first-more = rw add-one (take-suc l i 0 h)
+
+  pub first-split : {w : ℕ} → w ∈ take (i + 1) l → (w ∈ take i l) ⊎ (w ≡ getD l i 0)
+  first-split {w} m = go (List·Memᴰ·append-cases (take i l) (rw first-more at m))
+    where
+      go : (w ∈ take i l) ⊎ (w ∈ getD l i 0 ∷ []) → (w ∈ take i l) ⊎ (w ≡ getD l i 0)
+      go (inl k) = inl k
+      go (inr k) = inr (List·Memᴰ·eq-of-singleton k)
+
+  pub first-old : {w : ℕ} → w ∈ take i l → w ∈ take (i + 1) l
+  first-old m = rw first-more (Memᴰ·append-left (getD l i 0 ∷ []) m)
+
+  pub first-new : {w : ℕ} → w ≡ getD l i 0 → w ∈ take (i + 1) l
+  first-new e = rw first-more (Memᴰ·append-right (take i l) (List·Memᴰ·head e))
+
 -- what holds of the same things is counted alike
 pub exactly-same : {P Q : ℕ → Type 0} {k : ℕ} → ((w : ℕ) → P w → Q w) → ((w : ℕ) → Q w → P w) → Exactly P k → Exactly Q k
 exactly-same f g c = record { list = c .list; distinct = c .distinct; all = λ {a} q. c .all (g a q); only = λ {a} m. f a (c .only m); count = c .count }
@@ -30,25 +48,9 @@ module _ (P : ℕ → Type 0) (l : List ℕ) where
   count-none = record { list = []; distinct = none; all = λ h. h .0; only = λ m. absurd (List·Memᴰ·not-nil m); count = refl }
 
   module _ (i : ℕ) (h : i < length l) where
-    first-more : take (i + 1) l ≡ take i l ++ (getD l i 0 ∷ [])
-    first-more = rw add-one (take-suc l i 0 h)
-
-    split : {w : ℕ} → w ∈ take (i + 1) l → (w ∈ take i l) ⊎ (w ≡ getD l i 0)
-    split {w} m = go (List·Memᴰ·append-cases (take i l) (rw first-more at m))
-      where
-        go : (w ∈ take i l) ⊎ (w ∈ getD l i 0 ∷ []) → (w ∈ take i l) ⊎ (w ≡ getD l i 0)
-        go (inl k) = inl k
-        go (inr k) = inr (List·Memᴰ·eq-of-singleton k)
-
-    old : {w : ℕ} → w ∈ take i l → w ∈ take (i + 1) l
-    old m = rw first-more (Memᴰ·append-left (getD l i 0 ∷ []) m)
-
-    new : {w : ℕ} → w ≡ getD l i 0 → w ∈ take (i + 1) l
-    new e = rw first-more (Memᴰ·append-right (take i l) (List·Memᴰ·head e))
-
     -- a number without the property is passed
     pub count-past : {k : ℕ} → ¬ P (getD l i 0) → Exactly (Among P l i) k → Exactly (Among P l (i + 1)) k
-    count-past n c = exactly-same (λ w z. (old (z .0), z .1)) (λ w z. (still w (split (z .0)) (z .1), z .1)) c
+    count-past n c = exactly-same (λ w z. (first-old l i h (z .0), z .1)) (λ w z. (still w (first-split l i h (z .0)) (z .1), z .1)) c
       where
         still : (w : ℕ) → (w ∈ take i l) ⊎ (w ≡ getD l i 0) → P w → w ∈ take i l
         still w (inl m) p = m
@@ -59,7 +61,7 @@ module _ (P : ℕ → Type 0) (l : List ℕ) where
     count-more d p c = record {
       list = c .list ++ (getD l i 0 ∷ []);
       distinct = distinct-append (c .distinct) (more List·Memᴰ·not-nil none) (λ w m k. fresh w ((c .only m) .0) (List·Memᴰ·eq-of-singleton k));
-      all = λ {a} z. all a (split (z .0)) (z .1);
+      all = λ {a} z. all a (first-split l i h (z .0)) (z .1);
       only = λ {a} m. only a (List·Memᴰ·append-cases (c .list) m);
       count = let a = length-append (c .list) (getD l i 0 ∷ []) in let b = c .count in omega arith;
     }
@@ -77,8 +79,8 @@ module _ (P : ℕ → Type 0) (l : List ℕ) where
         all w (inr e) q = Memᴰ·append-right (c .list) (List·Memᴰ·head e)
 
         only : (w : ℕ) → (w ∈ c .list) ⊎ (w ∈ getD l i 0 ∷ []) → Among P l (i + 1) w
-        only w (inl m) = let z = c .only m in (old (z .0), z .1)
-        only w (inr m) = let e = List·Memᴰ·eq-of-singleton m in (new e, rw e p)
+        only w (inl m) = let z = c .only m in (first-old l i h (z .0), z .1)
+        only w (inr m) = let e = List·Memᴰ·eq-of-singleton m in (first-new l i h e, rw e p)
 
   -- at the end, if l has all with the property
   pub count-end : (i : ℕ) {k : ℕ} → length l ≤ i → ((w : ℕ) → P w → w ∈ l) → Exactly (Among P l i) k → Exactly P k
