@@ -2,42 +2,15 @@
 use mathlib.Core.Path.{_≡_, refl, sym, _∙_, ap}
 use mathlib.Core.List.{List, [], _∷_, List·Memᴰ·head, List·Memᴰ·tail}
 use Prim.Native.Nat.{ℕ, suc, _+_, _-_, _*_, _≤_, _<_}
-use native.Mathlib.Numerals.{add-one, add-two, add-three}
 use native.Mathlib.Omega.{arith}
 use lib.IntN.{ℤ, pos, _+ℤ_, +ℤ-assoc, +ℤ-idl, +ℤ-idr, natAbs}
 use lib.ListN.{length, drop, getD, length-drop}
-use lib.Seq.{drop-cons}
 use Rattle.surface.specs.Rows.{Row, row, rows, Turned, turn-0, turn-1, turn-2}
+use Rattle.surface.proofs.Flat.{row-from, one-row, no-row}
 use Rattle.ints.proofs.Ints.{abs-add}
 use Rattle.figure.specs.Corners.{Has}
 use Rattle.figure.specs.Sum.{determinant, sixfold, WithCoordinates, row-bound, sum-bound}
 use Rattle.figure.proofs.Sizes.{determinant-size}
-
--- ---- a flat table from place i on
-
-abbrev row-at : List ℕ → ℕ → Row
-row-at t i = row (getD t i 0) (getD t (i + 1) 0) (getD t (i + 2) 0)
-
-module _ (t : List ℕ) (i : ℕ) where
-  three : i + 3 ≤ length t → drop i t ≡ getD t i 0 ∷ getD t (i + 1) 0 ∷ getD t (i + 2) 0 ∷ drop (i + 3) t
-  three h =
-      drop-cons t i 0 (omega arith)
-      ∙ ap (λ (l : List ℕ). getD t i 0 ∷ l) (drop-cons t (suc i) 0 (omega arith))
-      ∙ ap (λ (l : List ℕ). getD t i 0 ∷ getD t (suc i) 0 ∷ l) (drop-cons t (suc (suc i)) 0 (omega arith))
-      ∙ simp (add-one, add-two, add-three)
-
-  one-row : i + 3 ≤ length t → rows (drop i t) ≡ row-at t i ∷ rows (drop (i + 3) t)
-  unfolding rows
-  one-row h = ap rows (three h)
-
-  no-row : length t - i < 3 → rows (drop i t) ≡ []
-  no-row h = go (drop i t) (omega (arith, length-drop i t))
-    where
-      go : (l : List ℕ) → length l < 3 → rows l ≡ []
-      go [] g = unfold rows in refl
-      go (a ∷ []) g = unfold rows in refl
-      go (a ∷ b ∷ []) g = unfold rows in refl
-      go (a ∷ b ∷ c ∷ l) g = absurd (omega arith)
 
 -- ---- the first of some rows with their coordinates, and the others
 

@@ -1,2 +1,3 @@
 pub mod Ints
 pub mod Machine
+pub mod Short

@@ -12,9 +12,8 @@ use Rattle.surface.specs.Lists.{_∈_, Exactly}
 use Rattle.surface.specs.Rows.{rows}
 use Rattle.surface.specs.Table.{Edge}
 use Rattle.surface.specs.Stage.{StageTable}
-use Rattle.surface.specs.Link.{Meets}
 use Rattle.surface.proofs.Main.{link-counts, counts-one}
-use Rattle.surface.proofs.Common.{Common}
+use Rattle.surface.specs.Link.{Meets, Common}
 use Rattle.faults.specs.Tells.{Tells}
 use Rattle.link.specs.Around.{Neighbours, Both}
 use Rattle.link.proofs.Tally.{exactly-same}

@@ -1,7 +1,7 @@
 -- A record as it stands in a log: ten numbers. Nothing else lays a record out.
 use mathlib.Core.List.{List, [], _∷_, _++_}
-use Prim.Native.Nat.{ℕ, _+_}
-use lib.ListN.{getD}
+use Prim.Native.Nat.{ℕ, zero, suc, _+_, _/_}
+use lib.ListN.{length, drop, getD}
 use Rattle.surface.specs.Rows.{Row, row}
 use Rattle.surface.specs.Record as surface
 use Rattle.record.specs.declared.Corner.{Corner}
@@ -46,3 +46,12 @@ record-at l i = record {
   place-2 = getD l (i + 6) 0;
   row-2 = row (getD l (i + 7) 0) (getD l (i + 8) 0) (getD l (i + 9) 0);
 }
+
+-- the first k records of a log
+unfoldable pub first-records : ℕ → List ℕ → List surface.Record
+first-records zero l = []
+first-records (suc k) l = record-at l 0 ∷ first-records k (drop width l)
+
+-- the records of a log; numbers over at its end are no record
+abbrev pub records : List ℕ → List surface.Record
+records l = first-records (length l / width) l

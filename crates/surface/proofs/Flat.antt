@@ -2,11 +2,11 @@
 use mathlib.Core.Path.{_≡_, refl, sym, _∙_, ap}
 use mathlib.Core.Logic.{_≢_, _⊎_, inl, inr}
 use mathlib.Core.List.{List, [], _∷_, map, List·Memᴰ·head, List·Memᴰ·tail, List·Memᴰ·cases-cons, List·Memᴰ·not-nil, Memᴰ·cast}
-use Prim.Native.Nat.{ℕ, zero, suc, _≤_, _<_, _+_, _*_}
+use Prim.Native.Nat.{ℕ, zero, suc, _≤_, _<_, _+_, _-_, _*_}
 use native.Mathlib.Nat.{suc-inj}
 use native.Mathlib.Omega.{arith}
 use native.Mathlib.Numerals.{add-one, add-two, add-three}
-use lib.ListN.{length, drop, getD}
+use lib.ListN.{length, drop, getD, length-drop}
 use lib.Seq.{drop-cons}
 use Rattle.surface.specs.Lists.{_∈_, Distinct, none, more}
 use Rattle.surface.specs.Rows.{Row, row, rows, flat, turn-0}
@@ -102,3 +102,20 @@ three l i h =
     ∙ ap (λ (r : List ℕ). getD l i 0 ∷ r) (drop-cons l (suc i) 0 h1)
     ∙ ap (λ (r : List ℕ). getD l i 0 ∷ getD l (suc i) 0 ∷ r) (drop-cons l (suc (suc i)) 0 h2)
     ∙ simp (add-one, add-two, add-three)
+
+-- the row whose numbers stand from i on
+abbrev pub row-from : List ℕ → ℕ → Row
+row-from t i = row (getD t i 0) (getD t (i + 1) 0) (getD t (i + 2) 0)
+
+pub one-row : (t : List ℕ) (i : ℕ) → i + 3 ≤ length t → rows (drop i t) ≡ row-from t i ∷ rows (drop (i + 3) t)
+unfolding rows
+one-row t i h = ap rows (three t i h)
+
+pub no-row : (t : List ℕ) (i : ℕ) → length t - i < 3 → rows (drop i t) ≡ []
+no-row t i h = go (drop i t) (omega (arith, length-drop i t))
+  where
+    go : (l : List ℕ) → length l < 3 → rows l ≡ []
+    go [] g = unfold rows in refl
+    go (a ∷ []) g = unfold rows in refl
+    go (a ∷ b ∷ []) g = unfold rows in refl
+    go (a ∷ b ∷ c ∷ l) g = absurd (omega arith)

@@ -1,15 +1,10 @@
 // The trial cases of 01, run over the proved crates. What it prints is held to the file stdout beside src/, which was written from 01.
-use length::{Length, Reading, read_limit};
-
-// The size of a number below zero.
-fn size(value: i64) -> u64 {
-    if value < 0 {
-        let near = -(value + 1);
-        near as u64 + 1
-    } else {
-        value as u64
-    }
-}
+use figure::change_of;
+use figure::cubic_metres;
+use length::Length;
+use length::Reading;
+use length::read_limit;
+use refusal::Verdict;
 
 // A line of a name and a whole number.
 fn show(name: &[u8], value: i64) {
@@ -17,7 +12,7 @@ fn show(name: &[u8], value: i64) {
     if value < 0 {
         io::write_all(1, b"-");
     }
-    io::print_decimal(1, size(value));
+    io::print_decimal(1, ints::size(value));
     io::write_all(1, b"\n");
 }
 
@@ -37,10 +32,194 @@ fn show_limit(name: &[u8], l: Length) {
     }
 }
 
-fn main() {
+// 01's typed limits.
+fn limits() {
     show_limit(b"limit 1.5 m: ", Length::Metres(1.5));
     show_limit(b"limit 1.375 m: ", Length::Metres(1.375));
     show_limit(b"limit 4.75 ft: ", Length::Feet(4.75));
     show_limit(b"limit 0.29 m: ", Length::Metres(0.29));
     show_limit(b"limit 0.3 m: ", Length::Metres(0.3));
+}
+
+// The figures of 01's sums.
+fn figures() {
+    show(b"figure of -27,000,000: ", cubic_metres(-27000000));
+    show(b"figure of 8,000,000: ", cubic_metres(8000000));
+    show(b"figure of 4,000,000: ", cubic_metres(4000000));
+    show(b"figure of 2,000,000: ", cubic_metres(2000000));
+    show(
+        b"change from 8,000,000 to 4,000,000: ",
+        change_of(8000000, 4000000),
+    );
+    show(
+        b"change from 4,000,000 to 2,000,000: ",
+        change_of(4000000, 2000000),
+    );
+    show(
+        b"change from 8,000,000 to 2,000,000: ",
+        change_of(8000000, 2000000),
+    );
+}
+
+// A line of a table and what the check of a first table says of it.
+fn show_check(name: &[u8], t: &[u32], xs: &[i32]) {
+    let v = skin::check_first(t, xs);
+    io::write_all(1, name);
+    match v {
+        Verdict::Passes => {
+            io::write_all(1, b"passes\n");
+        }
+        Verdict::Refused(r) => {
+            io::write_all(1, b"refused ");
+            io::print_decimal(1, refusal::number_of(r) as u64);
+            io::write_all(1, b"\n");
+        }
+    }
+}
+
+// The octahedron, without its last row, and with fewer rows than a skin has.
+fn octahedra() {
+    let t = [
+        0u32,
+        1,
+        2,
+        0,
+        2,
+        3,
+        0,
+        3,
+        4,
+        0,
+        4,
+        1,
+        5,
+        2,
+        1,
+        5,
+        3,
+        2,
+        5,
+        4,
+        3,
+        5,
+        1,
+        4,
+    ];
+    let xs = [
+        0i32,
+        0,
+        100,
+        100,
+        0,
+        0,
+        0,
+        100,
+        0,
+        -100,
+        0,
+        0,
+        0,
+        -100,
+        0,
+        0,
+        0,
+        -100,
+    ];
+    show_check(b"O: ", &t, &xs);
+    show_check(b"O without its last row: ", &t[..21], &xs);
+    show_check(b"O's first three rows: ", &t[..9], &xs);
+    show_check(b"O without its last coordinate: ", &t, &xs[..17]);
+}
+
+// Coordinates at their limit and past it.
+fn far_corners() {
+    let t = [0u32, 1, 2, 0, 2, 3, 0, 3, 1, 1, 3, 2];
+    let at = [0i32, 0, 0, 50000, 0, 0, 0, 300, 0, 0, 0, -50000];
+    let past = [0i32, 0, 0, 50001, 0, 0, 0, 300, 0, 0, 0, 300];
+    let below = [0i32, 0, 0, 300, 0, 0, 0, 300, 0, 0, 0, -50001];
+    show_check(b"T to 50,000 and -50,000: ", &t, &at);
+    show_check(b"T to 50,001: ", &t, &past);
+    show_check(b"T to -50,001: ", &t, &below);
+}
+
+// Two tetrahedra: sharing a corner, apart, and with a corner that no row uses.
+fn pairs() {
+    let shared = [
+        0u32,
+        1,
+        2,
+        0,
+        2,
+        3,
+        0,
+        3,
+        1,
+        1,
+        3,
+        2,
+        0,
+        4,
+        5,
+        0,
+        5,
+        6,
+        0,
+        6,
+        4,
+        4,
+        6,
+        5,
+    ];
+    let apart = [
+        0u32,
+        1,
+        2,
+        0,
+        2,
+        3,
+        0,
+        3,
+        1,
+        1,
+        3,
+        2,
+        4,
+        5,
+        6,
+        4,
+        6,
+        7,
+        4,
+        7,
+        5,
+        5,
+        7,
+        6,
+    ];
+    let xs = [0i32; 24];
+    let more = [0i32; 27];
+    show_check(b"two tetrahedra that share a corner: ", &shared, &xs[..21]);
+    show_check(b"and a corner that no row uses: ", &shared, &xs);
+    show_check(b"two tetrahedra apart: ", &apart, &xs);
+    show_check(b"and a corner that no row uses: ", &apart, &more);
+}
+
+// A line of a count of rows, and whether it is within the limits.
+fn show_rows(name: &[u8], rows: usize) {
+    io::write_all(1, name);
+    if counts::rows_fit(rows) {
+        io::write_all(1, b"pass the count\n");
+    } else {
+        io::write_all(1, b"do not pass the count\n");
+    }
+}
+
+fn main() {
+    limits();
+    figures();
+    octahedra();
+    show_rows(b"1,024 rows ", 1024);
+    show_rows(b"1,025 rows ", 1025);
+    far_corners();
+    pairs();
 }

@@ -1,0 +1,39 @@
+use mathlib.Core.Path.{_≡_, refl, sym, _∙_, ap}
+use Prim.Native.Nat.{_^_, _-_}
+use lib.IntN.{natAbs, pos}
+use lib.Signed.{ltZ}
+use mir.Syntax.{w64}
+use mir.ValLaws.{toZ-ofZ}
+use Rattle.ints.proofs.Machine.{Is, fits, any, unsigned, unsigned-fits, within}
+use Rattle.ints.proofs.Short.{below, not-below, one-on, short, short-kept, short-size}
+use native.Mathlib.Omega.{arith}
+use borrow.Author.Needs.{needs}
+use Rattle.ints.proofs.size.Statement.{statement}
+use Rattle.ints.proofs.size.Tie as tie
+use Rattle.ints.proofs.size.Reads as reads
+use Rattle.ints.proofs.size.Lts as lts
+
+add-short : tie.Need-add-short
+add-short c = fits w64 (one-on (c .before .args .z) (c .before .fits .z) (below (c .before .args .z) (c .before .fits .z) (sym (ap (λ k. ltZ k (pos 0)) (toZ-ofZ w64 (c .before .args .z) (c .before .fits .z))) ∙ c .if1 .taken))) (omega arith)
+
+sub-short : tie.Need-sub-short
+sub-short c = fits w64 (short (c .before .args .z) (c .before .fits .z) (below (c .before .args .z) (c .before .fits .z) (sym (ap (λ k. ltZ k (pos 0)) (toZ-ofZ w64 (c .before .args .z) (c .before .fits .z))) ∙ c .if1 .taken))) (omega arith)
+
+cast-result : tie.Need-cast-result
+cast-result c = unsigned-fits w64 (short-kept (c .before .args .z) (c .before .fits .z) (below (c .before .args .z) (c .before .fits .z) (sym (ap (λ k. ltZ k (pos 0)) (toZ-ofZ w64 (c .before .args .z) (c .before .fits .z))) ∙ c .if1 .taken))) (omega arith)
+
+add-result : tie.Need-add-result
+add-result c = let b = below (c .before .args .z) (c .before .fits .z) (sym (ap (λ k. ltZ k (pos 0)) (toZ-ofZ w64 (c .before .args .z) (c .before .fits .z))) ∙ c .if1 .taken) in let s = b .small in record { fits = omega (arith, unsigned (short-kept (c .before .args .z) (c .before .fits .z) b)) }
+
+returns : tie.Need-returns
+returns c = short-size (c .before .args .z) (c .before .fits .z) (below (c .before .args .z) (c .before .fits .z) (sym (ap (λ k. ltZ k (pos 0)) (toZ-ofZ w64 (c .before .args .z) (c .before .fits .z))) ∙ c .if1 .taken))
+
+cast-result-2 : tie.Need-cast-result-2
+cast-result-2 c = unsigned-fits w64 (not-below (c .before .args .z) (c .before .fits .z) (sym (ap (λ k. ltZ k (pos 0)) (toZ-ofZ w64 (c .before .args .z) (c .before .fits .z))) ∙ c .if1 .left)) (omega arith)
+
+returns-2 : tie.Need-returns-2
+returns-2 c = ap natAbs (toZ-ofZ w64 (c .before .args .z) (c .before .fits .z))
+
+pub size-spec : {M : Type 1} → statement M
+size-spec =
+    tie.close (tie.spec add-short sub-short cast-result add-result returns cast-result-2 returns-2)
