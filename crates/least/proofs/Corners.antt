@@ -7,6 +7,7 @@ use native.Mathlib.Omega.{arith}
 use Rattle.surface.specs.Rows.{Row}
 use Rattle.surface.specs.Stage.{Stage}
 use Rattle.run.specs.Run.{NotAfter, lower, level, Qualifies, Over}
+use Rattle.run.proofs.Main.{least-one}
 use Rattle.least.specs.declared.Found.{Found}
 use Rattle.least.specs.declared.Found.the-variants.{Nothing, Edge}
 use Rattle.least.specs.Search.{FoundAt, FoundLeast}
@@ -36,3 +37,13 @@ module _ (P : ℕ → ℕ → Type 0) (T : List Row) (a : ℕ) (none : NoneBelow
 
   pub none-left : (n : ℕ) → Stage n T → n ≤ a → Over P T
   none-left n s h = record { over = λ c d q. let k = s .below (q .meets .edge .1) in none c (omega arith) d q }
+
+-- no second answer satisfies the words
+pub found-one : (P : ℕ → ℕ → Type 0) (T : List Row) (r s : Found) → FoundLeast P T r → FoundLeast P T s → r ≡ s
+found-one P T Nothing Nothing h k = refl
+found-one P T Nothing (Edge c d) h k = absurd (h .over _ _ (k .does))
+found-one P T (Edge a b) Nothing h k = absurd (k .over _ _ (h .does))
+found-one P T (Edge a b) (Edge c d) h k = let e = least-one h k in λ i. Edge (same a c (e .0) i) (same b d (e .1) i)
+  where
+    same : (x y : Corner) → x .0 ≡ y .0 → x ≡ y
+    same x y q = λ i. record { 0 = q i }

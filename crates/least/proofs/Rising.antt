@@ -1,4 +1,4 @@
--- The neighbours of a corner in rising order: the next one above those tried.
+-- The neighbours of a corner in rising order: the next one above those tried, and what trying them tells.
 use mathlib.Core.Path.{_≡_, refl}
 use mathlib.Core.Logic.{_⊎_, inl, inr}
 use mathlib.Core.List.{List, List·Memᴰ·not-nil}

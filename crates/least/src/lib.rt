@@ -1,10 +1,10 @@
 // The least edge that qualifies: smallest lower number, then smallest higher number.
 use record::Corner;
-ghost use mathlib.Core.Path.{_≡_};
 ghost use Prim.Native.Nat.{_≤_, _<_};
 ghost use Rattle.surface.specs.Rows.{rows};
 ghost use Rattle.run.specs.Run.{Qualifies};
 ghost use Rattle.faults.specs.Tells.{Tells};
+ghost use Rattle.link.specs.Around.{Neighbours};
 ghost use Rattle.least.specs.Limited.{Allowed, MeasurableAt};
 ghost use Rattle.least.specs.Search.{Searchable, SearchableAt, NextAbove, Better, FoundAt, FoundLeast};
 
@@ -80,21 +80,28 @@ fn next_above(ring: &[u32], past: u32) -> u32
     best
 }
 
-// The least edge from a upward that qualifies. Its neighbours above a are tried in rising order.
-fn least_at(t: &[u32], last: &[usize], prev: &[usize], xs: &[i32], bound: Bound, a: Corner) -> Found
+// The least edge from a upward that qualifies. The neighbours of a, which ring lists, are tried in rising order.
+fn least_at(
+    t: &[u32],
+    last: &[usize],
+    prev: &[usize],
+    xs: &[i32],
+    bound: Bound,
+    a: Corner,
+    ring: &[u32],
+) -> Found
     requires { ⌜ SearchableAt (now t) (now last) (now prev) bound (now xs) (a .0) ⌝ }
+    requires { ⌜ Neighbours (rows (now t)) (a .0) (now ring) ⌝ }
     ensures { λ r. ⌜ FoundAt (Allowed bound (now (xs .entry))) (rows (now (t .entry))) (a .0) r ⌝ }
 {
-    let mut ring = [0u32; surface::MOST_CORNERS];
-    let k = link::gather(t, last, prev, a, &mut ring);
     let mut past = a.0;
-    let mut b = next_above(&ring[..k], past);
+    let mut b = next_above(ring, past);
     while past < b {
         if qualifies(t, last, prev, xs, bound, a, Corner(b)) {
             return Found::Edge(a, Corner(b));
         }
         past = b;
-        b = next_above(&ring[..k], past);
+        b = next_above(ring, past);
     }
     Found::Nothing
 }
@@ -111,9 +118,12 @@ pub fn least_edge(
     requires { ⌜ Searchable n (now t) (now last) (now prev) bound (now xs) ⌝ }
     ensures { λ r. ⌜ FoundLeast (Allowed bound (now (xs .entry))) (rows (now (t .entry))) r ⌝ }
 {
+    let mut ring = [0u32; surface::MOST_CORNERS];
     let mut a: usize = 0;
     while a < n {
-        let found = least_at(t, last, prev, xs, bound, Corner(a as u32));
+        let corner = Corner(a as u32);
+        let k = link::gather(t, last, prev, corner, &mut ring);
+        let found = least_at(t, last, prev, xs, bound, corner, &ring[..k]);
         match found {
             Found::Edge(_, _) => return found,
             Found::Nothing => {}

@@ -19,7 +19,8 @@ use Rattle.surface.proofs.Following.{re-edge}
 use Rattle.surface.proofs.Round.{upto as numbers, every-upto}
 use Rattle.slots.specs.Slot.{next-slot}
 use Rattle.slots.specs.Chain.{Last}
-use Rattle.slots.proofs.Slots.{at-edge, at-follows, follows-at, next-inside, one-slot}
+use Rattle.slots.proofs.Slots.{at-edge, follows-at, next-inside, one-slot}
+use Rattle.slots.proofs.Staged.{stage-under}
 use Rattle.link.specs.Around.{Neighbours}
 
 -- w is the neighbour of v at the slot e, and e stands from x on
@@ -113,7 +114,7 @@ module _ {n : ℕ} (t : List ℕ) (s : StageTable n t) (v : ℕ) where
   list-fits {l} {x} g = let h = fits (g .distinct) (numbers n) (λ w m. every-upto n w (below w (g .only m))) in let k = numbers-length n in omega arith
     where
       below : (w : ℕ) → From t v x w → w < n
-      below w f = rw (sym (f .leads)) (s .stage .below (at-follows t (whole t s) (next-slot (f .e)) (next-inside (length t) (f .e) (whole t s) (f .inside))))
+      below w f = rw (sym (f .leads)) (stage-under t (whole t s) (s .stage) .under (next-slot (f .e)) (next-inside (length t) (f .e) (whole t s) (f .inside)))
 
 -- the same in a lent ring, of which the first k numbers are the list
 module _ {n : ℕ} (t : List ℕ) (s : StageTable n t) (v : ℕ) (ring : List ℕ) (k x y : ℕ) (p : 0 < x) (h : Last t (getD t (x - 1) 0) (x - 1) y) (g : Listing t v x (take k ring)) where

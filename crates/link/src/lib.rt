@@ -95,11 +95,11 @@ pub fn may_contract(t: &[u32], last: &[usize], prev: &[usize], a: Corner, b: Cor
         return false;
     }
     let mut first = [0u32; surface::MOST_CORNERS];
-    let mut second = [0u32; surface::MOST_CORNERS];
     let j = gather(t, last, prev, a, &mut first);
     if !contains(&first[..j], b.0) {
         return false;
     }
+    let mut second = [0u32; surface::MOST_CORNERS];
     let k = gather(t, last, prev, b, &mut second);
     common(&first[..j], &second[..k]) == 2
 }

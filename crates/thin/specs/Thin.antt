@@ -20,7 +20,9 @@ use Rattle.faults.specs.Order.{lines-after-counts}
 use Rattle.run.specs.Run.{Run}
 use Rattle.record.specs.Layout.{width, log-of}
 use Rattle.length.specs.declared.Order.{Order}
+use Rattle.length.specs.Limit.{most-limit}
 use Rattle.least.specs.declared.Bound.{Bound}
+use Rattle.least.specs.declared.Bound.the-variants.{Free, Within}
 use Rattle.least.specs.Limited.{Allowed}
 use Rattle.thin.specs.declared.Asked.{Asked}
 use Rattle.thin.specs.declared.Asked.the-variants.{Under, NoUse}
@@ -39,6 +41,12 @@ thin-lines a xs t room =
     ∷ (CountsOutside when (¬ CountsFitAt xs t))
     ∷ (RoomShort when (room < need xs))
     ∷ lines-after-counts true xs t
+
+-- a bound within the most that a limit may be, as the limit reader gives it
+abbrev pub Fair : Asked → Type 0
+Fair (Under Free) = Unit
+Fair (Under (Within c)) = c ≤ most-limit
+Fair NoUse = Unit
 
 -- the verdict on a thinning: the first that holds; and where none does, a skin
 pub record Judged (a : Asked) (xs : List ℤ) (t : List ℕ) (room : ℕ) (v : Verdict) : Type 0 where

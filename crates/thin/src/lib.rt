@@ -7,7 +7,7 @@ ghost use mathlib.Core.Path.{_≡_};
 ghost use Rattle.faults.specs.Tells.{Tells};
 ghost use Rattle.thin.specs.declared.Asked.the-variants.{NoUse};
 ghost use Rattle.thin.specs.Order.{asked-by, asked};
-ghost use Rattle.thin.specs.Thin.{Judged, ThinnedAs, Thinned};
+ghost use Rattle.thin.specs.Thin.{Fair, Judged, ThinnedAs, Thinned};
 
 // What an order asks: a bound on the edges, or nothing that can be used.
 pub enum Asked {
@@ -59,6 +59,7 @@ pub fn judge(table: &[u32], corners: &[i32], a: Asked, room: usize) -> Verdict
 
 // Thinning from a first table, as asked.
 fn thin_as(table: &mut [u32], corners: &[i32], a: Asked, log: &mut [u32]) -> Thinning
+    requires { ⌜ Fair a ⌝ }
     ensures { λ r. ⌜ ThinnedAs a (now (corners .entry)) (now (table .entry)) (now (log .entry)) r (now (table .exit)) (now (log .exit)) ⌝ }
 {
     let v = judge(table, corners, a, log.len());

@@ -5,9 +5,6 @@ use native.Mathlib.Omega.{arith}
 use borrow.Author.Needs.{needs}
 use Rattle.least.proofs.allowed.Statement.{statement}
 use Rattle.least.proofs.allowed.Tie as tie
-use Rattle.least.proofs.allowed.Reads as reads
-use Rattle.least.proofs.allowed.Lts as lts
-use Rattle.figure.proofs.squared_distance.Reads as squared-distance-reads
 
 enum-told : tie.Need-enum-told
 enum-told c = search needs

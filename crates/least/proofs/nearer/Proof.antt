@@ -4,8 +4,6 @@ use Rattle.least.specs.Search.{old, new}
 use native.Mathlib.Omega.{arith}
 use Rattle.least.proofs.nearer.Statement.{statement}
 use Rattle.least.proofs.nearer.Tie as tie
-use Rattle.least.proofs.nearer.Reads as reads
-use Rattle.least.proofs.nearer.Lts as lts
 
 returns : tie.Need-returns
 returns c =

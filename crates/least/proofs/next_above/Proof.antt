@@ -7,9 +7,6 @@ use native.Mathlib.Omega.{arith}
 use borrow.Author.Needs.{needs}
 use Rattle.least.proofs.next_above.Statement.{statement}
 use Rattle.least.proofs.next_above.Tie as tie
-use Rattle.least.proofs.next_above.Reads as reads
-use Rattle.least.proofs.next_above.Lts as lts
-use Rattle.least.proofs.nearer.Reads as nearer-reads
 
 abbrev Inv-loop : tie.InvT-loop
 Inv-loop ring past best₀ i₀ best i = (i ≤ length ring) × NextAbove (take i ring) past best

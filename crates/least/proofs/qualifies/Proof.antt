@@ -4,10 +4,6 @@ use Rattle.least.proofs.Limiting.{measured-at}
 use borrow.Author.Needs.{needs}
 use Rattle.least.proofs.qualifies.Statement.{statement}
 use Rattle.least.proofs.qualifies.Tie as tie
-use Rattle.least.proofs.qualifies.Reads as reads
-use Rattle.least.proofs.qualifies.Lts as lts
-use Rattle.least.proofs.allowed.Reads as allowed-reads
-use Rattle.link.proofs.may_contract.Reads as may-contract-reads
 
 allowed-requires : tie.Need-allowed-requires
 allowed-requires c κs =
