@@ -21,7 +21,11 @@ use Rattle.faults.specs.Counts.{corners}
 use Rattle.faults.proofs.Opposites.{coordinates-length}
 use Rattle.slots.proofs.Slots.{whole-rows}
 use Rattle.record.specs.Layout.{width, log-of}
-use Rattle.length.specs.Limit.{most-limit}
+use Rattle.length.specs.declared.Length.{Length}
+use Rattle.length.specs.declared.Reading.{Reading}
+use Rattle.length.specs.declared.Reading.the-variants.{Whole, Unusable}
+use Rattle.length.specs.Limit.{most-limit, limit-of}
+use Rattle.length.proofs.Laws.{limit-most}
 use Rattle.least.specs.declared.Bound.{Bound}
 use Rattle.least.specs.declared.Bound.the-variants.{Free, Within}
 use Rattle.least.specs.Limited.{Allowed, Measurable}
@@ -30,6 +34,7 @@ use Rattle.thin.specs.declared.Asked.{Asked}
 use Rattle.thin.specs.declared.Asked.the-variants.{Under, NoUse}
 use Rattle.thin.specs.declared.Thinning.{Thinning}
 use Rattle.thin.specs.declared.Thinning.the-variants.{Done, Refused}
+use Rattle.thin.specs.Order.{asked-by}
 use Rattle.thin.specs.Thin.{need, Fair, Judged, ThinnedAs, refused, done}
 
 -- no more corners are used than there are
@@ -80,4 +85,12 @@ module _ (a : Asked) (xs : List ℤ) (t : List ℕ) (room : ℕ) (j : Judged a x
       rest = ap (λ m. drop m t) whole ∙ drop-length t
 
 pub thin-refused : {a : Asked} {xs : List ℤ} {t l : List ℕ} {room : ℕ} {r : Refusal} → Judged a xs t room (verdict.Refused r) → length l ≡ room → ThinnedAs a xs t l (Refused r) t l
-thin-refused j e = refused (rw e (j .holds)) refl refl refl
+thin-refused {r = r} j e = refused {e = r} (rw e (j .holds)) refl refl refl
+
+-- the limit reader gives a fair bound
+pub fair-limit : (l : Length) → Fair (asked-by (limit-of l))
+fair-limit l = go (limit-of l) refl
+  where
+    go : (r : Reading) → limit-of l ≡ r → Fair (asked-by r)
+    go (Whole c) e = limit-most l e
+    go Unusable e = tt

@@ -1,8 +1,10 @@
 // Thinning: the call of document 01.
-use length::{Length, Order, Reading};
 use least::Bound;
-use refusal::{Refusal, Verdict};
-
+use length::Length;
+use length::Order;
+use length::Reading;
+use refusal::Refusal;
+use refusal::Verdict;
 ghost use mathlib.Core.Path.{_≡_};
 ghost use Rattle.faults.specs.Tells.{Tells};
 ghost use Rattle.thin.specs.declared.Asked.the-variants.{NoUse};

@@ -9,11 +9,6 @@ use native.Mathlib.Omega.{arith}
 use borrow.Author.Needs.{needs}
 use Rattle.engine.proofs.go_on.Statement.{statement}
 use Rattle.engine.proofs.go_on.Tie as tie
-use Rattle.engine.proofs.go_on.Reads as reads
-use Rattle.engine.proofs.go_on.Lts as lts
-use Rattle.engine.proofs.next_edge.Reads as next-edge-reads
-use Rattle.engine.proofs.step_in.Reads as step-in-reads
-use Rattle.record.proofs.write_record.Reads as write-record-reads
 
 abbrev Inv-loop : tie.InvT-loop
 Inv-loop table₀ rows n xs bound log₀ done r₀ k₀ table log r k = Going (Allowed bound xs) n table₀ rows log₀ done table log r k

@@ -5,10 +5,6 @@ use native.Mathlib.Omega.{arith}
 use borrow.Author.Needs.{needs}
 use Rattle.engine.proofs.next_edge.Statement.{statement}
 use Rattle.engine.proofs.next_edge.Tie as tie
-use Rattle.engine.proofs.next_edge.Reads as reads
-use Rattle.engine.proofs.next_edge.Lts as lts
-use Rattle.least.proofs.least_edge.Reads as least-edge-reads
-use Rattle.slots.proofs.chains.Reads as chains-reads
 
 slice-aggregate-chains : tie.Need-slice-aggregate-chains
 slice-aggregate-chains c = search needs

@@ -5,9 +5,6 @@ use native.Mathlib.Omega.{arith}
 use borrow.Author.Needs.{needs}
 use Rattle.engine.proofs.step_in.Statement.{statement}
 use Rattle.engine.proofs.step_in.Tie as tie
-use Rattle.engine.proofs.step_in.Reads as reads
-use Rattle.engine.proofs.step_in.Lts as lts
-use Rattle.step.proofs.contract.Reads as contract-reads
 
 mul-end : tie.Need-mul-end
 mul-end c = search needs

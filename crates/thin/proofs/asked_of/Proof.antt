@@ -4,8 +4,6 @@ use native.Mathlib.Omega.{arith}
 use borrow.Author.Needs.{needs}
 use Rattle.thin.proofs.asked_of.Statement.{statement}
 use Rattle.thin.proofs.asked_of.Tie as tie
-use Rattle.thin.proofs.asked_of.Reads as reads
-use Rattle.thin.proofs.asked_of.Lts as lts
 
 enum-known-r : tie.Need-enum-known-r
 enum-known-r c = search needs
