@@ -2,12 +2,14 @@
 use mathlib.Core.Path.{_≡_, refl, sym, _∙_, ap}
 use mathlib.Core.Logic.{_⊎_, inl, inr}
 use mathlib.Core.List.{List, _++_}
-use Prim.Native.Nat.{ℕ, _-_, _*_, _≤_, _<_}
+use mathlib.Core.Bool.{true}
+use Prim.Native.Nat.{ℕ, _-_, _*_, _%_, _≤_, _<_}
 use native.Mathlib.Omega.{arith}
 use lib.IntN.{ℤ}
 use lib.ListN.{length, drop, replicate}
 use Rattle.surface.specs.Rows.{Row, rows, flat}
 use Rattle.surface.specs.Stage.{Skin}
+use Rattle.surface.specs.Record.{Record}
 use Rattle.refusal.specs.declared.Refusal.{Refusal}
 use Rattle.refusal.specs.declared.Verdict.{Verdict}
 use Rattle.refusal.specs.declared.Verdict.the-variants.{Passes}
@@ -17,6 +19,9 @@ use Rattle.refusal.proofs.Laws.{first-one}
 use Rattle.verdicts.proofs.Laws.{first-before}
 use Rattle.faults.specs.Counts.{CountsFitAt, corners}
 use Rattle.faults.specs.Order.{lines-after-counts}
+use Rattle.faults.proofs.Opposites.{stage-rows, stage-corners}
+use Rattle.faults.proofs.Order.{after-2-at, skin-passes}
+use Rattle.run.specs.Run.{Run}
 use Rattle.run.proofs.Main.{run-one}
 use Rattle.record.specs.Layout.{width, log-of}
 use Rattle.length.specs.declared.Order.{Order}
@@ -52,3 +57,37 @@ thinned-one {xs = xs} {t = t} {l = l} (done {b = b} f eb r ea et el) (done {b = 
       et ∙ ap (λ q. flat q ++ replicate (length t - length (flat q)) 0) z ∙ sym et₂,
       el ∙ ap (λ q. log-of q ++ drop (width * length q) l) w ∙ sym el₂,
     )
+
+-- what is refused is not done
+done-refused : {X : Type 0} {k : ℕ} {r : Refusal} → Done k ≡ Refused r → X
+done-refused e = let z : _≡_ {A = ℕ} 0 1 = cc in absurd (omega arith)
+
+-- with room and a usable limit or none, every skin is accepted
+pub accepted : {a : Asked} {xs : List ℤ} {t l : List ℕ} {r : Thinning} {t′ l′ : List ℕ} → ¬ (a ≡ NoUse) → length t % 3 ≡ 0 → Skin (corners xs) (rows t) xs → need xs ≤ length l →
+    ThinnedAs a xs t l r t′ l′ → (k : ℕ) × (r ≡ Done k)
+accepted {a} {xs} {t} {l} u threes s room (refused f er et el) = passes-refused (first-one _ passes f)
+  where
+    fits : CountsFitAt xs t
+    fits = record {
+      table = record { threes = threes; count = stage-rows (s .stage) };
+      coordinates = record { threes = let e = s .corners in omega arith; count = stage-corners (s .stage) };
+    }
+
+    passes : First (thin-lines a xs t (length l)) Passes
+    passes = unfold thin-lines in
+        first-before _ _ _ u (first-before _ _ _ (λ k. k fits) (first-before _ _ _ (λ k. omega arith) (after-2-at true xs t Passes fits (skin-passes t threes (corners xs) xs s))))
+accepted u threes s room (done {log = log} f eb r er et el) = (length log, er)
+
+-- what was thinned: the run, each of whose records is the least edge that qualifies, and that ends where none does
+pub thinned-run : {a : Asked} {xs : List ℤ} {t l : List ℕ} {k : ℕ} {t′ l′ : List ℕ} → ThinnedAs a xs t l (Done k) t′ l′ →
+    (b : Bound) × (log : List Record) × (last : List Row) × (a ≡ Under b) × Run (Allowed b xs) (rows t) log last × (k ≡ length log)
+thinned-run (refused f er et el) = done-refused er
+thinned-run (done {b = b} {log = log} {last = last} f eb r er et el) = (b, log, last, eb, r, done-count er)
+  where
+    done-count : {k m : ℕ} → Done k ≡ Done m → k ≡ m
+    done-count e = cc
+
+-- a refused thinning changes nothing
+pub refused-same : {a : Asked} {xs : List ℤ} {t l : List ℕ} {r : Refusal} {t′ l′ : List ℕ} → ThinnedAs a xs t l (Refused r) t′ l′ → (t′ ≡ t) × (l′ ≡ l)
+refused-same (refused f er et el) = (et, el)
+refused-same (done f eb r er et el) = done-refused (sym er)
