@@ -54,7 +54,7 @@ one-ring ((p ⇒ q) ∷ l) =
     let seen = spread (length l) ((p ⇒ q) ∷ l) (p ∷ []) in
     every (λ a. among eqb (source-of a) seen) ((p ⇒ q) ∷ l)
 
-abbrev row-fits : ℕ → Row → Bool
+abbrev pub row-fits : ℕ → Row → Bool
 row-fits n (row i j k) =
     ltb i n && (ltb j n && (ltb k n && (not (eqb i j) && (not (eqb j k) && not (eqb k i)))))
 
@@ -70,7 +70,7 @@ passes n T =
 not-eq : (i j : ℕ) → So (not (eqb i j)) → i ≢ j
 not-eq i j h e = T-not (eqb i j) h (rw e (eqb-refl j))
 
-row-below : (n : ℕ) (r : Row) → So (row-fits n r) → {v p q : ℕ} → Turned r v p q → (v < n) × (v ≢ p)
+pub row-below : (n : ℕ) (r : Row) → So (row-fits n r) → {v p q : ℕ} → Turned r v p q → (v < n) × (v ≢ p)
 row-below n (row i j k) h {v} {p} {q} t =
     let h₁ = and-r (ltb i n) _ h in
     let h₂ = and-r (ltb j n) _ h₁ in
@@ -142,9 +142,13 @@ parts n T h =
       joined = and-r a₈ _ h₈;
     }
 
+-- each row's numbers are below n, and differ
+pub rows-below : (n : ℕ) (T : List Row) → So (every (row-fits n) T) → {v p q : ℕ} → Follows T v p q → (v < n) × (v ≢ p)
+rows-below n T h f = row-below n (f .by) (every-at (row-fits n) T h (f .here)) (f .turned)
+
 module _ (n : ℕ) (T : List Row) (t : Passes n T) where
   below : (v p q : ℕ) → Follows T v p q → (v < n) × (v ≢ p)
-  below v p q f = row-below n (f .by) (every-at (row-fits n) T (t .fit) (f .here)) (f .turned)
+  below v p q f = rows-below n T (t .fit) f
 
   apart : Apart T
   apart v p q f = (below v p q f) .1

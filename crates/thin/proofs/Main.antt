@@ -62,10 +62,10 @@ thinned-one {xs = xs} {t = t} {l = l} (done {b = b} f eb r ea et el) (done {b = 
 done-refused : {X : Type 0} {k : ℕ} {r : Refusal} → Done k ≡ Refused r → X
 done-refused e = let z : _≡_ {A = ℕ} 0 1 = cc in absurd (omega arith)
 
--- with room and a usable limit or none, every skin is accepted
-pub accepted : {a : Asked} {xs : List ℤ} {t l : List ℕ} {r : Thinning} {t′ l′ : List ℕ} → ¬ (a ≡ NoUse) → length t % 3 ≡ 0 → Skin (corners xs) (rows t) xs → need xs ≤ length l →
-    ThinnedAs a xs t l r t′ l′ → (k : ℕ) × (r ≡ Done k)
-accepted {a} {xs} {t} {l} u threes s room (refused f er et el) = passes-refused (first-one _ passes f)
+-- a skin with room and a usable limit or none passes
+pub thin-passes : {a : Asked} {xs : List ℤ} (t : List ℕ) {room : ℕ} → ¬ (a ≡ NoUse) → length t % 3 ≡ 0 → Skin (corners xs) (rows t) xs → need xs ≤ room → First (thin-lines a xs t room) Passes
+thin-passes {a} {xs} t {room} u threes s h = unfold thin-lines in
+    first-before _ _ _ u (first-before _ _ _ (λ k. k fits) (first-before _ _ _ (λ k. omega arith) (after-2-at true xs t Passes fits (skin-passes t threes (corners xs) xs s))))
   where
     fits : CountsFitAt xs t
     fits = record {
@@ -73,9 +73,10 @@ accepted {a} {xs} {t} {l} u threes s room (refused f er et el) = passes-refused 
       coordinates = record { threes = let e = s .corners in omega arith; count = stage-corners (s .stage) };
     }
 
-    passes : First (thin-lines a xs t (length l)) Passes
-    passes = unfold thin-lines in
-        first-before _ _ _ u (first-before _ _ _ (λ k. k fits) (first-before _ _ _ (λ k. omega arith) (after-2-at true xs t Passes fits (skin-passes t threes (corners xs) xs s))))
+-- with room and a usable limit or none, every skin is accepted
+pub accepted : {a : Asked} {xs : List ℤ} {t l : List ℕ} {r : Thinning} {t′ l′ : List ℕ} → ¬ (a ≡ NoUse) → length t % 3 ≡ 0 → Skin (corners xs) (rows t) xs → need xs ≤ length l →
+    ThinnedAs a xs t l r t′ l′ → (k : ℕ) × (r ≡ Done k)
+accepted u threes s room (refused f er et el) = passes-refused (first-one _ (thin-passes _ u threes s room) f)
 accepted u threes s room (done {log = log} f eb r er et el) = (length log, er)
 
 -- what was thinned: the run, each of whose records is the least edge that qualifies, and that ends where none does
