@@ -2,9 +2,12 @@
 use figure::change_of;
 use figure::cubic_metres;
 use length::Length;
+use length::Order;
 use length::Reading;
 use length::read_limit;
 use refusal::Verdict;
+use ring::Trial;
+use thin::Thinning;
 
 // A line of a name and a whole number.
 fn show(name: &[u8], value: i64) {
@@ -214,6 +217,135 @@ fn show_rows(name: &[u8], rows: usize) {
     }
 }
 
+// The numbers of a list, parted by blanks, on one line.
+fn show_numbers(name: &[u8], l: &[u32]) {
+    io::write_all(1, name);
+    let mut i: usize = 0;
+    while i < l.len() {
+        io::write_all(1, b" ");
+        io::print_decimal(1, wide(l[i]));
+        i += 1;
+    }
+    io::write_all(1, b"\n");
+}
+
+fn wide(x: u32) -> u64 {
+    x as u64
+}
+
+// A line of a thinning's answer.
+fn show_thinning(name: &[u8], r: Thinning) {
+    io::write_all(1, name);
+    match r {
+        Thinning::Done(k) => {
+            io::print_decimal(1, k as u64);
+            io::write_all(1, b" records\n");
+        }
+        Thinning::Refused(e) => {
+            io::write_all(1, b"refused ");
+            io::print_decimal(1, refusal::number_of(e) as u64);
+            io::write_all(1, b"\n");
+        }
+    }
+}
+
+// The octahedron thinned: its rows and records as in 01's sheet.
+fn thin_octahedron() {
+    let mut t = [
+        0u32,
+        1,
+        2,
+        0,
+        2,
+        3,
+        0,
+        3,
+        4,
+        0,
+        4,
+        1,
+        5,
+        2,
+        1,
+        5,
+        3,
+        2,
+        5,
+        4,
+        3,
+        5,
+        1,
+        4,
+    ];
+    let xs = [
+        0i32,
+        0,
+        100,
+        100,
+        0,
+        0,
+        0,
+        100,
+        0,
+        -100,
+        0,
+        0,
+        0,
+        -100,
+        0,
+        0,
+        0,
+        -100,
+    ];
+    let mut log = [7u32; 21];
+    let r = thin::thin(&mut t, &xs, Order::NoLimit, &mut log);
+    show_thinning(b"O thinned: ", r);
+    show_numbers(b"O's table then:", &t);
+    show_numbers(b"O's log then:", &log);
+    let mut short = [7u32; 19];
+    let again = thin::thin(&mut t, &xs, Order::NoLimit, &mut short);
+    show_thinning(b"with room for 19 numbers: ", again);
+}
+
+// The trial ring's numbers into a lent table.
+fn copy_ring(t: &mut [u32]) {
+    let mut i: usize = 0;
+    while i < t.len() {
+        t[i] = ring_number(i);
+        i += 1;
+    }
+}
+
+// A number of the trial ring, 0 past its end.
+fn ring_number(i: usize) -> u32 {
+    let r = ring::trial_number(i);
+    match r {
+        Trial::Number(v) => v,
+        Trial::Nothing => 0,
+    }
+}
+
+// Distinct corners: the coordinates count up.
+fn place_corners(xs: &mut [i32]) {
+    let mut i: usize = 0;
+    while i < xs.len() {
+        xs[i] = (i % 1000) as i32;
+        i += 1;
+    }
+}
+
+// The trial ring thinned: 55 records, 18 rows left.
+fn thin_ring() {
+    let mut t = [0u32; 384];
+    copy_ring(&mut t);
+    let mut xs = [0i32; 192];
+    place_corners(&mut xs);
+    let mut log = [0u32; 600];
+    let r = thin::thin(&mut t, &xs, Order::NoLimit, &mut log);
+    show_thinning(b"the trial ring thinned: ", r);
+    show_numbers(b"past its 18 rows then:", &t[54..60]);
+}
+
 fn main() {
     limits();
     figures();
@@ -222,4 +354,6 @@ fn main() {
     show_rows(b"1,025 rows ", 1025);
     far_corners();
     pairs();
+    thin_octahedron();
+    thin_ring();
 }
