@@ -1,0 +1,70 @@
+-- `uses` meets its contract.
+use mathlib.Core.Path.{_≡_, sym}
+use mathlib.Core.Logic.{_≢_}
+use Prim.Native.Nat.{ℕ, _-_, _≤_, _<_}
+use borrow.Author.Count.{below-more}
+use lib.ListN.{length, getD}
+use Rattle.faults.proofs.Tells.{tells-true, tells-false}
+use Rattle.accept.proofs.Notes.{held-used, not-held}
+use native.Mathlib.Omega.{arith}
+use borrow.Author.Needs.{needs}
+use Rattle.accept.proofs.uses.Statement.{statement}
+use Rattle.accept.proofs.uses.Tie as tie
+
+abbrev Inv-loop : tie.InvT-loop
+Inv-loop t v e₀ e = (e ≤ length t) × ((k : ℕ) → k < e → getD t k 0 ≢ v .0)
+
+abbrev μ-loop : tie.MeasureT-loop
+μ-loop t v e₀ e = length t - e
+
+loop-holds : tie.Need-loop-holds Inv-loop μ-loop
+loop-holds c = (omega arith, λ k h. absurd (omega arith))
+
+mul-if1 : tie.Need-mul-if1 Inv-loop μ-loop
+mul-if1 c = search needs
+
+shared-slice-read-if1 : tie.Need-shared-slice-read-if1 Inv-loop μ-loop
+shared-slice-read-if1 c = search needs
+
+returns : tie.Need-returns Inv-loop μ-loop
+returns c =
+    let args = c .before .before .before .before .before .args in
+    let pre = c .before .before .before .before .before .pre in
+    let loop = c .before .before .before .before .loop in
+    let loop-test = c .before .before .before .loop-test in
+    let if1 = c .if1 in
+    tells-true (held-used (args .t .now) (pre) (args .v .0) (loop .e) (loop-test .taken) (if1 .taken))
+
+add-e : tie.Need-add-e Inv-loop μ-loop
+add-e c = search needs
+
+loop-less : tie.Need-loop-less Inv-loop μ-loop
+loop-less c = search needs
+
+loop-again : tie.Need-loop-again Inv-loop μ-loop
+loop-again c =
+    let loop = c .before .before .before .before .loop in
+    let if1 = c .if1 in
+    (search needs, below-more _ (loop .e) (loop .inv .1) (if1 .left))
+
+returns-2 : tie.Need-returns-2 Inv-loop μ-loop
+returns-2 c =
+    let args = c .before .before .args in
+    let pre = c .before .before .pre in
+    let loop = c .before .loop in
+    tells-false (not-held (args .t .now) (pre) (args .v .0) (λ k h. loop .inv .1 k (omega arith)))
+
+pub uses-spec : {M : Type 1} → statement M
+uses-spec =
+    tie.close
+    (tie.spec
+    Inv-loop
+    μ-loop
+    loop-holds
+    mul-if1
+    shared-slice-read-if1
+    returns
+    add-e
+    loop-less
+    loop-again
+    returns-2)

@@ -1,0 +1,143 @@
+// Whether a record is accepted at a stage, by the local rule: it looks round the kept corner alone.
+use ends::Ends;
+use record::Corner;
+use record::Record;
+ghost use mathlib.Core.Path.{_≡_};
+ghost use Prim.Native.Nat.{_+_, _≤_, _<_};
+ghost use lib.ListN.{length, set, getD};
+ghost use Rattle.surface.specs.Limits.{most-rows};
+ghost use Rattle.surface.specs.Rows.{rows};
+ghost use Rattle.surface.specs.Table.{Used};
+ghost use Rattle.surface.specs.Stage.{StageTable};
+ghost use Rattle.record.specs.Layout.{meant};
+ghost use Rattle.slots.specs.Slot.{next-slot, Whole, Under};
+ghost use Rattle.slots.specs.Marks.{Blank};
+ghost use Rattle.faults.specs.Tells.{Tells};
+ghost use Rattle.accept.specs.Noted.{NotedTo, Round, Near, TwoNear};
+ghost use Rattle.accept.specs.Test.{InBounds, Answered};
+
+// Whether a record's numbers and places can be those of a step to so many rows.
+fn in_bounds(r: Record, rows: usize, corners: usize) -> bool
+    requires { ⌜ rows ≤ most-rows ⌝ }
+    ensures { λ b. ⌜ Tells b (InBounds corners rows (meant r)) (¬ InBounds corners rows (meant r)) ⌝ }
+{
+    if r.removed.0 <= r.kept.0 {
+        return false;
+    }
+    if corners <= r.removed.0 as usize {
+        return false;
+    }
+    if r.later.place.0 <= r.earlier.place.0 {
+        return false;
+    }
+    if rows + 2 <= r.later.place.0 as usize {
+        return false;
+    }
+    if surface::MOST_ROWS < rows + 2 {
+        return false;
+    }
+    true
+}
+
+// Whether a table uses a corner.
+fn uses(t: &[u32], v: Corner) -> bool
+    requires { ⌜ Whole (now t) ⌝ }
+    ensures { λ r. ⌜ Tells r (Used (rows (now (t .entry))) (v .0)) (¬ Used (rows (now (t .entry))) (v .0)) ⌝ }
+{
+    let mut e: usize = 0;
+    while e < t.len() {
+        if t[e] == v.0 {
+            return true;
+        }
+        e += 1;
+    }
+    false
+}
+
+// Notes a slot by the corner next in its row, if it holds the kept one.
+fn note(t: &[u32], e: usize, kept: Corner, at: &mut [usize])
+    requires { ⌜ Whole (now t) ⌝ }
+    requires { ⌜ Under (now t) (length (now at)) ⌝ }
+    requires { ⌜ e < length (now t) ⌝ }
+    requires { ⌜ NotedTo (now t) (kept .0) e (now at) ⌝ }
+    ensures { λ _. ⌜ NotedTo (now (t .entry)) (kept .0) (e + 1) (now (at .exit)) ⌝ }
+{
+    if t[e] != kept.0 {
+        return;
+    }
+    let p = t[slots::next(e)] as usize;
+    at[p] = e + 1;
+}
+
+// Notes the rows round the kept corner.
+fn note_round(t: &[u32], kept: Corner, at: &mut [usize])
+    requires { ⌜ Whole (now t) ⌝ }
+    requires { ⌜ Under (now t) (length (now at)) ⌝ }
+    requires { ⌜ Blank (now at) ⌝ }
+    ensures { λ _. ⌜ Round (now (t .entry)) (kept .0) (now (at .exit)) ⌝ }
+{
+    let mut e: usize = 0;
+    while e < t.len() {
+        note(t, e, kept, at);
+        e += 1;
+    }
+}
+
+// Whether a corner is noted.
+fn near(at: &[usize], p: Corner) -> bool
+    ensures { λ r. ⌜ Tells r (Near (now (at .entry)) (p .0)) (¬ Near (now (at .entry)) (p .0)) ⌝ }
+{
+    let i = p.0 as usize;
+    if at.len() <= i {
+        return false;
+    }
+    if at[i] == 0 {
+        return false;
+    }
+    true
+}
+
+// Whether x and y are two corners, both noted.
+fn two_near(at: &[usize], x: Corner, y: Corner) -> bool
+    ensures { λ r. ⌜ Tells r (TwoNear (now (at .entry)) (x .0) (y .0)) (¬ TwoNear (now (at .entry)) (x .0) (y .0)) ⌝ }
+{
+    if x.0 == y.0 {
+        return false;
+    }
+    if !near(at, x) {
+        return false;
+    }
+    if !near(at, y) {
+        return false;
+    }
+    true
+}
+
+// Inner: x and y of a record that is accepted at a stage; at has the rows round its kept corner.
+pub fn accepts(t: &[u32], corners: usize, r: Record, at: &mut [usize]) -> Ends
+    requires { ⌜ StageTable corners (now t) ⌝ }
+    requires { ⌜ corners ≤ length (now at) ⌝ }
+    requires { ⌜ Blank (now at) ⌝ }
+    ensures { λ e. ⌜ Answered corners (rows (now (t .entry))) (meant r) e ⌝ }
+    ensures { λ _. ⌜ Round (now (t .entry)) (r .kept .0) (now (at .exit)) ⌝ }
+{
+    let kept = r.kept;
+    let removed = r.removed;
+    note_round(t, kept, at);
+    if !in_bounds(r, t.len() / 3, corners) {
+        return Ends::Nothing;
+    }
+    if uses(t, removed) {
+        return Ends::Nothing;
+    }
+    let e = ends::ends_of(r);
+    match e {
+        Ends::Nothing => e,
+        Ends::At(x, y) => {
+            if two_near(at, x, y) {
+                return e;
+            }
+            Ends::Nothing
+        }
+    }
+}
