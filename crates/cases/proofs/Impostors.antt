@@ -4,15 +4,19 @@ use mathlib.Core.Logic.{_≢_}
 use mathlib.Core.List.{List, [], _∷_}
 use Prim.Native.Nat.{ℕ, suc}
 use native.Mathlib.Omega.{arith}
-use lib.ListN.{getD, length}
+use lib.IntN.{pos}
+use lib.ListN.{getD}
 use Rattle.refusal.specs.declared.Refusal.{Refusal}
 use Rattle.length.specs.declared.Order.the-variants.{NoLimit}
+use Rattle.volume.specs.declared.Measured.the-variants.{Figure}
+use Rattle.volume.specs.Answer.{told}
+use Rattle.volume.specs.Report.{VolumeReport}
 use Rattle.thin.specs.declared.Thinning.{Thinning}
 use Rattle.thin.specs.declared.Thinning.the-variants.{Done, Refused}
 use Rattle.thin.specs.Thin.{Thinned}
 use Rattle.cases.specs.Skins.{T, T-corners, O, O-corners}
-use Rattle.cases.specs.Cases.{lent, O-last, O-log, cm-141, cm-142}
-use Rattle.cases.proofs.Starred.{case-T, case-O, case-141, case-142}
+use Rattle.cases.specs.Cases.{lent, cm-141, cm-142, O-one}
+use Rattle.cases.proofs.Starred.{case-T, case-O, case-141, case-142, weighs-one}
 
 done-refused : {X : Type 0} {k : ℕ} {r : Refusal} → Refused r ≡ Done k → X
 done-refused e = let z : _≡_ {A = ℕ} 0 1 = cc in absurd (omega arith)
@@ -59,3 +63,7 @@ limit-ignored k u m h = let e = done-count ((case-141 (Done (suc k)) u m h) .0) 
 -- one that contracts nothing under any limit
 pub limit-stops-all : (u m : List ℕ) → ¬ Thinned cm-142 O-corners O (lent 20) (Done 0) u m
 limit-stops-all u m h = let e = done-count ((case-142 (Done 0) u m h) .0) in omega arith
+
+-- one that takes rounded changes off a rounded start: O shows 0 at stage one, where 1 is right
+pub rounded-start : ¬ VolumeReport O-corners O-one (told (Figure (pos 0)))
+rounded-start h = let e : Figure (pos 0) ≡ Figure (pos 1) = (weighs-one .1) (Figure (pos 0)) h in let z : _≡_ {A = ℕ} 0 1 = cc in omega arith

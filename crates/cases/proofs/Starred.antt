@@ -9,11 +9,11 @@ use native.Mathlib.Omega.{arith}
 use lib.Dec.{T as So, leb, leb→le, le→leb}
 use lib.Ieee.{binary64, ofBits, ofFields, odd}
 use lib.Count.{trailingZeros}
-use lib.IntN.{ℤ}
+use lib.IntN.{ℤ, pos, negℤ}
 use lib.ListN.{length}
 use Rattle.surface.specs.Rows.{Row, row, rows, flat}
 use Rattle.surface.specs.Table.{edges}
-use Rattle.surface.specs.Stage.{Skin}
+use Rattle.surface.specs.Stage.{Skin, StageTable, InRange}
 use Rattle.surface.specs.Contract.{contract, renumber, replace, stays?, holds?}
 use Rattle.surface.specs.Record.{at, later, leaving, Record}
 use Rattle.refusal.specs.First.{First}
@@ -26,6 +26,13 @@ use Rattle.faults.specs.Order.{lines-after-counts, row-lines}
 use Rattle.faults.proofs.Opposites.{in-or-out, below-or-not, twice-or-apart}
 use Rattle.run.specs.Run.{Run}
 use Rattle.figure.specs.Corners.{squared-distance}
+use Rattle.figure.specs.Sum.{minor, determinant, sixfold}
+use Rattle.figure.specs.Rounding.{figure, change}
+use Rattle.volume.specs.declared.Measured.{Measured}
+use Rattle.volume.specs.declared.Measured.the-variants.{Figure}
+use Rattle.volume.specs.Answer.{told}
+use Rattle.volume.specs.Report.{VolumeReport, ChangeReport}
+use Rattle.volume.proofs.Main.{volume-one, change-one, volume-there, change-there}
 use Rattle.length.specs.declared.Order.{Order}
 use Rattle.length.specs.declared.Order.the-variants.{NoLimit}
 use Rattle.length.specs.Limit.{capped, reading, limit-of}
@@ -41,10 +48,10 @@ use Rattle.thin.specs.Order.{asked}
 use Rattle.thin.specs.Thin.{need, thin-lines, Thinned, ThinnedAs, refused, done}
 use Rattle.thin.proofs.Main.{thinned-one, thin-passes}
 use Rattle.surface.proofs.Testing.{every}
-use Rattle.computed.proofs.Passing.{row-fits, rows-below}
+use Rattle.computed.proofs.Passing.{row-fits, rows-below, passes, passes-stage}
 use Rattle.computed.proofs.Running.{Passing, least, over, Steps, stays-at, goes-on, run-sound, run-same}
 use Rattle.cases.specs.Skins.{T, T-corners, T-turned, O, O-corners, M, M-corners}
-use Rattle.cases.specs.Cases.{Case, thins, Holds, cm-141, cm-142, lent, O-last, O-log, starred, All, all-none, all-more}
+use Rattle.cases.specs.Cases.{Case, thins, weighs, changes, Holds, cm-141, cm-142, lent, O-last, O-log, O-one, O-two, starred, All, all-none, all-more}
 use Rattle.cases.proofs.Skinned.{T-skin, O-skin, M-skin}
 
 -- the listed outcome is the only one
@@ -140,6 +147,62 @@ turned-first =
 case-turned : Holds (thins NoLimit T-corners T-turned [] (Refused EdgeTwice) T-turned [])
 case-turned = only NoLimit (refused {e = EdgeTwice} turned-first refl refl refl)
 
+-- the stages of T and O as tables
+T-table : StageTable 4 T
+unfolding rows
+T-table = record { count = refl; stage = T-skin .stage }
+
+O-table : StageTable 6 O
+unfolding rows
+O-table = record { count = refl; stage = O-skin .stage }
+
+O-one-table : StageTable 6 O-one
+unfolding rows edges
+O-one-table = record { count = refl; stage = passes-stage 6 (rows O-one) tt }
+
+O-two-table : StageTable 6 O-two
+unfolding rows edges
+O-two-table = record { count = refl; stage = passes-stage 6 (rows O-two) tt }
+
+-- the figure of the sum is the only answer
+weighed : {n : ℕ} {xs : List ℤ} (t : List ℕ) {f : ℤ} → length xs ≡ 3 * n → InRange xs → StageTable n t → figure (sixfold xs (rows t)) ≡ f → (b : Measured) → VolumeReport xs t (told b) → b ≡ Figure f
+weighed t e r s h b p = volume-one b _ p (volume-there e r s) ∙ ap Figure h
+
+changed : {n : ℕ} {xs : List ℤ} (t u : List ℕ) {f : ℤ} → length xs ≡ 3 * n → InRange xs → StageTable n t → StageTable n u → change (sixfold xs (rows t)) (sixfold xs (rows u)) ≡ f →
+    (b : Measured) → ChangeReport xs t u (told b) → b ≡ Figure f
+changed t u e r s z h b p = change-one b _ p (change-there e r s z) ∙ ap Figure h
+
+weighs-T : Holds (weighs T-corners T (negℤ (pos 27000000)) (negℤ (pos 5)))
+unfolding rows sixfold determinant minor figure
+weighs-T = (refl, weighed T (T-skin .corners) (T-skin .in-range) T-table refl)
+
+weighs-O : Holds (weighs O-corners O (pos 8000000) (pos 1))
+unfolding rows sixfold determinant minor figure
+weighs-O = (refl, weighed O (O-skin .corners) (O-skin .in-range) O-table refl)
+
+pub weighs-one : Holds (weighs O-corners O-one (pos 4000000) (pos 1))
+unfolding rows sixfold determinant minor figure
+weighs-one = (refl, weighed O-one (O-skin .corners) (O-skin .in-range) O-one-table refl)
+
+weighs-two : Holds (weighs O-corners O-two (pos 2000000) (pos 0))
+unfolding rows sixfold determinant minor figure
+weighs-two = (refl, weighed O-two (O-skin .corners) (O-skin .in-range) O-two-table refl)
+
+changes-one : Holds (changes O-corners O O-one (negℤ (pos 1)))
+unfolding rows sixfold determinant minor figure
+changes-one = changed O O-one (O-skin .corners) (O-skin .in-range) O-table O-one-table refl
+
+changes-two : Holds (changes O-corners O-one O-two (pos 0))
+unfolding rows sixfold determinant minor figure
+changes-two = changed O-one O-two (O-skin .corners) (O-skin .in-range) O-one-table O-two-table refl
+
+changes-both : Holds (changes O-corners O O-two (negℤ (pos 1)))
+unfolding rows sixfold determinant minor figure
+changes-both = changed O O-two (O-skin .corners) (O-skin .in-range) O-table O-two-table refl
+
 -- every starred case holds
 pub all-starred : All Holds starred
-all-starred = all-more case-T (all-more case-turned (all-more case-O (all-more case-141 (all-more case-142 (all-more case-M all-none)))))
+all-starred =
+    all-more case-T (all-more case-turned (all-more case-O (all-more case-141 (all-more case-142 (all-more case-M
+    (all-more weighs-T (all-more weighs-O (all-more weighs-one (all-more weighs-two
+    (all-more changes-one (all-more changes-two (all-more changes-both all-none))))))))))))

@@ -2,13 +2,19 @@
 use mathlib.Core.Path.{_≡_}
 use mathlib.Core.List.{List, [], _∷_}
 use Prim.Native.Nat.{ℕ}
-use lib.IntN.{ℤ}
+use lib.IntN.{ℤ, pos, negℤ}
 use lib.Ieee.{binary64, ofBits}
 use lib.ListN.{replicate}
+use Rattle.surface.specs.Rows.{rows}
 use Rattle.refusal.specs.declared.Refusal.the-variants.{EdgeTwice}
 use Rattle.length.specs.declared.Order.{Order}
 use Rattle.length.specs.declared.Order.the-variants.{NoLimit, Limit}
 use Rattle.length.specs.declared.Length.the-variants.{Centimetres}
+use Rattle.figure.specs.Sum.{sixfold}
+use Rattle.volume.specs.declared.Measured.{Measured}
+use Rattle.volume.specs.declared.Measured.the-variants.{Figure}
+use Rattle.volume.specs.Answer.{told}
+use Rattle.volume.specs.Report.{VolumeReport, ChangeReport}
 use Rattle.thin.specs.declared.Thinning.{Thinning}
 use Rattle.thin.specs.declared.Thinning.the-variants.{Done, Refused}
 use Rattle.thin.specs.Thin.{Thinned}
@@ -17,10 +23,16 @@ use Rattle.cases.specs.Skins.{T, T-corners, T-turned, O, O-corners, M, M
 pub data Case : Type 0 where
   -- order, corners, table, log; then the answer, and what stands in table and log
   thins : Order → List ℤ → List ℕ → List ℕ → Thinning → List ℕ → List ℕ → Case
+  -- corners and table; then the exact sixfold sum and the figure
+  weighs : List ℤ → List ℕ → ℤ → ℤ → Case
+  -- corners, earlier and later table; then the change
+  changes : List ℤ → List ℕ → List ℕ → ℤ → Case
 
 -- every outcome that the call's contract allows is the one listed
 abbrev pub Holds : Case → Type 0
 Holds (thins o xs t l a t′ l′) = (b : Thinning) (u m : List ℕ) → Thinned o xs t l b u m → (b ≡ a) × (u ≡ t′) × (m ≡ l′)
+Holds (weighs xs t s f) = (sixfold xs (rows t) ≡ s) × ((b : Measured) → VolumeReport xs t (told b) → b ≡ Figure f)
+Holds (changes xs t u f) = (b : Measured) → ChangeReport xs t u (told b) → b ≡ Figure f
 
 -- limits of 141 and 142 cm
 abbrev pub cm-141 : Order
@@ -40,6 +52,13 @@ O-last = 0 ∷ 3 ∷ 4 ∷ 5 ∷ 3 ∷ 0 ∷ 5 ∷ 4 ∷ 3 ∷ 5 ∷ 0 ∷ 4 ∷
 abbrev pub O-log : List ℕ
 O-log = 0 ∷ 1 ∷ 0 ∷ 0 ∷ 1 ∷ 2 ∷ 3 ∷ 0 ∷ 4 ∷ 1 ∷ 0 ∷ 2 ∷ 0 ∷ 0 ∷ 2 ∷ 3 ∷ 2 ∷ 5 ∷ 2 ∷ 0 ∷ []
 
+-- O after its first step, and after its second, without the zeros
+abbrev pub O-one : List ℕ
+O-one = 0 ∷ 2 ∷ 3 ∷ 0 ∷ 3 ∷ 4 ∷ 5 ∷ 2 ∷ 0 ∷ 5 ∷ 3 ∷ 2 ∷ 5 ∷ 4 ∷ 3 ∷ 5 ∷ 0 ∷ 4 ∷ []
+
+abbrev pub O-two : List ℕ
+O-two = 0 ∷ 3 ∷ 4 ∷ 5 ∷ 3 ∷ 0 ∷ 5 ∷ 4 ∷ 3 ∷ 5 ∷ 0 ∷ 4 ∷ []
+
 abbrev pub starred : List Case
 starred =
     thins NoLimit T-corners T [] (Done 0) T []
@@ -48,6 +67,13 @@ starred =
     ∷ thins cm-141 O-corners O (lent 20) (Done 0) O (lent 20)
     ∷ thins cm-142 O-corners O (lent 20) (Done 2) O-last O-log
     ∷ thins NoLimit M-corners M (lent 30) (Done 0) M (lent 30)
+    ∷ weighs T-corners T (negℤ (pos 27000000)) (negℤ (pos 5))
+    ∷ weighs O-corners O (pos 8000000) (pos 1)
+    ∷ weighs O-corners O-one (pos 4000000) (pos 1)
+    ∷ weighs O-corners O-two (pos 2000000) (pos 0)
+    ∷ changes O-corners O O-one (negℤ (pos 1))
+    ∷ changes O-corners O-one O-two (pos 0)
+    ∷ changes O-corners O O-two (negℤ (pos 1))
     ∷ []
 
 -- all of them
