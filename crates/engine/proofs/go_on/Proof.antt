@@ -1,3 +1,4 @@
+-- After each step the table and the log are what the steps so far have made (`Going`); rows fall by two.
 use mathlib.Core.Path.{_≡_, refl, sym, _∙_, ap}
 use Prim.Native.Nat.{ℕ, _+_, _-_, _*_, _≤_}
 use lib.ListN.{length}

@@ -1,3 +1,4 @@
+-- The chains are those of a stage, so the search may be asked.
 use Rattle.surface.specs.Limits.{most-corners}
 use Rattle.slots.proofs.Marks.{no-mark}
 use Rattle.engine.proofs.Charts.{table-under, table-slots}

@@ -1,3 +1,4 @@
+-- The step on the front; what lies past it is not lent.
 use mathlib.Core.Path.{sym}
 use lib.Seq.{length-take-le}
 use Rattle.engine.proofs.Stepping.{step-in}

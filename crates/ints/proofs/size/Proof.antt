@@ -1,3 +1,4 @@
+-- Below zero, one short of the size fits where the size may not (`short`).
 use mathlib.Core.Path.{_≡_, refl, sym, _∙_, ap}
 use Prim.Native.Nat.{_^_, _-_}
 use lib.IntN.{natAbs, pos}
@@ -10,8 +11,6 @@ use native.Mathlib.Omega.{arith}
 use borrow.Author.Needs.{needs}
 use Rattle.ints.proofs.size.Statement.{statement}
 use Rattle.ints.proofs.size.Tie as tie
-use Rattle.ints.proofs.size.Reads as reads
-use Rattle.ints.proofs.size.Lts as lts
 
 add-short : tie.Need-add-short
 add-short c = fits w64 (one-on (c .before .args .z) (c .before .fits .z) (below (c .before .args .z) (c .before .fits .z) (sym (ap (λ k. ltZ k (pos 0)) (toZ-ofZ w64 (c .before .args .z) (c .before .fits .z))) ∙ c .if1 .taken))) (omega arith)

@@ -1,11 +1,10 @@
+-- Four stores are four settings of the list.
 use native.Mathlib.Numerals.{towards-suc}
 use lib.ListN.{length-set}
 use native.Mathlib.Omega.{arith}
 use borrow.Author.Needs.{needs}
 use Rattle.record.proofs.write_leaving.Statement.{statement}
 use Rattle.record.proofs.write_leaving.Tie as tie
-use Rattle.record.proofs.write_leaving.Reads as reads
-use Rattle.record.proofs.write_leaving.Lts as lts
 
 mul-log : tie.Need-mul-log
 mul-log c = search needs

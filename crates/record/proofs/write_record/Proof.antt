@@ -1,3 +1,4 @@
+-- The ten numbers, in the order of `numbers`.
 use mathlib.Core.Path.{_≡_, refl, sym, _∙_, ap}
 use mathlib.Core.List.{List, [], _∷_}
 use Prim.Native.Nat.{ℕ, _+_}
@@ -8,9 +9,6 @@ use native.Mathlib.Omega.{arith}
 use borrow.Author.Needs.{needs}
 use Rattle.record.proofs.write_record.Statement.{statement}
 use Rattle.record.proofs.write_record.Tie as tie
-use Rattle.record.proofs.write_record.Reads as reads
-use Rattle.record.proofs.write_record.Lts as lts
-use Rattle.record.proofs.write_leaving.Reads as write-leaving-reads
 
 mul-log : tie.Need-mul-log
 mul-log c = search needs

@@ -1,3 +1,4 @@
+-- The stored table computes to the one that follows the rule: one test over the whole.
 use Rattle.ring.specs.Ring.{size, number-at, numbers-from, ring}
 use Rattle.ring.proofs.Rule.{ring-at}
 use native.Mathlib.Omega.{arith}

@@ -1,3 +1,4 @@
+-- Zeros are written from place i on; the front stays.
 use lib.ListN.{length, length-set}
 use Prim.Native.Nat.{_-_}
 use Rattle.step.proofs.Zeros.{Cleared, clear-start, clear-more, clear-end}
@@ -5,8 +6,6 @@ use native.Mathlib.Omega.{arith}
 use borrow.Author.Needs.{needs}
 use Rattle.step.proofs.clear.Statement.{statement}
 use Rattle.step.proofs.clear.Tie as tie
-use Rattle.step.proofs.clear.Reads as reads
-use Rattle.step.proofs.clear.Lts as lts
 
 abbrev Inv-loop : tie.InvT-loop
 Inv-loop t₀ i k₀ t k = Cleared i t₀ k t

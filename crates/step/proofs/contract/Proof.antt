@@ -1,14 +1,10 @@
+-- The two rows that leave are found, the others moved up, the rest cleared: that is the step (`step-done`).
 use mathlib.Core.Path.{_≡_, refl}
 use Rattle.step.proofs.Stepping.{table-most, some-first, some-second, step-done}
 use native.Mathlib.Omega.{arith}
 use borrow.Author.Needs.{needs}
 use Rattle.step.proofs.contract.Statement.{statement}
 use Rattle.step.proofs.contract.Tie as tie
-use Rattle.step.proofs.contract.Reads as reads
-use Rattle.step.proofs.contract.Lts as lts
-use Rattle.step.proofs.clear.Reads as clear-reads
-use Rattle.step.proofs.move_up.Reads as move-up-reads
-use Rattle.step.proofs.next_leaving.Reads as next-leaving-reads
 
 next-leaving-requires : tie.Need-next-leaving-requires
 next-leaving-requires c κs = (table-most (c .before .before .pre .table), some-first (c .before .before .args .t .now) (c .before .before .args .kept .0) (c .before .before .args .removed .0) (c .before .before .pre))

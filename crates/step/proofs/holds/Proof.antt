@@ -1,3 +1,4 @@
+-- Each test is a number of the row.
 use mathlib.Core.Path.{_≡_, refl}
 use borrow.Author.Tests.{eq-eqb, ne-eqb}
 use Rattle.step.specs.Flat.{has}
@@ -5,8 +6,6 @@ use native.Mathlib.Omega.{arith}
 use borrow.Author.Needs.{needs}
 use Rattle.step.proofs.holds.Statement.{statement}
 use Rattle.step.proofs.holds.Tie as tie
-use Rattle.step.proofs.holds.Reads as reads
-use Rattle.step.proofs.holds.Lts as lts
 
 returns : tie.Need-returns
 unfolding has

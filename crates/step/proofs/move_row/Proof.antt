@@ -1,3 +1,4 @@
+-- The row leaves, or is written with the removed number replaced.
 use mathlib.Core.Path.{_≡_, refl, sym, _∙_, ap}
 use mathlib.Core.List.{List, [], _∷_}
 use lib.Seq.{sets}
@@ -6,11 +7,6 @@ use native.Mathlib.Omega.{arith}
 use borrow.Author.Needs.{needs}
 use Rattle.step.proofs.move_row.Statement.{statement}
 use Rattle.step.proofs.move_row.Tie as tie
-use Rattle.step.proofs.move_row.Reads as reads
-use Rattle.step.proofs.move_row.Lts as lts
-use Rattle.step.proofs.row_leaves.Reads as row-leaves-reads
-use Rattle.step.proofs.swapped.Reads as swapped-reads
-use Rattle.step.proofs.write_row.Reads as write-row-reads
 
 mul-x : tie.Need-mul-x
 mul-x c = search needs

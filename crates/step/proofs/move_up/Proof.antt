@@ -1,3 +1,4 @@
+-- What has moved, with what is left to move, is the whole moved up (`turn`).
 use mathlib.Core.Path.{_≡_, refl, sym, _∙_, ap}
 use mathlib.Core.List.{List, _++_}
 use Prim.Native.Nat.{ℕ, _+_, _-_, _≤_}
@@ -9,9 +10,6 @@ use native.Mathlib.Omega.{arith}
 use borrow.Author.Needs.{needs}
 use Rattle.step.proofs.move_up.Statement.{statement}
 use Rattle.step.proofs.move_up.Tie as tie
-use Rattle.step.proofs.move_up.Reads as reads
-use Rattle.step.proofs.move_up.Lts as lts
-use Rattle.step.proofs.move_row.Reads as move-row-reads
 
 abbrev Inv-loop : tie.InvT-loop
 Inv-loop t₀ a b i₀ j₀ t i j = (j ≤ i) × (i ≤ length t) × (length t ≡ length t₀) × (take j t ++ after a b (drop i t) ≡ after a b t₀)

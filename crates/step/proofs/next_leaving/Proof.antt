@@ -1,3 +1,4 @@
+-- The rows passed stay, and some row further on leaves, so the walk ends inside the table.
 use mathlib.Core.Path.{_≡_, refl, sym, _∙_, ap}
 use Prim.Native.Nat.{ℕ, _+_, _-_, _*_, _≤_, _<_}
 use lib.ListN.{length, getD}
@@ -12,9 +13,6 @@ use native.Mathlib.Omega.{arith}
 use borrow.Author.Needs.{needs}
 use Rattle.step.proofs.next_leaving.Statement.{statement}
 use Rattle.step.proofs.next_leaving.Tie as tie
-use Rattle.step.proofs.next_leaving.Reads as reads
-use Rattle.step.proofs.next_leaving.Lts as lts
-use Rattle.step.proofs.row_leaves.Reads as row-leaves-reads
 
 abbrev Inv-loop : tie.InvT-loop
 Inv-loop t a b p₀ p = (p₀ ≤ p) × (length t ≤ 3 * most-rows) × SomeLeaves a b t p × ((q : ℕ) → p₀ ≤ q → q < p → Stays a b (row-at t q))

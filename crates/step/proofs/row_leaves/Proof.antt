@@ -1,12 +1,10 @@
+-- Both tests by `holds`.
 use mathlib.Core.Path.{_≡_, refl, sym, _∙_}
 use Rattle.step.specs.Flat.{has}
 use native.Mathlib.Omega.{arith}
 use borrow.Author.Needs.{needs}
 use Rattle.step.proofs.row_leaves.Statement.{statement}
 use Rattle.step.proofs.row_leaves.Tie as tie
-use Rattle.step.proofs.row_leaves.Reads as reads
-use Rattle.step.proofs.row_leaves.Lts as lts
-use Rattle.step.proofs.holds.Reads as holds-reads
 
 holds-requires : tie.Need-holds-requires
 holds-requires c κs = search needs

@@ -1,3 +1,4 @@
+-- By whether the number is the removed one.
 use mathlib.Core.Path.{_≡_, refl}
 use borrow.Author.Tests.{eq-eqb, ne-eqb}
 use Rattle.step.specs.Flat.{swap}
@@ -5,8 +6,6 @@ use native.Mathlib.Omega.{arith}
 use borrow.Author.Needs.{needs}
 use Rattle.step.proofs.swapped.Statement.{statement}
 use Rattle.step.proofs.swapped.Tie as tie
-use Rattle.step.proofs.swapped.Reads as reads
-use Rattle.step.proofs.swapped.Lts as lts
 
 returns : tie.Need-returns
 unfolding swap

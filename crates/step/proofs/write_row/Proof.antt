@@ -1,11 +1,10 @@
+-- Three stores are three settings of the list.
 use native.Mathlib.Numerals.{towards-suc}
 use lib.ListN.{length-set}
 use native.Mathlib.Omega.{arith}
 use borrow.Author.Needs.{needs}
 use Rattle.step.proofs.write_row.Statement.{statement}
 use Rattle.step.proofs.write_row.Tie as tie
-use Rattle.step.proofs.write_row.Reads as reads
-use Rattle.step.proofs.write_row.Lts as lts
 
 mul-t : tie.Need-mul-t
 mul-t c = search needs

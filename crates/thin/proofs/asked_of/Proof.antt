@@ -1,3 +1,4 @@
+-- By the reading.
 use mathlib.Core.Path.{_≡_, refl, sym, ap}
 use Rattle.thin.specs.Order.{asked-by}
 use native.Mathlib.Omega.{arith}

@@ -1,3 +1,4 @@
+-- By what is asked.
 use mathlib.Core.Path.{_≡_, refl, sym, _∙_, ap}
 use Rattle.faults.proofs.Tells.{tells-true, tells-false}
 use Rattle.thin.proofs.Judging.{under-usable}

@@ -1,3 +1,4 @@
+-- Each order by what it asks; the limit reader gives a fair bound.
 use mathlib.Core.Path.{_≡_, refl, sym, _∙_, ap}
 use Rattle.thin.specs.Order.{asked-by}
 use Rattle.thin.proofs.Engaged.{fair-limit}

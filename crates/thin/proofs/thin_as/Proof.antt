@@ -1,3 +1,4 @@
+-- Refused by the verdict, or the engine from 0.
 use mathlib.Core.Path.{_≡_, refl, sym, _∙_, ap}
 use lib.ListN.{length}
 use Rattle.thin.proofs.Engaged.{thin-ready, thin-measured, thin-done, thin-refused}

@@ -1,3 +1,4 @@
+-- The place stays inside the table.
 use mathlib.Core.Path.{_≡_, refl, sym, _∙_, ap}
 use Prim.Native.Nat.{_-_, _≤_}
 use lib.ListN.{length, length-set}

@@ -1,3 +1,4 @@
+-- The place stays inside the list.
 use Prim.Native.Nat.{_-_, _≤_}
 use lib.ListN.{length}
 use native.Mathlib.Omega.{arith}
