@@ -6,7 +6,7 @@ ghost use Rattle.surface.specs.Stage.{InRange};
 ghost use Rattle.faults.specs.Words.{OutOfRange};
 ghost use Rattle.faults.specs.Tells.{Tells};
 
-// Whether a coordinate lies outside -50,000 to 50,000.
+// Whether a coordinate lies outside the range, on either side.
 fn far(x: i32) -> bool
     ensures { λ r. ⌜ Tells r (most-coordinate < natAbs x) (natAbs x ≤ most-coordinate) ⌝ }
 {

@@ -2,7 +2,7 @@
 ghost use Rattle.faults.specs.Counts.{RowsFit, CornersFit, TableFits, CoordinatesFit, CountsFit, CountsFitAt};
 ghost use Rattle.faults.specs.Tells.{Tells};
 
-// Inner: whether so many rows are 4 to 1,024.
+// Inner: whether a table may have so many rows.
 pub fn rows_fit(rows: usize) -> bool
     ensures { λ r. ⌜ Tells r (RowsFit rows) (¬ RowsFit rows) ⌝ }
 {
@@ -15,7 +15,7 @@ pub fn rows_fit(rows: usize) -> bool
     true
 }
 
-// Inner: whether so many corners are 4 to 514.
+// Inner: whether there may be so many corners.
 pub fn corners_fit(n: usize) -> bool
     ensures { λ r. ⌜ Tells r (CornersFit n) (¬ CornersFit n) ⌝ }
 {

@@ -68,7 +68,8 @@ module _ (first : Bool) (n : ℕ) (T : List Row) where
 
   -- none of 5 to 8
   module _ (closed : Closed n T) where
-    past-8 : (v : Verdict) → First (only first (CornerUnused when Unused n T) ((RingsMany when ManyRings T) ∷ (NotConnected when Parted T) ∷ [])) v → First (row-lines first n T) v
+    past-8 : (v : Verdict) → First (only first (CornerUnused when Unused n T) ((RingsMany when ManyRings T) ∷ (NotConnected when Parted T) ∷ [])) v →
+        First (row-lines first n T) v
     unfolding First row-lines
     past-8 v f =
         inr (
@@ -146,6 +147,16 @@ pub after-2 : (n : ℕ) (t : List ℕ) (v : Verdict) → CountsFit n t → First
 unfolding lines
 after-2 n t v fit f = first-after _ _ v (λ n. n fit) f
 
+-- passing gives a skin, or a stage
+pub pass-skin : {xs : List ℤ} {t : List ℕ} → CheckedFirst xs t Passes → Skin (corners xs) (rows t) xs
+pass-skin k = k .skin refl
+
+pub pass-stage-at : {xs : List ℤ} {t : List ℕ} → CheckedStageAt xs t Passes → Stage (corners xs) (rows t) × InRange xs
+pass-stage-at k = (k .stage refl, k .in-range refl)
+
+pub pass-stage : {n : ℕ} {t : List ℕ} → CheckedStage n t Passes → Stage n (rows t)
+pass-stage k = k .stage refl
+
 -- no second verdict
 pub one-first : {xs : List ℤ} {t : List ℕ} {v w : Verdict} → CheckedFirst xs t v → CheckedFirst xs t w → v ≡ w
 one-first k l = first-one _ (k .holds) (l .holds)
@@ -199,5 +210,6 @@ unfolding Rising lines-at lines-after-counts row-lines
 lines-rise xs t s = (omega arith, refl, (omega arith, refl, (omega arith, refl, (omega arith, refl, (omega arith, refl, (omega arith, refl, (omega arith, refl, (omega arith, refl, tt))))))))
 
 -- of two tables over the same coordinates: the lesser verdict is the first that holds of either
-pub either-stage : (xs : List ℤ) (t s : List ℕ) (v w : Verdict) → First (lines-at false xs t) v → First (lines-at false xs s) w → First (either (lines-at false xs t) (lines-at false xs s)) (lesser-of v w)
+pub either-stage : (xs : List ℤ) (t s : List ℕ) (v w : Verdict) → First (lines-at false xs t) v → First (lines-at false xs s) w →
+    First (either (lines-at false xs t) (lines-at false xs s)) (lesser-of v w)
 either-stage xs t s v w f g = lesser-first 0 (lines-at false xs t) (lines-at false xs s) (lines-rise xs t s) v w f g

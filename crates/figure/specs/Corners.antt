@@ -24,3 +24,7 @@ gap-bound = 2 * most-coordinate
 -- the squared distance of two corners
 unfoldable pub squared-distance : List ℤ → ℕ → ℕ → ℕ
 squared-distance xs a b = gap xs a b 0 * gap xs a b 0 + gap xs a b 1 * gap xs a b 1 + gap xs a b 2 * gap xs a b 2
+
+-- the edge from a to b is within a limit of L centimetres: its squared length is at most the squared limit
+abbrev pub Short : List ℤ → ℕ → ℕ → ℕ → Type 0
+Short xs L a b = squared-distance xs a b ≤ L * L

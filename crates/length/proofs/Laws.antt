@@ -1,16 +1,20 @@
 -- A typed length has one reading: unusable exactly when 01 says so, and else at most `most-limit`.
-use mathlib.Core.Path.{_≡_, refl, sym, _∙_}
-use mathlib.Core.Logic.{_≢_}
+use mathlib.Core.Path.{_≡_, refl, sym, _∙_, ap}
+use mathlib.Core.Logic.{_≢_, _⊎_, inl, inr}
 use mathlib.Core.Bool.{true, false}
+use mathlib.Core.List.{[], _∷_}
 use Prim.Native.Nat.{ℕ, zero, suc, _≤_, _<_}
 use native.Mathlib.Decide.{decLe}
 use native.Mathlib.Omega.{arith}
-use lib.IntN.{ℤ}
+use lib.IntN.{ℤ, pos}
 use lib.Ieee.{Float, nan, inf, fin}
+use Rattle.refusal.specs.Told.{done, refused}
+use Rattle.refusal.specs.declared.Refusal.the-variants.{LimitUnusable}
 use Rattle.length.specs.declared.Length.{Length}
 use Rattle.length.specs.declared.Reading.{Reading}
 use Rattle.length.specs.declared.Reading.the-variants.{Whole, Unusable}
 use Rattle.length.specs.Limit.{Typed, typed, rounded, most-limit, capped, reading, limit-of, Unfit, no-number, infinite, below-zero, above}
+use Rattle.length.specs.Answer.{told}
 use Rattle.length.proofs.Quotient.{capped-usable, capped-above}
 
 -- no second answer meets the words of `read_limit`
@@ -70,7 +74,7 @@ unusable t (infinite f) = rw f
 unusable t (below-zero {m} {e} f h) = rw f (minus (t .num) (t .den) m e h)
 unusable t (above f h) = rw f (capped-above h)
 
--- refusal 1 is given exactly when the limit is unusable in 01's words
+-- the limit is unusable exactly when 01's words say so
 pub unusable-exactly : (l : Length) → (limit-of l ≡ Unusable → Unfit (typed l)) × (Unfit (typed l) → limit-of l ≡ Unusable)
 unfolding limit-of
 unusable-exactly l = (unfit (typed l) (typed l .figure) refl, unusable (typed l))
@@ -79,3 +83,13 @@ unusable-exactly l = (unfit (typed l) (typed l .figure) refl, unusable (typed l)
 pub limit-most : (l : Length) {c : ℕ} → limit-of l ≡ Whole c → c ≤ most-limit
 unfolding limit-of
 limit-most l = most (typed l .num) (typed l .den) (typed l .figure)
+
+-- the answer tells 1 exactly when the limit is unusable in 01's words, and else 0 and the whole centimetres
+pub limit-told : (l : Length) →
+    (Unfit (typed l) × (told (limit-of l) ≡ refused LimitUnusable)) ⊎ ((¬ Unfit (typed l)) × (c : ℕ) × (limit-of l ≡ Whole c) × (told (limit-of l) ≡ done (pos c ∷ [])))
+limit-told l = go (limit-of l) refl
+  where
+    go : (r : Reading) → limit-of l ≡ r →
+        (Unfit (typed l) × (told (limit-of l) ≡ refused LimitUnusable)) ⊎ ((¬ Unfit (typed l)) × (c : ℕ) × (limit-of l ≡ Whole c) × (told (limit-of l) ≡ done (pos c ∷ [])))
+    go Unusable e = inl ((unusable-exactly l) .0 e, ap told e)
+    go (Whole c) e = inr (λ u. usable (sym ((unusable-exactly l) .1 u) ∙ e), c, e, ap told e)

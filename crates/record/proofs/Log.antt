@@ -10,7 +10,7 @@ use Rattle.surface.specs.Rows.{Row, row}
 use Rattle.surface.specs.Record.{Record}
 use Rattle.record.specs.Layout.{width, three, numbers, log-of, record-at, first-records, records}
 
-numbers-length : (k : Record) → length (numbers k) ≡ width
+pub numbers-length : (k : Record) → length (numbers k) ≡ width
 numbers-length k = go (k .row-1) (k .row-2)
   where
     go : (r z : Row) → length (k .kept ∷ k .removed ∷ k .place-1 ∷ (three r ++ (k .place-2 ∷ three z))) ≡ width

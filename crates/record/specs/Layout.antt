@@ -1,4 +1,5 @@
 -- A record as it stands in a log: ten numbers. Nothing else lays a record out.
+use mathlib.Core.Path.{_≡_}
 use mathlib.Core.List.{List, [], _∷_, _++_}
 use Prim.Native.Nat.{ℕ, zero, suc, _+_, _/_}
 use lib.ListN.{length, drop, getD}
@@ -8,6 +9,7 @@ use Rattle.record.specs.declared.Corner.{Corner}
 use Rattle.record.specs.declared.Place.{Place}
 use Rattle.record.specs.declared.Leaving.{Leaving}
 use Rattle.record.specs.declared.Record.{Record}
+use Rattle.record.specs.declared.Edge.{Edge}
 
 -- a record is ten numbers
 abbrev pub width : ℕ
@@ -46,6 +48,11 @@ record-at l i = record {
   place-2 = getD l (i + 6) 0;
   row-2 = row (getD l (i + 7) 0) (getD l (i + 8) 0) (getD l (i + 9) 0);
 }
+
+-- e has kept and removed of the record k
+pub record IsEdge (k : surface.Record) (e : Edge) : Type 0 where
+  pub kept : e .kept .0 ≡ k .kept
+  pub removed : e .removed .0 ≡ k .removed
 
 -- the first k records of a log
 unfoldable pub first-records : ℕ → List ℕ → List surface.Record

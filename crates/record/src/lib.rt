@@ -4,7 +4,7 @@ ghost use mathlib.Core.List.{_∷_, []};
 ghost use Prim.Native.Nat.{_+_, _≤_};
 ghost use lib.ListN.{length};
 ghost use lib.Seq.{sets};
-ghost use Rattle.record.specs.Layout.{width, numbers, meant, record-at};
+ghost use Rattle.record.specs.Layout.{width, numbers, meant, record-at, IsEdge};
 
 // A corner number.
 pub struct Corner(pub u32);
@@ -26,6 +26,12 @@ pub struct Record {
     pub removed: Corner,
     pub earlier: Leaving,
     pub later: Leaving,
+}
+
+// The edge that a step contracted.
+pub struct Edge {
+    pub kept: Corner,
+    pub removed: Corner,
 }
 
 // Numbers a record.
@@ -53,6 +59,19 @@ pub fn read_record(log: &[u32], i: usize) -> Record
         removed: Corner(log[i + 1]),
         earlier: earlier,
         later: later,
+    }
+}
+
+// Inner: reads kept and removed alone of the record whose numbers stand in the log from place i on.
+pub fn read_edge(log: &[u32], i: usize) -> Edge
+    requires { ⌜ i + width ≤ length (now log) ⌝ }
+    ensures { λ e. ⌜ IsEdge (record-at (now (log .entry)) i) e ⌝ }
+{
+    let kept = Corner(log[i]);
+    let removed = Corner(log[i + 1]);
+    Edge {
+        kept: kept,
+        removed: removed,
     }
 }
 

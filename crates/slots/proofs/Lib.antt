@@ -1,3 +1,4 @@
 pub mod Slots
 pub mod Chain
 pub mod Marks
+pub mod Staged

@@ -17,6 +17,12 @@ zeros-set (suc x ∷ m) zero h k = absurd (omega arith)
 zeros-set (zero ∷ m) (suc e) h k = ap suc (zeros-set m e (omega arith) k)
 zeros-set (suc x ∷ m) (suc e) h k = zeros-set m e (omega arith) k
 
+pub zeros-blank : (m : List ℕ) → ((k : ℕ) → getD m k 0 ≡ 0) → zeros m ≡ length m
+unfolding zeros
+zeros-blank [] h = refl
+zeros-blank (zero ∷ m) h = ap suc (zeros-blank m (λ k. h (suc k)))
+zeros-blank (suc x ∷ m) h = let z = h 0 in absurd (omega arith)
+
 pub mark-new : (m : List ℕ) (e k : ℕ) → e < length m → k ≡ e → getD (set m e 1) k 0 ≢ 0
 mark-new m e k h q z = let r = getD-set-same m e 1 0 h in let s : getD (set m e 1) e 0 ≡ 0 = ap (λ (i : ℕ). getD (set m e 1) i 0) (sym q) ∙ z in omega arith
 

@@ -2,7 +2,7 @@
 use mathlib.Core.Path.{_≡_, refl, sym, _∙_, ap₂}
 use mathlib.Core.Logic.{_⊎_, inl, inr}
 use mathlib.Core.List.{List, [], _∷_}
-use Prim.Native.Nat.{ℕ, zero, suc, _+_, _-_, _*_, _<_, _%_, _/_}
+use Prim.Native.Nat.{ℕ, zero, suc, _+_, _-_, _*_, _≤_, _<_, _%_, _/_}
 use native.Mathlib.Decide.{ℕ-discrete, decLt}
 use native.Mathlib.Omega.{arith}
 use borrow.Author.Tests.{eq-eqb, ne-eqb}
@@ -11,7 +11,7 @@ use Rattle.surface.specs.Lists.{_∈_, Distinct}
 use Rattle.surface.specs.Rows.{row, rows, Turned, turn-0, turn-1, turn-2}
 use Rattle.surface.specs.Table.{Follows, Edge, Used, _⇒_, edges}
 use Rattle.surface.proofs.Flat.{rows-at, at-place, place-of, places-differ}
-use Rattle.slots.specs.Slot.{next-slot, At}
+use Rattle.slots.specs.Slot.{next-slot, Under, At}
 
 pub next-back : (e : ℕ) → e % 3 ≡ 2 → next-slot e ≡ e - 2
 unfolding next-slot
@@ -109,6 +109,10 @@ module _ (t : List ℕ) (w : length t % 3 ≡ 0) where
   pub at-used : (e : ℕ) → e < length t → Used (rows t) (getD t e 0)
   at-used e h = (getD t (next-slot e) 0, at-edge e h)
 
+-- numbers below n are below what is no less
+pub under-more : {t : List ℕ} {n m : ℕ} → Under t n → n ≤ m → Under t m
+under-more u h = record { under = λ e i. let k = u .under e i in omega arith }
+
 -- the directed edges of a table stand in the order of its slots
 pub edges-length : (t : List ℕ) → length t % 3 ≡ 0 → length (edges (rows t)) ≡ length t
 unfolding edges rows
@@ -135,7 +139,8 @@ edges-at (a ∷ b ∷ c ∷ t) (suc (suc zero)) w h = refl
 edges-at (a ∷ b ∷ c ∷ t) (suc (suc (suc e))) w h = rw (next-suc e) (edges-at t e (omega arith) (omega arith))
 
 module _ (t : List ℕ) (w : length t % 3 ≡ 0) where
-  pub same-edge : (e f : ℕ) → e < length t → f < length t → getD t e 0 ≡ getD t f 0 → getD t (next-slot e) 0 ≡ getD t (next-slot f) 0 → getD (edges (rows t)) e (0 ⇒ 0) ≡ getD (edges (rows t)) f (0 ⇒ 0)
+  pub same-edge : (e f : ℕ) → e < length t → f < length t → getD t e 0 ≡ getD t f 0 → getD t (next-slot e) 0 ≡ getD t (next-slot f) 0 →
+      getD (edges (rows t)) e (0 ⇒ 0) ≡ getD (edges (rows t)) f (0 ⇒ 0)
   same-edge e f h k a b = edges-at t e w h ∙ ap₂ (λ x y. x ⇒ y) a b ∙ sym (edges-at t f w k)
 
   -- where each directed edge occurs once, a slot is known by its directed edge

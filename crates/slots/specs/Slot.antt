@@ -16,7 +16,7 @@ next-slot e = cond (eqb (e % 3) 2) (e - 2) (e + 1)
 abbrev pub most-slots : ℕ
 most-slots = 3 * most-rows
 
--- a flat table of whole rows, of which there are at most 1,024
+-- a flat table of whole rows, of which there are at most as many as there may be
 pub record Whole (t : List ℕ) : Type 0 where
   pub threes : length t % 3 ≡ 0
   pub most : length t ≤ most-slots

@@ -88,8 +88,10 @@ module _ (t : List ℕ) (a b : ℕ) (g : Ready t a b) where
           ∙ (λ k. at (e .place .0) ((ei ∙ sym (first .stands)) k) ∷ at (l .place .0) ((ej ∙ sym (second .stands)) k) ∷ [])
 
       pub step-done : (kept removed : Corner) → kept .0 ≡ a → removed .0 ≡ b → (j : ℕ) (t₁ t₂ : List ℕ) → j ≤ length t → length t₁ ≡ length t → take j t₁ ≡ after a b t →
-          t₂ ≡ take j t₁ ++ replicate (length t₁ - j) 0 → Stepped t (record { kept = kept; removed = removed; earlier = e; later = l }) t₂
+          t₂ ≡ take j t₁ ++ replicate (length t₁ - j) 0 → Stepped t a b (record { kept = kept; removed = removed; earlier = e; later = l }) t₂
       step-done kept removed ek er j t₁ t₂ hj same moved cleared = record {
+        kept-is = ek;
+        removed-is = er;
         replays = record {
           lower = rw (ek, er) (g .rises);
           meets = rw (ek, er) (g .meets);

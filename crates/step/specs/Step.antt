@@ -38,7 +38,9 @@ pub record NextLeaving (a b : ℕ) (t : List ℕ) (i : ℕ) (r : Leaving) : Type
   pub leaves : ¬ Stays a b (row-at t (r .place .0))
   pub passed : (p : ℕ) → i ≤ p → p < r .place .0 → Stays a b (row-at t p)
 
--- the step from t to t′ with the record r: its table in front, zeros for the two rows that left
-pub record Stepped (t : List ℕ) (r : Record) (t′ : List ℕ) : Type 0 where
+-- the step of the edge from a up to b, from t to t′ with the record r: its table in front, zeros for the two rows that left
+pub record Stepped (t : List ℕ) (a b : ℕ) (r : Record) (t′ : List ℕ) : Type 0 where
+  pub kept-is : r .kept .0 ≡ a
+  pub removed-is : r .removed .0 ≡ b
   pub replays : Replays (rows t) (meant r) (rows (take (length t - 6) t′))
   pub cleared : drop (length t - 6) t′ ≡ replicate 6 0

@@ -115,7 +115,7 @@ fn next_leaving(t: &[u32], from: Place, a: u32, b: u32) -> Leaving
 // Inner: contracts the edge in place, and tells its record.
 pub fn contract(t: &mut [u32], kept: Corner, removed: Corner) -> Record
     requires { ⌜ Ready (now t) (kept .0) (removed .0) ⌝ }
-    ensures { λ r. ⌜ Stepped (now (t .entry)) r (now (t .exit)) ⌝ }
+    ensures { λ r. ⌜ Stepped (now (t .entry)) (kept .0) (removed .0) r (now (t .exit)) ⌝ }
 {
     let earlier = next_leaving(t, Place(0), kept.0, removed.0);
     let later = next_leaving(t, Place(earlier.place.0 + 1), kept.0, removed.0);

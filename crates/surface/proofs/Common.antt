@@ -10,7 +10,7 @@ use Rattle.surface.specs.Lists.{_∈_, Distinct, none, more, Exactly}
 use Rattle.surface.specs.Rows.{Row}
 use Rattle.surface.specs.Table.{Follows, Edge}
 use Rattle.surface.specs.Stage.{Stage}
-use Rattle.surface.specs.Link.{Meets, Opposite}
+use Rattle.surface.specs.Link.{Meets, Opposite, Common}
 use Rattle.surface.specs.Contract.{contract}
 use Rattle.surface.proofs.Count.{fits, not-two}
 use Rattle.surface.proofs.Once.{turn}
@@ -22,9 +22,6 @@ use Rattle.surface.proofs.Contracted.{two-leave, least′}
 -- a row lies on p, q and r
 abbrev pub On : List Row → ℕ → ℕ → ℕ → Type 0
 On T p q r = Follows T p q r ⊎ Follows T q p r
-
-abbrev pub Common : List Row → ℕ → ℕ → ℕ → Type 0
-Common T a b w = Edge T a w × Edge T b w
 
 module _ (n : ℕ) (T : List Row) (s : Stage n T) where
   -- past four rows the common neighbours decide

@@ -1,14 +1,14 @@
 -- A contraction keeps the Euler number.
 use mathlib.Core.Path.{_≡_, refl, sym, _∙_, ap}
 use mathlib.Core.Logic.{_≢_, _⊎_, inl, inr}
-use mathlib.Core.List.{List, [], _∷_, _++_, map, List·Memᴰ, List·Memᴰ·head, List·Memᴰ·tail, List·Memᴰ·cases-cons, List·Memᴰ·not-nil, Memᴰ·cast, Memᴰ·map, Memᴰ·of-map, Memᴰ·append-left, Memᴰ·append-right, List·Memᴰ·append-cases}
+use mathlib.Core.List.{List, [], _∷_, _++_, map, List·Memᴰ, List·Memᴰ·head, List·Memᴰ·tail, List·Memᴰ·cases-cons, List·Memᴰ·not-nil, List·Memᴰ·eq-of-singleton, Memᴰ·cast, Memᴰ·map, Memᴰ·of-map, Memᴰ·append-left, Memᴰ·append-right, List·Memᴰ·append-cases}
 use Prim.Native.Nat.{ℕ, suc, _≤_, _<_, _+_, _*_}
 use native.Mathlib.Decide.{ℕ-discrete, decLt}
 use native.Mathlib.Omega.{arith}
 use lib.IntN.{ℤ, pos, negℤ, _+ℤ_, _-ℤ_, +ℤ-assoc, +ℤ-comm, +ℤ-negℤ-cancel}
 use lib.ListN.{length, length-append}
 use Rattle.surface.specs.Lists.{_∈_, Distinct, none, more, Exactly}
-use Rattle.surface.specs.Rows.{Row, row}
+use Rattle.surface.specs.Rows.{Row, row, turn-0}
 use Rattle.surface.specs.Table.{Arrow, _⇒_, Follows, Edge, Used, edges}
 use Rattle.surface.specs.Stage.{Stage}
 use Rattle.surface.specs.Link.{Opposite}
@@ -19,6 +19,7 @@ use Rattle.surface.proofs.Once.{turn, edge-in, in-edge}
 use Rattle.surface.proofs.Renumber.{replace-at, replace-off, replace-same, Source, source}
 use Rattle.surface.proofs.Contracted.{contracted, two-leave, edge-kept, from-a}
 use Rattle.surface.proofs.Following.{re, re-edge}
+use Rattle.surface.proofs.Linked.{not-same}
 
 -- equal differences of whole numbers
 pub difference-same : (a b c d : ℕ) → a + d ≡ c + b → pos a -ℤ pos b ≡ pos c -ℤ pos d
@@ -173,3 +174,44 @@ module _ (n : ℕ) (T : List Row) (a b x y : ℕ) (s : Stage n T) (o : Opposite 
       let h₃ = two-rows n (contract a b T) (contracted n T a b x y s o) (d .sides) in
       let h₄ : length T ≡ 2 + length (contract a b T) = two-leave n T a b x y s o in
       (omega arith, omega arith, omega arith, omega arith)
+
+-- an edge's two ends and the two corners opposite it are four used corners
+pub four : (n : ℕ) (T : List Row) → Stage n T → {v : ℕ} → Exactly (Used T) v → 4 ≤ v
+four n T s {v} c = go T refl
+  where
+    count : (a b x y : ℕ) → Follows T a b x → Follows T b a y → 4 ≤ v
+    count a b x y f g =
+        let h = fits (more {a = a} {l = b ∷ x ∷ y ∷ []} not-a (more {a = b} {l = x ∷ y ∷ []} not-b (more {a = x} {l = y ∷ []} not-x (more List·Memᴰ·not-nil none)))) (c .list) inside in
+        let e = c .count in
+        omega arith
+      where
+        not-x : ¬ (x ∈ y ∷ [])
+        not-x m = not-same n T s f g (List·Memᴰ·eq-of-singleton m)
+
+        not-b : ¬ (b ∈ x ∷ y ∷ [])
+        not-b = not-two (s .apart (turn f)) (λ m. s .apart (turn (turn g)) (sym (List·Memᴰ·eq-of-singleton m)))
+
+        not-a : ¬ (a ∈ b ∷ x ∷ y ∷ [])
+        not-a = not-two (s .apart f) (not-two (λ e. s .apart (turn (turn f)) (sym e)) (λ m. s .apart (turn g) (List·Memᴰ·eq-of-singleton m)))
+
+        in₂ : (u : ℕ) → (u ≡ x) ⊎ (u ∈ y ∷ []) → u ∈ c .list
+        in₂ u (inl e) = Memᴰ·cast e (c .all (a, (b, turn (turn f))))
+        in₂ u (inr m) = Memᴰ·cast (List·Memᴰ·eq-of-singleton m) (c .all (b, (a, turn (turn g))))
+
+        in₁ : (u : ℕ) → (u ≡ b) ⊎ (u ∈ x ∷ y ∷ []) → u ∈ c .list
+        in₁ u (inl e) = Memᴰ·cast e (c .all (a, (y, g)))
+        in₁ u (inr m) = in₂ u (List·Memᴰ·cases-cons m)
+
+        in₀ : (u : ℕ) → (u ≡ a) ⊎ (u ∈ b ∷ x ∷ y ∷ []) → u ∈ c .list
+        in₀ u (inl e) = Memᴰ·cast e (c .all (b, (x, f)))
+        in₀ u (inr m) = in₁ u (List·Memᴰ·cases-cons m)
+
+        inside : (u : ℕ) → u ∈ a ∷ b ∷ x ∷ y ∷ [] → u ∈ c .list
+        inside u m = in₀ u (List·Memᴰ·cases-cons m)
+
+    go : (U : List Row) → T ≡ U → 4 ≤ v
+    go [] e = let l = s .least in let k = ap length e in absurd (omega arith)
+    go (row i j k ∷ U) e =
+        let f : Follows T i j k = record { by = row i j k; here = rw e (List·Memᴰ·head refl); turned = turn-0 refl } in
+        let g = s .both (k, f) in
+        count i j k (g .0) f (g .1)

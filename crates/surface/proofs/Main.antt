@@ -2,7 +2,7 @@
 use mathlib.Core.Path.{_≡_, refl, sym, _∙_, ap}
 use mathlib.Core.Logic.{_⊎_, _↔_}
 use mathlib.Core.List.{List}
-use Prim.Native.Nat.{ℕ, _+_, _<_}
+use Prim.Native.Nat.{ℕ, _+_, _≤_, _<_}
 use native.Mathlib.Omega.{arith}
 use lib.IntN.{ℤ, pos, _-ℤ_}
 use lib.ListN.{length}
@@ -10,16 +10,16 @@ use Rattle.surface.specs.Lists.{Exactly}
 use Rattle.surface.specs.Rows.{Row}
 use Rattle.surface.specs.Table.{Follows, Edge, Used}
 use Rattle.surface.specs.Stage.{Stage}
-use Rattle.surface.specs.Link.{Link, Meets, Opposite}
+use Rattle.surface.specs.Link.{Link, Meets, Opposite, Common}
 use Rattle.surface.specs.Contract.{contract}
 use Rattle.surface.specs.Record.{Record, leaving, Replays}
 use Rattle.surface.specs.Accept.{Accepted, Local}
 use Rattle.surface.specs.Euler.{Counts, Euler}
 use Rattle.surface.proofs.Linked.{opposite, meets}
 use Rattle.surface.proofs.Tetrahedron.{tetrahedron}
-use Rattle.surface.proofs.Common.{Common, meets-pairs}
+use Rattle.surface.proofs.Common.{meets-pairs}
 use Rattle.surface.proofs.Contracted.{two-leave}
-use Rattle.surface.proofs.Counted.{one-count, one-corner, difference-same}
+use Rattle.surface.proofs.Counted.{one-count, one-corner, difference-same, four}
 use Rattle.surface.proofs.Stepped as stepped
 use Rattle.surface.proofs.Accepting as accepting
 use Rattle.surface.proofs.Recorded as recorded
@@ -52,6 +52,10 @@ module _ (n : ℕ) (T : List Row) (s : Stage n T) where
   -- and so is the number of its used corners
   pub corners-there : (v : ℕ) × Exactly (Used T) v
   corners-there = let c = stepped.counted n T s in (c .0, c .2 .corners)
+
+  -- and at least four are used
+  pub four-used : {v : ℕ} → Exactly (Used T) v → 4 ≤ v
+  four-used c = four n T s c
 
   module _ (a b : ℕ) (m : Meets T a b) where
     -- a contraction leaves a stage

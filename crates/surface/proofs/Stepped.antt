@@ -49,7 +49,7 @@ used? T v = go (round v T) (λ p q f. round-whole T f) (λ p q m. round-sound T 
     go [] w h = no (λ u. List·Memᴰ·not-nil (w (u .0) (u .1 .0) (u .1 .1)))
     go ((p ⇒ q) ∷ l) w h = yes (p, (q, h p q (List·Memᴰ·head refl)))
 
-upto-below : (n v : ℕ) → v ∈ upto n → v < n
+pub upto-below : (n v : ℕ) → v ∈ upto n → v < n
 upto-below zero v m = absurd (List·Memᴰ·not-nil m)
 upto-below (suc n) v m = go (List·Memᴰ·cases-cons m) (λ m. upto-below n v m)
   where
@@ -57,9 +57,13 @@ upto-below (suc n) v m = go (List·Memᴰ·cases-cons m) (λ m. upto-below n v m
     go (inl e) rec = omega arith
     go (inr m) rec = let h = rec m in omega arith
 
-upto-distinct : (n : ℕ) → Distinct (upto n)
+pub upto-distinct : (n : ℕ) → Distinct (upto n)
 upto-distinct zero = none
 upto-distinct (suc n) = more (λ m. let h = upto-below n n m in omega arith) (upto-distinct n)
+
+pub upto-length : (n : ℕ) → length (upto n) ≡ n
+upto-length zero = refl
+upto-length (suc n) = ap suc (upto-length n)
 
 Up : Arrow → Type 0
 Up (p ⇒ q) = p < q

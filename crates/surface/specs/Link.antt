@@ -10,6 +10,10 @@ use Rattle.surface.specs.Table.{Follows, Edge}
 abbrev pub Link : List Row → ℕ → ℕ → ℕ → Type 0
 Link T v p q = Follows T v p q ⊎ Follows T v q p
 
+-- w is a common neighbour of a and b
+abbrev pub Common : List Row → ℕ → ℕ → ℕ → Type 0
+Common T a b w = Edge T a w × Edge T b w
+
 -- source document 002, Theorem 2A: the link of a meets the link of b in the link of ab, which has the two corners opposite and no edge
 pub record Meets (T : List Row) (a b : ℕ) : Type 0 where
   pub edge : Edge T a b

@@ -2,8 +2,12 @@
 use figure::change_of;
 use figure::cubic_metres;
 use length::Length;
+use length::Order;
 use length::Reading;
 use length::read_limit;
+use refusal::Verdict;
+use ring::Trial;
+use thin::Thinning;
 
 // A line of a name and a whole number.
 fn show(name: &[u8], value: i64) {
@@ -31,12 +35,17 @@ fn show_limit(name: &[u8], l: Length) {
     }
 }
 
-fn main() {
+// 01's typed limits.
+fn limits() {
     show_limit(b"limit 1.5 m: ", Length::Metres(1.5));
     show_limit(b"limit 1.375 m: ", Length::Metres(1.375));
     show_limit(b"limit 4.75 ft: ", Length::Feet(4.75));
     show_limit(b"limit 0.29 m: ", Length::Metres(0.29));
     show_limit(b"limit 0.3 m: ", Length::Metres(0.3));
+}
+
+// The figures of 01's sums.
+fn figures() {
     show(b"figure of -27,000,000: ", cubic_metres(-27000000));
     show(b"figure of 8,000,000: ", cubic_metres(8000000));
     show(b"figure of 4,000,000: ", cubic_metres(4000000));
@@ -53,4 +62,298 @@ fn main() {
         b"change from 8,000,000 to 2,000,000: ",
         change_of(8000000, 2000000),
     );
+}
+
+// A line of a table and what the check of a first table says of it.
+fn show_check(name: &[u8], t: &[u32], xs: &[i32]) {
+    let v = skin::check_first(t, xs);
+    io::write_all(1, name);
+    match v {
+        Verdict::Passes => {
+            io::write_all(1, b"passes\n");
+        }
+        Verdict::Refused(r) => {
+            io::write_all(1, b"refused ");
+            io::print_decimal(1, refusal::number_of(r) as u64);
+            io::write_all(1, b"\n");
+        }
+    }
+}
+
+// The octahedron, without its last row, and with fewer rows than a skin has.
+fn octahedra() {
+    let t = [
+        0u32,
+        1,
+        2,
+        0,
+        2,
+        3,
+        0,
+        3,
+        4,
+        0,
+        4,
+        1,
+        5,
+        2,
+        1,
+        5,
+        3,
+        2,
+        5,
+        4,
+        3,
+        5,
+        1,
+        4,
+    ];
+    let xs = [
+        0i32,
+        0,
+        100,
+        100,
+        0,
+        0,
+        0,
+        100,
+        0,
+        -100,
+        0,
+        0,
+        0,
+        -100,
+        0,
+        0,
+        0,
+        -100,
+    ];
+    show_check(b"O: ", &t, &xs);
+    show_check(b"O without its last row: ", &t[..21], &xs);
+    show_check(b"O's first three rows: ", &t[..9], &xs);
+    show_check(b"O without its last coordinate: ", &t, &xs[..17]);
+}
+
+// Coordinates at their limit and past it.
+fn far_corners() {
+    let t = [0u32, 1, 2, 0, 2, 3, 0, 3, 1, 1, 3, 2];
+    let at = [0i32, 0, 0, 50000, 0, 0, 0, 300, 0, 0, 0, -50000];
+    let past = [0i32, 0, 0, 50001, 0, 0, 0, 300, 0, 0, 0, 300];
+    let below = [0i32, 0, 0, 300, 0, 0, 0, 300, 0, 0, 0, -50001];
+    show_check(b"T to 50,000 and -50,000: ", &t, &at);
+    show_check(b"T to 50,001: ", &t, &past);
+    show_check(b"T to -50,001: ", &t, &below);
+}
+
+// Two tetrahedra: sharing a corner, apart, and with a corner that no row uses.
+fn pairs() {
+    let shared = [
+        0u32,
+        1,
+        2,
+        0,
+        2,
+        3,
+        0,
+        3,
+        1,
+        1,
+        3,
+        2,
+        0,
+        4,
+        5,
+        0,
+        5,
+        6,
+        0,
+        6,
+        4,
+        4,
+        6,
+        5,
+    ];
+    let apart = [
+        0u32,
+        1,
+        2,
+        0,
+        2,
+        3,
+        0,
+        3,
+        1,
+        1,
+        3,
+        2,
+        4,
+        5,
+        6,
+        4,
+        6,
+        7,
+        4,
+        7,
+        5,
+        5,
+        7,
+        6,
+    ];
+    let xs = [0i32; 24];
+    let more = [0i32; 27];
+    show_check(b"two tetrahedra that share a corner: ", &shared, &xs[..21]);
+    show_check(b"and a corner that no row uses: ", &shared, &xs);
+    show_check(b"two tetrahedra apart: ", &apart, &xs);
+    show_check(b"and a corner that no row uses: ", &apart, &more);
+}
+
+// A line of a count of rows, and whether it is within the limits.
+fn show_rows(name: &[u8], rows: usize) {
+    io::write_all(1, name);
+    if counts::rows_fit(rows) {
+        io::write_all(1, b"pass the count\n");
+    } else {
+        io::write_all(1, b"do not pass the count\n");
+    }
+}
+
+// The numbers of a list, parted by blanks, on one line.
+fn show_numbers(name: &[u8], l: &[u32]) {
+    io::write_all(1, name);
+    let mut i: usize = 0;
+    while i < l.len() {
+        io::write_all(1, b" ");
+        io::print_decimal(1, wide(l[i]));
+        i += 1;
+    }
+    io::write_all(1, b"\n");
+}
+
+fn wide(x: u32) -> u64 {
+    x as u64
+}
+
+// A line of a thinning's answer.
+fn show_thinning(name: &[u8], r: Thinning) {
+    io::write_all(1, name);
+    match r {
+        Thinning::Done(k) => {
+            io::print_decimal(1, k as u64);
+            io::write_all(1, b" records\n");
+        }
+        Thinning::Refused(e) => {
+            io::write_all(1, b"refused ");
+            io::print_decimal(1, refusal::number_of(e) as u64);
+            io::write_all(1, b"\n");
+        }
+    }
+}
+
+// The octahedron thinned: its rows and records as in 01's sheet.
+fn thin_octahedron() {
+    let mut t = [
+        0u32,
+        1,
+        2,
+        0,
+        2,
+        3,
+        0,
+        3,
+        4,
+        0,
+        4,
+        1,
+        5,
+        2,
+        1,
+        5,
+        3,
+        2,
+        5,
+        4,
+        3,
+        5,
+        1,
+        4,
+    ];
+    let xs = [
+        0i32,
+        0,
+        100,
+        100,
+        0,
+        0,
+        0,
+        100,
+        0,
+        -100,
+        0,
+        0,
+        0,
+        -100,
+        0,
+        0,
+        0,
+        -100,
+    ];
+    let mut log = [7u32; 21];
+    let r = thin::thin(&mut t, &xs, Order::NoLimit, &mut log);
+    show_thinning(b"O thinned: ", r);
+    show_numbers(b"O's table then:", &t);
+    show_numbers(b"O's log then:", &log);
+    let mut short = [7u32; 19];
+    let again = thin::thin(&mut t, &xs, Order::NoLimit, &mut short);
+    show_thinning(b"with room for 19 numbers: ", again);
+}
+
+// The trial ring's numbers into a lent table.
+fn copy_ring(t: &mut [u32]) {
+    let mut i: usize = 0;
+    while i < t.len() {
+        t[i] = ring_number(i);
+        i += 1;
+    }
+}
+
+// A number of the trial ring, 0 past its end.
+fn ring_number(i: usize) -> u32 {
+    let r = ring::trial_number(i);
+    match r {
+        Trial::Number(v) => v,
+        Trial::Nothing => 0,
+    }
+}
+
+// Distinct corners: the coordinates count up.
+fn place_corners(xs: &mut [i32]) {
+    let mut i: usize = 0;
+    while i < xs.len() {
+        xs[i] = (i % 1000) as i32;
+        i += 1;
+    }
+}
+
+// The trial ring thinned: 55 records, 18 rows left.
+fn thin_ring() {
+    let mut t = [0u32; 384];
+    copy_ring(&mut t);
+    let mut xs = [0i32; 192];
+    place_corners(&mut xs);
+    let mut log = [0u32; 600];
+    let r = thin::thin(&mut t, &xs, Order::NoLimit, &mut log);
+    show_thinning(b"the trial ring thinned: ", r);
+    show_numbers(b"past its 18 rows then:", &t[54..60]);
+}
+
+fn main() {
+    limits();
+    figures();
+    octahedra();
+    show_rows(b"1,024 rows ", 1024);
+    show_rows(b"1,025 rows ", 1025);
+    far_corners();
+    pairs();
+    thin_octahedron();
+    thin_ring();
 }

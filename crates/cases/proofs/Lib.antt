@@ -1,0 +1,3 @@
+pub mod Skinned
+pub mod Starred
+pub mod Impostors

@@ -1,0 +1,145 @@
+-- The starred cases hold: for each the listed outcome is allowed, and thinning has no second one.
+use mathlib.Core.Path.{_≡_, refl, sym, _∙_, ap}
+use mathlib.Core.Logic.{_≢_, inl, inr}
+use mathlib.Core.Bool.{Bool, true}
+use mathlib.Core.List.{List, [], _∷_, List·Memᴰ·head, List·Memᴰ·tail}
+use Prim.Native.Nat.{ℕ, zero, suc, _*_, _≤_, _<_, _%_}
+use native.Mathlib.Decide.{ℕ-discrete}
+use native.Mathlib.Omega.{arith}
+use lib.Dec.{T as So, leb, leb→le, le→leb}
+use lib.Ieee.{binary64, ofBits, ofFields, odd}
+use lib.Count.{trailingZeros}
+use lib.IntN.{ℤ}
+use lib.ListN.{length}
+use Rattle.surface.specs.Rows.{Row, row, rows, flat}
+use Rattle.surface.specs.Table.{edges}
+use Rattle.surface.specs.Stage.{Skin}
+use Rattle.surface.specs.Contract.{contract, renumber, replace, stays?, holds?}
+use Rattle.surface.specs.Record.{at, later, leaving, Record}
+use Rattle.refusal.specs.First.{First}
+use Rattle.refusal.specs.declared.Verdict.the-variants as verdict
+use Rattle.refusal.specs.declared.Refusal.the-variants.{EdgeTwice}
+use Rattle.verdicts.proofs.Laws.{first-before}
+use Rattle.faults.specs.Counts.{CountsFitAt, corners}
+use Rattle.faults.specs.Words.{Twice, again, later as after}
+use Rattle.faults.specs.Order.{lines-after-counts, row-lines}
+use Rattle.faults.proofs.Opposites.{in-or-out, below-or-not, twice-or-apart}
+use Rattle.run.specs.Run.{Run}
+use Rattle.figure.specs.Corners.{squared-distance}
+use Rattle.length.specs.declared.Order.{Order}
+use Rattle.length.specs.declared.Order.the-variants.{NoLimit}
+use Rattle.length.specs.Limit.{capped, reading, limit-of}
+use Rattle.least.specs.declared.Bound.{Bound}
+use Rattle.least.specs.declared.Bound.the-variants.{Free, Within}
+use Rattle.least.specs.Limited.{Allowed}
+use Rattle.record.specs.Layout.{log-of}
+use Rattle.thin.specs.declared.Asked.{Asked}
+use Rattle.thin.specs.declared.Asked.the-variants.{Under, NoUse}
+use Rattle.thin.specs.declared.Thinning.{Thinning}
+use Rattle.thin.specs.declared.Thinning.the-variants.{Done, Refused}
+use Rattle.thin.specs.Order.{asked}
+use Rattle.thin.specs.Thin.{need, thin-lines, Thinned, ThinnedAs, refused, done}
+use Rattle.thin.proofs.Main.{thinned-one, thin-passes}
+use Rattle.surface.proofs.Testing.{every}
+use Rattle.computed.proofs.Passing.{row-fits, rows-below}
+use Rattle.computed.proofs.Running.{Passing, least, over, Steps, stays-at, goes-on, run-sound, run-same}
+use Rattle.cases.specs.Skins.{T, T-corners, T-turned, O, O-corners, M, M-corners}
+use Rattle.cases.specs.Cases.{Case, thins, Holds, cm-141, cm-142, lent, O-last, O-log, starred, All, all-none, all-more}
+use Rattle.cases.proofs.Skinned.{T-skin, O-skin, M-skin}
+
+-- the listed outcome is the only one
+only : (o : Order) {xs : List ℤ} {t l : List ℕ} {a : Thinning} {t′ l′ : List ℕ} → Thinned o xs t l a t′ l′ → Holds (thins o xs t l a t′ l′)
+only o h b u m k = thinned-one k h
+
+under-usable : {a : Asked} {b : Bound} → a ≡ Under b → ¬ (a ≡ NoUse)
+under-usable e k = let z : _≡_ {A = ℕ} 0 1 = cc in omega arith
+
+-- limits as computed tests
+abbrev any : ℕ → ℕ → Bool
+any a b = true
+
+abbrev within : ℕ → List ℤ → ℕ → ℕ → Bool
+within L xs a b = leb (squared-distance xs a b) (L * L)
+
+free : (xs : List ℤ) {S S′ : List Row} {l : List Record} → Run (Passing any) S l S′ → Run (Allowed Free xs) S l S′
+free xs r = run-same (λ a b k. tt) (λ a b k. tt) r
+
+limited : (L : ℕ) (xs : List ℤ) {S S′ : List Row} {l : List Record} → Run (Passing (within L xs)) S l S′ → Run (Allowed (Within L) xs) S l S′
+limited L xs r = run-same (λ a b k. leb→le (squared-distance xs a b) (L * L) k) (λ a b k. le→leb (squared-distance xs a b) (L * L) k) r
+
+-- O's two records
+k₁ : Record
+k₁ = record { kept = 0; removed = 1; place-1 = 0; row-1 = row 0 1 2; place-2 = 3; row-2 = row 0 4 1 }
+
+k₂ : Record
+k₂ = record { kept = 0; removed = 2; place-1 = 0; row-1 = row 0 2 3; place-2 = 2; row-2 = row 5 2 0 }
+
+abbrev O-end : List Row
+O-end = row 0 3 4 ∷ row 5 3 0 ∷ row 5 4 3 ∷ row 5 0 4 ∷ []
+
+pub case-T : Holds (thins NoLimit T-corners T [] (Done 0) T [])
+unfolding edges rows flat log-of
+case-T = only NoLimit (done {b = Free} {log = []} {last = rows T} (thin-passes T (under-usable refl) refl T-skin (omega arith)) refl (free T-corners (run-sound any (stays-at refl) tt)) refl refl refl)
+
+case-M : Holds (thins NoLimit M-corners M (lent 30) (Done 0) M (lent 30))
+unfolding edges rows flat log-of
+case-M = only NoLimit (done {b = Free} {log = []} {last = rows M} (thin-passes M (under-usable refl) refl M-skin (omega arith)) refl (free M-corners (run-sound any (stays-at refl) tt)) refl refl refl)
+
+O-steps : (p : ℕ → ℕ → Bool) → So (least p 0 1 (rows O)) → So (least p 0 2 (contract 0 1 (rows O))) → Steps p (rows O) (k₁ ∷ k₂ ∷ []) O-end
+unfolding edges rows contract renumber replace stays? holds? ℕ-discrete leaving later k₁ k₂
+O-steps p h₁ h₂ = goes-on h₁ refl (goes-on h₂ refl (stays-at refl))
+
+pub case-O : Holds (thins NoLimit O-corners O (lent 20) (Done 2) O-last O-log)
+unfolding edges rows flat log-of contract renumber replace stays? holds? ℕ-discrete leaving later k₁ k₂
+case-O = only NoLimit (done {b = Free} {log = k₁ ∷ k₂ ∷ []} {last = O-end} (thin-passes O (under-usable refl) refl O-skin (omega arith)) refl (free O-corners (run-sound any (O-steps any tt tt) tt)) refl refl refl)
+
+pub case-141 : Holds (thins cm-141 O-corners O (lent 20) (Done 0) O (lent 20))
+unfolding edges rows flat log-of limit-of reading capped ofBits squared-distance
+case-141 = only cm-141 (done {b = Within 141} {log = []} {last = rows O} (thin-passes O (under-usable {b = Within 141} refl) refl O-skin (omega arith)) refl (limited 141 O-corners (run-sound (within 141 O-corners) (stays-at refl) tt)) refl refl refl)
+
+pub case-142 : Holds (thins cm-142 O-corners O (lent 20) (Done 2) O-last O-log)
+unfolding edges rows flat log-of contract renumber replace stays? holds? ℕ-discrete leaving later k₁ k₂ limit-of reading capped ofBits squared-distance
+case-142 = only cm-142 (done {b = Within 142} {log = k₁ ∷ k₂ ∷ []} {last = O-end} (thin-passes O (under-usable {b = Within 142} refl) refl O-skin (omega arith)) refl (limited 142 O-corners (run-sound (within 142 O-corners) (O-steps (within 142 O-corners) tt tt) tt)) refl refl refl)
+
+-- T with a row turned over: the directed edge 0 to 2 is there twice
+turned-fit : So (every (row-fits 4) (rows T-turned))
+unfolding rows
+turned-fit = tt
+
+turned-twice : Twice (edges (rows T-turned))
+unfolding edges rows
+turned-twice = after (after (again (List·Memᴰ·head refl)))
+
+turned-counts : CountsFitAt T-corners T-turned
+unfolding rows
+turned-counts = record {
+  table = record { threes = refl; count = record { least = omega arith; most = omega arith } };
+  coordinates = record { threes = refl; count = record { few = omega arith; many = omega arith } };
+}
+
+turned-first : First (thin-lines (Under Free) T-corners T-turned 0) (verdict.Refused EdgeTwice)
+unfolding thin-lines lines-after-counts row-lines First
+turned-first =
+    inr (
+      under-usable refl,
+      inr (
+        λ k. k turned-counts,
+        inr (
+          λ k. omega arith,
+          inr (
+            λ k. in-or-out k (T-skin .in-range),
+            inr (
+              λ k. below-or-not k (λ v p q f. (rows-below 4 (rows T-turned) turned-fit f) .0),
+              inr (λ k. twice-or-apart k (λ v p q f. (rows-below 4 (rows T-turned) turned-fit f) .1), inl (turned-twice, refl)),
+            ),
+          ),
+        ),
+      ),
+    )
+
+case-turned : Holds (thins NoLimit T-corners T-turned [] (Refused EdgeTwice) T-turned [])
+case-turned = only NoLimit (refused {e = EdgeTwice} turned-first refl refl refl)
+
+-- every starred case holds
+pub all-starred : All Holds starred
+all-starred = all-more case-T (all-more case-turned (all-more case-O (all-more case-141 (all-more case-142 (all-more case-M all-none)))))

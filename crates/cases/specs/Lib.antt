@@ -1,0 +1,2 @@
+pub mod Skins
+pub mod Cases

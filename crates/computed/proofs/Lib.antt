@@ -1,0 +1,4 @@
+pub mod Passing
+pub mod Linking
+pub mod Running
+pub mod Using

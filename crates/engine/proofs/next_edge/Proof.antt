@@ -1,0 +1,40 @@
+use Rattle.surface.specs.Limits.{most-corners}
+use Rattle.slots.proofs.Marks.{no-mark}
+use Rattle.engine.proofs.Charts.{table-under, table-slots}
+use native.Mathlib.Omega.{arith}
+use borrow.Author.Needs.{needs}
+use Rattle.engine.proofs.next_edge.Statement.{statement}
+use Rattle.engine.proofs.next_edge.Tie as tie
+
+slice-aggregate-chains : tie.Need-slice-aggregate-chains
+slice-aggregate-chains c = search needs
+
+slice-aggregate-chains-2 : tie.Need-slice-aggregate-chains-2
+slice-aggregate-chains-2 c = search needs
+
+chains-requires : tie.Need-chains-requires
+chains-requires c κs = (table-under (c .before .before .before .pre .0), (table-slots (c .before .before .before .pre .0), record { blank = λ k. no-mark most-corners k }))
+
+slice-aggregate-least-edge : tie.Need-slice-aggregate-least-edge
+slice-aggregate-least-edge c = search needs
+
+slice-aggregate-least-edge-2 : tie.Need-slice-aggregate-least-edge-2
+slice-aggregate-least-edge-2 c = search needs
+
+least-edge-requires : tie.Need-least-edge-requires
+least-edge-requires c κs = record { table = c .before .before .before .before .before .before .before .before .pre .0; chained = c .before .before .before .before .chains .ensures; room = let m = c .before .before .before .before .before .before .before .before .pre .0 .stage .many in omega (arith, c .before .before .before .last2 .given); measured = c .before .before .before .before .before .before .before .before .pre .1 }
+
+returns : tie.Need-returns
+returns c = c .least-edge .ensures
+
+pub next-edge-spec : {M : Type 1} → statement M
+next-edge-spec =
+    tie.close
+    (tie.spec
+    slice-aggregate-chains
+    slice-aggregate-chains-2
+    chains-requires
+    slice-aggregate-least-edge
+    slice-aggregate-least-edge-2
+    least-edge-requires
+    returns)

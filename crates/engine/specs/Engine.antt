@@ -1,0 +1,42 @@
+-- The plain engine: what it is asked for, and what it leaves.
+use mathlib.Core.Path.{_≡_}
+use mathlib.Core.List.{List, _++_}
+use Prim.Native.Nat.{ℕ, _+_, _-_, _*_, _≤_}
+use lib.ListN.{length, take, drop, replicate}
+use Rattle.surface.specs.Limits.{least-corners}
+use Rattle.surface.specs.Lists.{Exactly}
+use Rattle.surface.specs.Rows.{Row, rows, flat}
+use Rattle.surface.specs.Table.{Used}
+use Rattle.surface.specs.Stage.{StageTable}
+use Rattle.surface.specs.Record as surface
+use Rattle.run.specs.Run.{Run}
+use Rattle.record.specs.declared.Record.{Record}
+use Rattle.record.specs.Layout.{width, log-of}
+use Rattle.step.specs.Step.{Stepped}
+
+-- the front of a lent table, r rows of it
+abbrev pub front : ℕ → List ℕ → List ℕ
+front r t = take (3 * r) t
+
+-- the step of the edge from a up to b on the front of a lent table; what lies past it stays as it was
+pub record SteppedIn (t : List ℕ) (r a b : ℕ) (k : Record) (t′ : List ℕ) : Type 0 where
+  pub stepped : Stepped (front r t) a b k (front r t′)
+  pub past : drop (3 * r) t′ ≡ drop (3 * r) t
+
+-- the front of t is a stage over n corners, and the log l, which has d records, has room for as many as may follow: one for each used
+-- corner but four
+pub record Ready (n : ℕ) (t : List ℕ) (r : ℕ) (l : List ℕ) (d : ℕ) : Type 0 where
+  pub inside : 3 * r ≤ length t
+  pub table : StageTable n (front r t)
+  pub stand : width * d ≤ length l
+  pub room : (v : ℕ) → Exactly (Used (rows (front r t))) v → width * (d + v) ≤ length l + width * least-corners
+
+-- the run from the front of t under the limit P: its last stage in front, zeros to where the first one ended, what lies past that as it
+-- was; its records in the log after the d that stood there, what lies past them as it was; k records in all
+pub record WentOn (P : ℕ → ℕ → Type 0) (t : List ℕ) (r : ℕ) (l : List ℕ) (d : ℕ) (k : ℕ) (t′ l′ : List ℕ) : Type 0 where
+  pub log : List surface.Record
+  pub last : List Row
+  pub run : Run P (rows (front r t)) log last
+  pub count : k ≡ d + length log
+  pub table : t′ ≡ flat last ++ (replicate (3 * r - length (flat last)) 0 ++ drop (3 * r) t)
+  pub logged : l′ ≡ take (width * d) l ++ (log-of log ++ drop (width * k) l)

@@ -1,0 +1,67 @@
+// The plain engine: the least edge found and contracted, until no edge qualifies.
+use least::Bound;
+use least::Found;
+use record::Corner;
+use record::Record;
+ghost use mathlib.Core.Path.{_≡_};
+ghost use Prim.Native.Nat.{_*_, _≤_};
+ghost use lib.ListN.{length};
+ghost use Rattle.surface.specs.Rows.{rows};
+ghost use Rattle.surface.specs.Stage.{StageTable};
+ghost use Rattle.step.specs.Step as step;
+ghost use Rattle.least.specs.Limited.{Allowed, Measurable};
+ghost use Rattle.least.specs.Search.{FoundLeast};
+ghost use Rattle.engine.specs.Engine.{front, SteppedIn, Ready, WentOn};
+
+// The step on the first rows of a lent table.
+fn step_in(table: &mut [u32], rows: usize, kept: Corner, removed: Corner) -> Record
+    requires { ⌜ 3 * rows ≤ length (now table) ⌝ }
+    requires { ⌜ step.Ready (front rows (now table)) (kept .0) (removed .0) ⌝ }
+    ensures { λ k. ⌜ SteppedIn (now (table .entry)) rows (kept .0) (removed .0) k (now (table .exit)) ⌝ }
+{
+    let end = 3 * rows;
+    step::contract(&mut table[..end], kept, removed)
+}
+
+// The least edge of a stage that qualifies. The chains round its corners are built anew for each step.
+fn next_edge(t: &[u32], n: usize, xs: &[i32], bound: Bound) -> Found
+    requires { ⌜ StageTable n (now t) ⌝ }
+    requires { ⌜ Measurable bound n (now xs) ⌝ }
+    ensures { λ r. ⌜ FoundLeast (Allowed bound (now (xs .entry))) (rows (now (t .entry))) r ⌝ }
+{
+    let mut last = [0usize; surface::MOST_CORNERS];
+    let mut prev = [0usize; slots::MOST_SLOTS];
+    slots::chains(t, &mut last, &mut prev);
+    least::least_edge(t, n, &last, &prev, xs, bound)
+}
+
+// Inner: goes on thinning the first rows of a lent table, with done records in the log already; answers how many records there are in all.
+pub fn go_on(
+    table: &mut [u32],
+    rows: usize,
+    n: usize,
+    xs: &[i32],
+    bound: Bound,
+    log: &mut [u32],
+    done: usize,
+) -> usize
+    requires { ⌜ Ready n (now table) rows (now log) done ⌝ }
+    requires { ⌜ Measurable bound n (now xs) ⌝ }
+    ensures { λ k. ⌜ WentOn (Allowed bound (now (xs .entry))) (now (table .entry)) rows (now (log .entry)) done k (now (table .exit)) (now (log .exit)) ⌝ }
+{
+    let mut r = rows;
+    let mut k = done;
+    loop {
+        let end = 3 * r;
+        let found = next_edge(&table[..end], n, xs, bound);
+        match found {
+            Found::Nothing => return k,
+            Found::Edge(kept, removed) => {
+                let e = step_in(table, r, kept, removed);
+                record::write_record(log, record::WIDTH * k, e);
+                r = r - 2;
+                k = k + 1;
+            }
+        }
+    }
+}

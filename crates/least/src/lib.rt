@@ -1,0 +1,134 @@
+// The least edge that qualifies: smallest lower number, then smallest higher number.
+use record::Corner;
+ghost use Prim.Native.Nat.{_≤_, _<_};
+ghost use Rattle.surface.specs.Rows.{rows};
+ghost use Rattle.run.specs.Run.{Qualifies};
+ghost use Rattle.faults.specs.Tells.{Tells};
+ghost use Rattle.link.specs.Around.{Neighbours};
+ghost use Rattle.least.specs.Limited.{Allowed, MeasurableAt};
+ghost use Rattle.least.specs.Search.{Searchable, SearchableAt, NextAbove, Better, FoundAt, FoundLeast};
+
+// The limit of an order, as steps use it: none, or whole centimetres.
+pub enum Bound {
+    Free,
+    Within(u64),
+}
+
+// What a search finds: nothing, or an edge, its lower number first.
+pub enum Found {
+    Nothing,
+    Edge(Corner, Corner),
+}
+
+// Whether the edge ab is short enough: its squared length is at most the squared limit.
+fn allowed(xs: &[i32], bound: Bound, a: Corner, b: Corner) -> bool
+    requires { ⌜ MeasurableAt bound (now xs) (a .0) × MeasurableAt bound (now xs) (b .0) ⌝ }
+    ensures { λ r. ⌜ Tells r (Allowed bound (now (xs .entry)) (a .0) (b .0)) (¬ Allowed bound (now (xs .entry)) (a .0) (b .0)) ⌝ }
+{
+    match bound {
+        Bound::Free => true,
+        Bound::Within(l) => figure::squared_distance(xs, a.0, b.0) <= l * l,
+    }
+}
+
+// Whether the edge from a up to b qualifies: the limit first, since the link condition costs more.
+fn qualifies(
+    t: &[u32],
+    last: &[usize],
+    prev: &[usize],
+    xs: &[i32],
+    bound: Bound,
+    a: Corner,
+    b: Corner,
+) -> bool
+    requires { ⌜ a .0 < b .0 ⌝ }
+    requires { ⌜ SearchableAt (now t) (now last) (now prev) bound (now xs) (a .0) ⌝ }
+    requires { ⌜ SearchableAt (now t) (now last) (now prev) bound (now xs) (b .0) ⌝ }
+    ensures { λ r. ⌜ Tells r (Qualifies (Allowed bound (now (xs .entry))) (rows (now (t .entry))) (a .0) (b .0)) (¬ Qualifies (Allowed bound (now (xs .entry))) (rows (now (t .entry))) (a .0) (b .0)) ⌝ }
+{
+    if allowed(xs, bound, a, b) {
+        link::may_contract(t, last, prev, a, b)
+    } else {
+        false
+    }
+}
+
+// The better of best and w: the lesser of those above past. While there is none, best is past itself.
+fn nearer(past: u32, best: u32, w: u32) -> u32
+    requires { ⌜ past ≤ best ⌝ }
+    ensures { λ r. ⌜ Better past best w r ⌝ }
+{
+    if w <= past {
+        return best;
+    }
+    if best == past {
+        return w;
+    }
+    if w < best { w } else { best }
+}
+
+// The least number of a ring above past; past itself where there is none.
+fn next_above(ring: &[u32], past: u32) -> u32
+    ensures { λ r. ⌜ NextAbove (now (ring .entry)) past r ⌝ }
+{
+    let mut best = past;
+    let mut i: usize = 0;
+    while i < ring.len() {
+        best = nearer(past, best, ring[i]);
+        i += 1;
+    }
+    best
+}
+
+// The least edge from a upward that qualifies. The neighbours of a, which ring lists, are tried in rising order.
+fn least_at(
+    t: &[u32],
+    last: &[usize],
+    prev: &[usize],
+    xs: &[i32],
+    bound: Bound,
+    a: Corner,
+    ring: &[u32],
+) -> Found
+    requires { ⌜ SearchableAt (now t) (now last) (now prev) bound (now xs) (a .0) ⌝ }
+    requires { ⌜ Neighbours (rows (now t)) (a .0) (now ring) ⌝ }
+    ensures { λ r. ⌜ FoundAt (Allowed bound (now (xs .entry))) (rows (now (t .entry))) (a .0) r ⌝ }
+{
+    let mut past = a.0;
+    let mut b = next_above(ring, past);
+    while past < b {
+        if qualifies(t, last, prev, xs, bound, a, Corner(b)) {
+            return Found::Edge(a, Corner(b));
+        }
+        past = b;
+        b = next_above(ring, past);
+    }
+    Found::Nothing
+}
+
+// Inner: the least edge that qualifies, if any does. Corners are tried in rising order.
+pub fn least_edge(
+    t: &[u32],
+    n: usize,
+    last: &[usize],
+    prev: &[usize],
+    xs: &[i32],
+    bound: Bound,
+) -> Found
+    requires { ⌜ Searchable n (now t) (now last) (now prev) bound (now xs) ⌝ }
+    ensures { λ r. ⌜ FoundLeast (Allowed bound (now (xs .entry))) (rows (now (t .entry))) r ⌝ }
+{
+    let mut ring = [0u32; surface::MOST_CORNERS];
+    let mut a: usize = 0;
+    while a < n {
+        let corner = Corner(a as u32);
+        let k = link::gather(t, last, prev, corner, &mut ring);
+        let found = least_at(t, last, prev, xs, bound, corner, &ring[..k]);
+        match found {
+            Found::Edge(_, _) => return found,
+            Found::Nothing => {}
+        }
+        a += 1;
+    }
+    Found::Nothing
+}

@@ -1,0 +1,97 @@
+// Lines of numbers: a word, fields parted by single tabs, one newline. What is read goes into a lent room.
+ghost use Prim.Native.Nat.{_+_, _*_, _≤_, _<_};
+ghost use lib.ListN.{length, drop};
+ghost use Rattle.lines.specs.Lines.{FieldsAt, LineAt, LinesAt, ReadField, ReadInto};
+use text::Cursor;
+use text::Passed;
+use text::Signed;
+
+// One field: a tab and a number.
+fn read_field(s: &[u8], from: Cursor, most: usize) -> Signed
+    requires { ⌜ (0 < most) × (most ≤ 18) ⌝ }
+    ensures { λ r. ⌜ ReadField most (now (s .entry)) (from .at) r ⌝ }
+{
+    let tab = text::expect(s, from, b"\t");
+    match tab {
+        Passed::To(c) => text::read_signed(s, c, most),
+        Passed::Bad => Signed::Bad,
+    }
+}
+
+// So many fields, put into room from its place start on.
+fn read_fields(
+    s: &[u8],
+    from: Cursor,
+    most: usize,
+    room: &mut [i64],
+    start: usize,
+    count: usize,
+) -> Passed
+    requires { ⌜ (0 < most) × (most ≤ 18) × (start + count ≤ length (now room)) ⌝ }
+    ensures { λ r. ⌜ ReadInto (FieldsAt most (drop (from .at) (now (s .entry)))) count (now (s .entry)) (now (room .entry)) start (now (room .exit)) r ⌝ }
+{
+    let mut k = from.at;
+    let mut i: usize = 0;
+    while i < count {
+        let field = read_field(s, Cursor { at: k }, most);
+        let Signed::Read(z, next) = field else {
+            return Passed::Bad;
+        };
+        room[start + i] = z;
+        k = next.at;
+        i += 1;
+    }
+    Passed::To(Cursor { at: k })
+}
+
+// Inner: a line of the word w with so many fields, put into room from its place start on.
+pub fn read_line(
+    s: &[u8],
+    from: Cursor,
+    w: &[u8],
+    most: usize,
+    room: &mut [i64],
+    start: usize,
+    count: usize,
+) -> Passed
+    requires { ⌜ (0 < most) × (most ≤ 18) × (start + count ≤ length (now room)) ⌝ }
+    ensures { λ r. ⌜ ReadInto (LineAt most (now (w .entry)) (drop (from .at) (now (s .entry)))) count (now (s .entry)) (now (room .entry)) start (now (room .exit)) r ⌝ }
+{
+    let word = text::expect(s, from, w);
+    let Passed::To(after) = word else {
+        return Passed::Bad;
+    };
+    let numbers = read_fields(s, after, most, room, start, count);
+    let Passed::To(end) = numbers else {
+        return Passed::Bad;
+    };
+    text::expect(s, end, b"\n")
+}
+
+// Inner: so many lines of the word w, each with width fields, put into room from its start on.
+pub fn read_lines(
+    s: &[u8],
+    from: Cursor,
+    w: &[u8],
+    most: usize,
+    room: &mut [i64],
+    width: usize,
+    count: usize,
+) -> Passed
+    requires { ⌜ (0 < most) × (most ≤ 18) × (count * width ≤ length (now room)) ⌝ }
+    ensures { λ r. ⌜ ReadInto (LinesAt most (now (w .entry)) width count (drop (from .at) (now (s .entry)))) (count * width) (now (s .entry)) (now (room .entry)) 0 (now (room .exit)) r ⌝ }
+{
+    let mut k = from.at;
+    let mut start: usize = 0;
+    let mut i: usize = 0;
+    while i < count {
+        let read = read_line(s, Cursor { at: k }, w, most, room, start, width);
+        let Passed::To(next) = read else {
+            return Passed::Bad;
+        };
+        k = next.at;
+        start += width;
+        i += 1;
+    }
+    Passed::To(Cursor { at: k })
+}

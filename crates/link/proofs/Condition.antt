@@ -1,0 +1,44 @@
+-- From the gathered rings to the published condition. Four rows are the tetrahedron; past them an edge may be contracted exactly when its two
+-- corners have two common neighbours.
+use mathlib.Core.Path.{_≡_}
+use mathlib.Core.Logic.{_↔_}
+use mathlib.Core.List.{List}
+use Prim.Native.Nat.{ℕ, _≤_, _<_}
+use native.Mathlib.Omega.{arith}
+use borrow.Author.Tests.{eqb-true, eqb-false}
+use lib.Dec.{eqb}
+use lib.ListN.{length}
+use Rattle.surface.specs.Lists.{_∈_, Exactly}
+use Rattle.surface.specs.Rows.{rows}
+use Rattle.surface.specs.Table.{Edge}
+use Rattle.surface.specs.Stage.{StageTable}
+use Rattle.surface.proofs.Main.{link-counts, counts-one}
+use Rattle.surface.specs.Link.{Meets, Common}
+use Rattle.faults.specs.Tells.{Tells}
+use Rattle.link.specs.Around.{Neighbours, Both}
+use Rattle.link.proofs.Tally.{exactly-same}
+
+module _ {n : ℕ} (t : List ℕ) (s : StageTable n t) {a b : ℕ} where
+  pub four-rows : length t ≤ 12 → ¬ Meets (rows t) a b
+  four-rows h m =
+      let k = (link-counts n (rows t) (s .stage)) .0 m .1 in
+      let c = s .count in
+      omega arith
+
+  module _ {l : List ℕ} (f : Neighbours (rows t) a l) where
+    pub not-beside : ¬ (b ∈ l) → ¬ Meets (rows t) a b
+    not-beside h m = h (f .all (m .edge))
+
+    module _ {m : List ℕ} (g : Neighbours (rows t) b m) where
+      common-count : {k : ℕ} → Exactly (Both l m) k → Exactly (Common (rows t) a b) k
+      common-count c = exactly-same (λ w z. (f .only (z .0), g .only (z .1))) (λ w z. (f .all (z .0), g .all (z .1))) c
+
+      -- the count tells
+      pub two-common : {k : ℕ} → 12 < length t → b ∈ l → Exactly (Both l m) k → Tells (eqb k 2) (Meets (rows t) a b) (¬ Meets (rows t) a b)
+      two-common {k} h i c = record { when-true = λ e. met (eqb-true k 2 e); when-false = λ e z. eqb-false k 2 e (counts-one (common-count c) (both .0 z .2)) }
+        where
+          both : Meets (rows t) a b ↔ (Edge (rows t) a b × (4 < length (rows t)) × Exactly (Common (rows t) a b) 2)
+          both = link-counts n (rows t) (s .stage)
+
+          met : k ≡ 2 → Meets (rows t) a b
+          met e = let q = s .count in both .1 (f .only i, omega arith, rw e at (common-count c))

@@ -1,0 +1,87 @@
+-- Lists searched and counted through, number by number.
+use mathlib.Core.Path.{_≡_, refl, sym, _∙_}
+use mathlib.Core.Logic.{_⊎_, inl, inr}
+use mathlib.Core.List.{List, [], _∷_, _++_, List·Memᴰ·head, List·Memᴰ·not-nil, List·Memᴰ·eq-of-singleton, List·Memᴰ·append-cases, Memᴰ·append-left, Memᴰ·append-right, Memᴰ·cast}
+use Prim.Native.Nat.{ℕ, _+_, _≤_, _<_}
+use native.Mathlib.Numerals.{add-one}
+use native.Mathlib.Omega.{arith}
+use lib.ListN.{length, getD, take, length-append}
+use lib.Seq.{take-suc, take-all, getD-take, length-take-le}
+use Rattle.surface.specs.Lists.{_∈_, Distinct, none, more, Exactly}
+use Rattle.surface.proofs.Counted.{distinct-append}
+use Rattle.surface.proofs.Flat.{at-place, place-of, places-differ}
+
+pub stands-at : (l : List ℕ) (i w : ℕ) → i < length l → getD l i 0 ≡ w → w ∈ l
+stands-at l i w h e = Memᴰ·cast (sym e) (at-place l i 0 h)
+
+pub stands-nowhere : (l : List ℕ) (w : ℕ) → ((i : ℕ) → i < length l → getD l i 0 ≡ w → ⊥) → ¬ (w ∈ l)
+stands-nowhere l w h m = let r = place-of 0 m in h (r .0) (r .1) (r .2)
+
+-- the first i + 1 numbers of l are the first i and the one at i
+module _ (l : List ℕ) (i : ℕ) (h : i < length l) where
+  first-more : take (i + 1) l ≡ take i l ++ (getD l i 0 ∷ [])
+  first-more = rw add-one (take-suc l i 0 h)
+
+  pub first-split : {w : ℕ} → w ∈ take (i + 1) l → (w ∈ take i l) ⊎ (w ≡ getD l i 0)
+  first-split {w} m = go (List·Memᴰ·append-cases (take i l) (rw first-more at m))
+    where
+      go : (w ∈ take i l) ⊎ (w ∈ getD l i 0 ∷ []) → (w ∈ take i l) ⊎ (w ≡ getD l i 0)
+      go (inl k) = inl k
+      go (inr k) = inr (List·Memᴰ·eq-of-singleton k)
+
+  pub first-old : {w : ℕ} → w ∈ take i l → w ∈ take (i + 1) l
+  first-old m = rw first-more (Memᴰ·append-left (getD l i 0 ∷ []) m)
+
+  pub first-new : {w : ℕ} → w ≡ getD l i 0 → w ∈ take (i + 1) l
+  first-new e = rw first-more (Memᴰ·append-right (take i l) (List·Memᴰ·head e))
+
+-- what holds of the same things is counted alike
+pub exactly-same : {P Q : ℕ → Type 0} {k : ℕ} → ((w : ℕ) → P w → Q w) → ((w : ℕ) → Q w → P w) → Exactly P k → Exactly Q k
+exactly-same f g c = record { list = c .list; distinct = c .distinct; all = λ {a} q. c .all (g a q); only = λ {a} m. f a (c .only m); count = c .count }
+
+-- those of the first i numbers of l that have the property P
+abbrev pub Among : (ℕ → Type 0) → List ℕ → ℕ → ℕ → Type 0
+Among P l i w = (w ∈ take i l) × P w
+
+module _ (P : ℕ → Type 0) (l : List ℕ) where
+  pub count-none : Exactly (Among P l 0) 0
+  count-none = record { list = []; distinct = none; all = λ h. h .0; only = λ m. absurd (List·Memᴰ·not-nil m); count = refl }
+
+  module _ (i : ℕ) (h : i < length l) where
+    -- a number without the property is passed
+    pub count-past : {k : ℕ} → ¬ P (getD l i 0) → Exactly (Among P l i) k → Exactly (Among P l (i + 1)) k
+    count-past n c = exactly-same (λ w z. (first-old l i h (z .0), z .1)) (λ w z. (still w (first-split l i h (z .0)) (z .1), z .1)) c
+      where
+        still : (w : ℕ) → (w ∈ take i l) ⊎ (w ≡ getD l i 0) → P w → w ∈ take i l
+        still w (inl m) p = m
+        still w (inr e) p = absurd (n (rw e at p))
+
+    -- one with it is counted, and no number occurs twice
+    pub count-more : {k : ℕ} → Distinct l → P (getD l i 0) → Exactly (Among P l i) k → Exactly (Among P l (i + 1)) (k + 1)
+    count-more d p c = record {
+      list = c .list ++ (getD l i 0 ∷ []);
+      distinct = distinct-append (c .distinct) (more List·Memᴰ·not-nil none) (λ w m k. fresh w ((c .only m) .0) (List·Memᴰ·eq-of-singleton k));
+      all = λ {a} z. all a (first-split l i h (z .0)) (z .1);
+      only = λ {a} m. only a (List·Memᴰ·append-cases (c .list) m);
+      count = let a = length-append (c .list) (getD l i 0 ∷ []) in let b = c .count in omega arith;
+    }
+      where
+        fresh : (w : ℕ) → w ∈ take i l → w ≡ getD l i 0 → ⊥
+        fresh w m e =
+            let r = place-of 0 m in
+            let a = r .1 in
+            let b = length-take-le i l (omega arith) in
+            let j : r .0 < i = omega arith in
+            places-differ 0 d (r .0) i j h (sym (getD-take i l (r .0) 0 j) ∙ r .2 ∙ e)
+
+        all : (w : ℕ) → (w ∈ take i l) ⊎ (w ≡ getD l i 0) → P w → w ∈ c .list ++ (getD l i 0 ∷ [])
+        all w (inl m) q = Memᴰ·append-left (getD l i 0 ∷ []) (c .all (m, q))
+        all w (inr e) q = Memᴰ·append-right (c .list) (List·Memᴰ·head e)
+
+        only : (w : ℕ) → (w ∈ c .list) ⊎ (w ∈ getD l i 0 ∷ []) → Among P l (i + 1) w
+        only w (inl m) = let z = c .only m in (first-old l i h (z .0), z .1)
+        only w (inr m) = let e = List·Memᴰ·eq-of-singleton m in (first-new l i h e, rw e p)
+
+  -- at the end, if l has all with the property
+  pub count-end : (i : ℕ) {k : ℕ} → length l ≤ i → ((w : ℕ) → P w → w ∈ l) → Exactly (Among P l i) k → Exactly P k
+  count-end i h a c = exactly-same (λ w z. z .1) (λ w p. (rw (take-all i l h) (a w p), p)) c

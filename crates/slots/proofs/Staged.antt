@@ -1,0 +1,24 @@
+-- What the rows of a stage give of its flat table.
+use mathlib.Core.Path.{_≡_}
+use mathlib.Core.List.{List}
+use Prim.Native.Nat.{ℕ, _≤_, _<_, _%_}
+use native.Mathlib.Omega.{arith}
+use lib.ListN.{length}
+use Rattle.surface.specs.Limits.{most-rows}
+use Rattle.surface.specs.Rows.{rows}
+use Rattle.surface.specs.Stage.{Stage}
+use Rattle.slots.specs.Slot.{Whole, Under}
+use Rattle.slots.proofs.Slots.{whole-rows, at-follows}
+
+module _ (t : List ℕ) (threes : length t % 3 ≡ 0) where
+  pub whole-of : length (rows t) ≤ most-rows → Whole t
+  whole-of h = let e = whole-rows t threes in record { threes = threes; most = omega arith }
+
+  pub stage-whole : {n : ℕ} → Stage n (rows t) → Whole t
+  stage-whole s = whole-of (s .most)
+
+  pub stage-under : {n : ℕ} → Stage n (rows t) → Under t n
+  stage-under s = record { under = λ e h. s .below (at-follows t threes e h) }
+
+  pub stage-some : {n : ℕ} → Stage n (rows t) → 0 < length t
+  stage-some s = let e = whole-rows t threes in let m = s .least in omega arith

@@ -1,0 +1,52 @@
+-- The verdict on a thinning, line by line.
+use mathlib.Core.Path.{_≡_, refl, sym, _∙_}
+use mathlib.Core.Logic.{inl, inr}
+use mathlib.Core.Bool.{true}
+use mathlib.Core.List.{List}
+use Prim.Native.Nat.{ℕ, _≤_, _<_}
+use native.Mathlib.Omega.{arith}
+use lib.IntN.{ℤ}
+use Rattle.refusal.specs.declared.Refusal.{Refusal}
+use Rattle.refusal.specs.declared.Refusal.the-variants.{LimitUnusable, CountsOutside, RoomShort}
+use Rattle.refusal.specs.declared.Verdict.{Verdict}
+use Rattle.refusal.specs.declared.Verdict.the-variants.{Passes, Refused}
+use Rattle.refusal.specs.First.{First}
+use Rattle.least.specs.declared.Bound.{Bound}
+use Rattle.faults.specs.Counts.{CountsFitAt}
+use Rattle.faults.specs.Order.{CheckedFirst}
+use Rattle.faults.proofs.Order.{after-2-at}
+use Rattle.thin.specs.declared.Asked.{Asked}
+use Rattle.thin.specs.declared.Asked.the-variants.{Under, NoUse}
+use Rattle.thin.specs.Thin.{need, thin-lines, Judged}
+
+-- a refusal passes nothing
+not-passed : {X : Type 0} {r : Refusal} → Refused r ≡ Passes → X
+not-passed e = let z : _≡_ {A = ℕ} 0 1 = cc in absurd (omega arith)
+
+refused : {a : Asked} {xs : List ℤ} {t : List ℕ} {room : ℕ} {r : Refusal} → First (thin-lines a xs t room) (Refused r) → Judged a xs t room (Refused r)
+refused f = record { holds = f; fits = λ e. not-passed e; skin = λ e. not-passed e; usable = λ e. not-passed e; room-enough = λ e. not-passed e }
+
+module _ (a : Asked) (xs : List ℤ) (t : List ℕ) (room : ℕ) where
+  pub judge-1 : a ≡ NoUse → Judged a xs t room (Refused LimitUnusable)
+  judge-1 e = refused (unfold thin-lines First in inl (e, refl))
+
+  module _ (n1 : ¬ (a ≡ NoUse)) where
+    pub judge-2 : (¬ CountsFitAt xs t) → Judged a xs t room (Refused CountsOutside)
+    judge-2 e = refused (unfold thin-lines First in inr (n1, inl (e, refl)))
+
+    module _ (n2 : CountsFitAt xs t) where
+      pub judge-3 : room < need xs → Judged a xs t room (Refused RoomShort)
+      judge-3 e = refused (unfold thin-lines First in inr (n1, inr ((λ k. k n2), inl (e, refl))))
+
+      pub judge-on : {v : Verdict} → need xs ≤ room → CheckedFirst xs t v → Judged a xs t room v
+      judge-on {v} h c = record {
+        holds = unfold thin-lines First in inr (n1, inr ((λ k. k n2), inr ((λ k. omega arith), after-2-at true xs t v n2 (c .holds))));
+        fits = λ e. n2;
+        skin = c .skin;
+        usable = λ e. n1;
+        room-enough = λ e. h;
+      }
+
+-- a bound is no unusable limit
+pub under-usable : {a : Asked} {b : Bound} → a ≡ Under b → ¬ (a ≡ NoUse)
+under-usable e k = let z : _≡_ {A = ℕ} 0 1 = cc in omega arith

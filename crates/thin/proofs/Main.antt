@@ -1,0 +1,94 @@
+-- Thinning has one outcome, and a skin with room and a usable limit or none is thinned.
+use mathlib.Core.Path.{_≡_, refl, sym, _∙_, ap}
+use mathlib.Core.Logic.{_⊎_, inl, inr}
+use mathlib.Core.List.{List, _++_}
+use mathlib.Core.Bool.{true}
+use Prim.Native.Nat.{ℕ, _-_, _*_, _%_, _≤_, _<_}
+use native.Mathlib.Omega.{arith}
+use lib.IntN.{ℤ}
+use lib.ListN.{length, drop, replicate}
+use Rattle.surface.specs.Rows.{Row, rows, flat}
+use Rattle.surface.specs.Stage.{Skin}
+use Rattle.surface.specs.Record.{Record}
+use Rattle.refusal.specs.declared.Refusal.{Refusal}
+use Rattle.refusal.specs.declared.Verdict.{Verdict}
+use Rattle.refusal.specs.declared.Verdict.the-variants.{Passes}
+use Rattle.refusal.specs.declared.Verdict.the-variants as verdict
+use Rattle.refusal.specs.First.{First}
+use Rattle.refusal.proofs.Laws.{first-one}
+use Rattle.verdicts.proofs.Laws.{first-before}
+use Rattle.faults.specs.Counts.{CountsFitAt, corners}
+use Rattle.faults.specs.Order.{lines-after-counts}
+use Rattle.faults.proofs.Opposites.{stage-rows, stage-corners}
+use Rattle.faults.proofs.Order.{after-2-at, skin-passes}
+use Rattle.run.specs.Run.{Run}
+use Rattle.run.proofs.Main.{run-one}
+use Rattle.record.specs.Layout.{width, log-of}
+use Rattle.length.specs.declared.Order.{Order}
+use Rattle.least.specs.declared.Bound.{Bound}
+use Rattle.least.specs.Limited.{Allowed}
+use Rattle.thin.specs.declared.Asked.{Asked}
+use Rattle.thin.specs.declared.Asked.the-variants.{Under, NoUse}
+use Rattle.thin.specs.declared.Thinning.{Thinning}
+use Rattle.thin.specs.declared.Thinning.the-variants.{Done, Refused}
+use Rattle.thin.specs.Order.{asked}
+use Rattle.thin.specs.Thin.{need, thin-lines, ThinnedAs, refused, done}
+
+under-one : {b c : Bound} → Under b ≡ Under c → b ≡ c
+under-one e = cc
+
+refused-one : {r s : Refusal} → verdict.Refused r ≡ verdict.Refused s → r ≡ s
+refused-one e = cc
+
+passes-refused : {X : Type 0} {r : Refusal} → Passes ≡ verdict.Refused r → X
+passes-refused e = let z : _≡_ {A = ℕ} 0 1 = cc in absurd (omega arith)
+
+-- no second outcome satisfies the same words
+pub thinned-one : {k : Asked} {xs : List ℤ} {t l : List ℕ} {a a₂ : Thinning} {t′ t₂ l′ l₂ : List ℕ} → ThinnedAs k xs t l a t′ l′ → ThinnedAs k xs t l a₂ t₂ l₂ → (a ≡ a₂) × (t′ ≡ t₂) × (l′ ≡ l₂)
+thinned-one (refused f ea et el) (refused f₂ ea₂ et₂ el₂) = (ea ∙ ap Refused (refused-one (first-one _ f f₂)) ∙ sym ea₂, et ∙ sym et₂, el ∙ sym el₂)
+thinned-one (refused f ea et el) (done f₂ _ _ _ _ _) = passes-refused (first-one _ f₂ f)
+thinned-one (done f _ _ _ _ _) (refused f₂ ea et el) = passes-refused (first-one _ f f₂)
+thinned-one {xs = xs} {t = t} {l = l} (done {b = b} f eb r ea et el) (done {b = c} f₂ ec r₂ ea₂ et₂ el₂) =
+    let e = under-one (sym eb ∙ ec) in
+    let k = run-one (rw e at r) r₂ in
+    let w = k .0 in
+    let z = k .1 in (
+      ea ∙ ap (λ q. Done (length q)) w ∙ sym ea₂,
+      et ∙ ap (λ q. flat q ++ replicate (length t - length (flat q)) 0) z ∙ sym et₂,
+      el ∙ ap (λ q. log-of q ++ drop (width * length q) l) w ∙ sym el₂,
+    )
+
+-- what is refused is not done
+done-refused : {X : Type 0} {k : ℕ} {r : Refusal} → Done k ≡ Refused r → X
+done-refused e = let z : _≡_ {A = ℕ} 0 1 = cc in absurd (omega arith)
+
+-- a skin with room and a usable limit or none passes
+pub thin-passes : {a : Asked} {xs : List ℤ} (t : List ℕ) {room : ℕ} → ¬ (a ≡ NoUse) → length t % 3 ≡ 0 → Skin (corners xs) (rows t) xs → need xs ≤ room → First (thin-lines a xs t room) Passes
+thin-passes {a} {xs} t {room} u threes s h = unfold thin-lines in
+    first-before _ _ _ u (first-before _ _ _ (λ k. k fits) (first-before _ _ _ (λ k. omega arith) (after-2-at true xs t Passes fits (skin-passes t threes (corners xs) xs s))))
+  where
+    fits : CountsFitAt xs t
+    fits = record {
+      table = record { threes = threes; count = stage-rows (s .stage) };
+      coordinates = record { threes = let e = s .corners in omega arith; count = stage-corners (s .stage) };
+    }
+
+-- with room and a usable limit or none, every skin is accepted
+pub accepted : {a : Asked} {xs : List ℤ} {t l : List ℕ} {r : Thinning} {t′ l′ : List ℕ} → ¬ (a ≡ NoUse) → length t % 3 ≡ 0 → Skin (corners xs) (rows t) xs → need xs ≤ length l →
+    ThinnedAs a xs t l r t′ l′ → (k : ℕ) × (r ≡ Done k)
+accepted u threes s room (refused f er et el) = passes-refused (first-one _ (thin-passes _ u threes s room) f)
+accepted u threes s room (done {log = log} f eb r er et el) = (length log, er)
+
+-- what was thinned: the run, each of whose records is the least edge that qualifies, and that ends where none does
+pub thinned-run : {a : Asked} {xs : List ℤ} {t l : List ℕ} {k : ℕ} {t′ l′ : List ℕ} → ThinnedAs a xs t l (Done k) t′ l′ →
+    (b : Bound) × (log : List Record) × (last : List Row) × (a ≡ Under b) × Run (Allowed b xs) (rows t) log last × (k ≡ length log)
+thinned-run (refused f er et el) = done-refused er
+thinned-run (done {b = b} {log = log} {last = last} f eb r er et el) = (b, log, last, eb, r, done-count er)
+  where
+    done-count : {k m : ℕ} → Done k ≡ Done m → k ≡ m
+    done-count e = cc
+
+-- a refused thinning changes nothing
+pub refused-same : {a : Asked} {xs : List ℤ} {t l : List ℕ} {r : Refusal} {t′ l′ : List ℕ} → ThinnedAs a xs t l (Refused r) t′ l′ → (t′ ≡ t) × (l′ ≡ l)
+refused-same (refused f er et el) = (et, el)
+refused-same (done f eb r er et el) = done-refused (sym er)

@@ -1,0 +1,70 @@
+-- Thinning in 01's words: the refusals in their order, or the run and what it leaves.
+use mathlib.Core.Path.{_≡_}
+use mathlib.Core.Bool.{true}
+use mathlib.Core.List.{List, _∷_, _++_}
+use Prim.Native.Nat.{ℕ, _-_, _*_, _≤_, _<_}
+use lib.IntN.{ℤ}
+use lib.ListN.{length, drop, replicate}
+use Rattle.surface.specs.Limits.{least-corners}
+use Rattle.surface.specs.Rows.{Row, rows, flat}
+use Rattle.surface.specs.Stage.{Skin}
+use Rattle.surface.specs.Record.{Record}
+use Rattle.refusal.specs.declared.Refusal.{Refusal}
+use Rattle.refusal.specs.declared.Refusal.the-variants.{LimitUnusable, CountsOutside, RoomShort}
+use Rattle.refusal.specs.declared.Verdict.{Verdict}
+use Rattle.refusal.specs.declared.Verdict.the-variants.{Passes}
+use Rattle.refusal.specs.declared.Verdict.the-variants as verdict
+use Rattle.refusal.specs.First.{Clause, _when_, First}
+use Rattle.faults.specs.Counts.{CountsFitAt, corners}
+use Rattle.faults.specs.Order.{lines-after-counts}
+use Rattle.run.specs.Run.{Run}
+use Rattle.record.specs.Layout.{width, log-of}
+use Rattle.length.specs.declared.Order.{Order}
+use Rattle.length.specs.Limit.{most-limit}
+use Rattle.least.specs.declared.Bound.{Bound}
+use Rattle.least.specs.declared.Bound.the-variants.{Free, Within}
+use Rattle.least.specs.Limited.{Allowed}
+use Rattle.thin.specs.declared.Asked.{Asked}
+use Rattle.thin.specs.declared.Asked.the-variants.{Under, NoUse}
+use Rattle.thin.specs.declared.Thinning.{Thinning}
+use Rattle.thin.specs.declared.Thinning.the-variants.{Done, Refused}
+use Rattle.thin.specs.Order.{asked}
+
+-- thinning needs 10 x (corners - 4) log numbers
+abbrev pub need : List ℤ → ℕ
+need xs = width * (corners xs - least-corners)
+
+-- 1, 2, 3, then 4 to 11 of a first table
+unfoldable pub thin-lines : Asked → List ℤ → List ℕ → ℕ → List Clause
+thin-lines a xs t room =
+    (LimitUnusable when (a ≡ NoUse))
+    ∷ (CountsOutside when (¬ CountsFitAt xs t))
+    ∷ (RoomShort when (room < need xs))
+    ∷ lines-after-counts true xs t
+
+-- a bound within the most that a limit may be, as the limit reader gives it
+abbrev pub Fair : Asked → Type 0
+Fair (Under Free) = Unit
+Fair (Under (Within c)) = c ≤ most-limit
+Fair NoUse = Unit
+
+-- the verdict on a thinning: the first that holds; and where none does, a skin
+pub record Judged (a : Asked) (xs : List ℤ) (t : List ℕ) (room : ℕ) (v : Verdict) : Type 0 where
+  pub holds : First (thin-lines a xs t room) v
+  pub fits : v ≡ Passes → CountsFitAt xs t
+  pub skin : v ≡ Passes → Skin (corners xs) (rows t) xs
+  pub usable : v ≡ Passes → ¬ (a ≡ NoUse)
+  pub room-enough : v ≡ Passes → need xs ≤ room
+
+-- the answer r to thinning the table t of the corners xs as a asks, with the log l, and what then stands in table and log
+pub data ThinnedAs (a : Asked) (xs : List ℤ) (t l : List ℕ) (r : Thinning) (t′ l′ : List ℕ) : Type 0 where
+  -- thinning refused leaves table and log untouched
+  refused : {e : Refusal} → First (thin-lines a xs t (length l)) (verdict.Refused e) → r ≡ Refused e → t′ ≡ t → l′ ≡ l → ThinnedAs a xs t l r t′ l′
+  -- done, it leaves the last stage in front, zeros in the rest of the first table's length, and the log past its records untouched
+  done : {b : Bound} {log : List Record} {last : List Row} → First (thin-lines a xs t (length l)) Passes → a ≡ Under b →
+      Run (Allowed b xs) (rows t) log last → r ≡ Done (length log) → t′ ≡ flat last ++ replicate (length t - length (flat last)) 0 →
+      l′ ≡ log-of log ++ drop (width * length log) l → ThinnedAs a xs t l r t′ l′
+
+-- under an order
+abbrev pub Thinned : Order → List ℤ → List ℕ → List ℕ → Thinning → List ℕ → List ℕ → Type 0
+Thinned o = ThinnedAs (asked o)

@@ -1,0 +1,88 @@
+// Thinning: the call of document 01.
+use least::Bound;
+use length::Length;
+use length::Order;
+use length::Reading;
+use refusal::Refusal;
+use refusal::Verdict;
+ghost use mathlib.Core.Path.{_≡_};
+ghost use Rattle.faults.specs.Tells.{Tells};
+ghost use Rattle.thin.specs.declared.Asked.the-variants.{NoUse};
+ghost use Rattle.thin.specs.Order.{asked-by, asked};
+ghost use Rattle.thin.specs.Thin.{Fair, Judged, ThinnedAs, Thinned};
+
+// What an order asks: a bound on the edges, or nothing that can be used.
+pub enum Asked {
+    Under(Bound),
+    NoUse,
+}
+
+// What a thinning answers: how many records were written, or the refusal.
+pub enum Thinning {
+    Done(usize),
+    Refused(Refusal),
+}
+
+// What a reading asks.
+fn asked_of(r: Reading) -> Asked
+    ensures { λ a. ⌜ a ≡ asked-by r ⌝ }
+{
+    match r {
+        Reading::Whole(c) => Asked::Under(Bound::Within(c)),
+        Reading::Unusable => Asked::NoUse,
+    }
+}
+
+// Whether a limit is unusable.
+fn no_use(a: Asked) -> bool
+    ensures { λ r. ⌜ Tells r (a ≡ NoUse) (¬ (a ≡ NoUse)) ⌝ }
+{
+    match a {
+        Asked::Under(_) => false,
+        Asked::NoUse => true,
+    }
+}
+
+// Inner: the first of a thinning's refusals, 1 to 11, that holds; room is the log's length.
+pub fn judge(table: &[u32], corners: &[i32], a: Asked, room: usize) -> Verdict
+    ensures { λ v. ⌜ Judged a (now (corners .entry)) (now (table .entry)) room v ⌝ }
+{
+    if no_use(a) {
+        return Verdict::Refused(Refusal::LimitUnusable);
+    }
+    if !counts::counts_fit_at(table, corners) {
+        return Verdict::Refused(Refusal::CountsOutside);
+    }
+    if room < record::WIDTH * (corners.len() / 3 - surface::LEAST_CORNERS) {
+        return Verdict::Refused(Refusal::RoomShort);
+    }
+    skin::check_first(table, corners)
+}
+
+// Thinning from a first table, as asked.
+fn thin_as(table: &mut [u32], corners: &[i32], a: Asked, log: &mut [u32]) -> Thinning
+    requires { ⌜ Fair a ⌝ }
+    ensures { λ r. ⌜ ThinnedAs a (now (corners .entry)) (now (table .entry)) (now (log .entry)) r (now (table .exit)) (now (log .exit)) ⌝ }
+{
+    let v = judge(table, corners, a, log.len());
+    match v {
+        Verdict::Refused(r) => Thinning::Refused(r),
+        Verdict::Passes => match a {
+            Asked::NoUse => Thinning::Refused(Refusal::LimitUnusable),
+            Asked::Under(b) => {
+                let rows = table.len() / 3;
+                Thinning::Done(engine::go_on(table, rows, corners.len() / 3, corners, b, log, 0))
+            }
+        },
+    }
+}
+
+// Thins a first table under an order. The limit reader matches the length that a limit holds.
+pub fn thin(table: &mut [u32], corners: &[i32], order: Order, log: &mut [u32]) -> Thinning
+    ensures { λ r. ⌜ Thinned order (now (corners .entry)) (now (table .entry)) (now (log .entry)) r (now (table .exit)) (now (log .exit)) ⌝ }
+{
+    match order {
+        Order::NoLimit => thin_as(table, corners, Asked::Under(Bound::Free), log),
+        Order::Limit(l) => thin_as(table, corners, asked_of(length::read_limit(l)), log),
+    }
+}

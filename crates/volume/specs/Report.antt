@@ -1,0 +1,43 @@
+-- What a volume and a change tell, in every case.
+use mathlib.Core.Path.{_≡_}
+use mathlib.Core.Bool.{false}
+use mathlib.Core.List.{List, [], _∷_}
+use Prim.Native.Nat.{ℕ, _*_, _≤_}
+use lib.IntN.{ℤ, pos, _-ℤ_, _*ℤ_, natAbs}
+use Rattle.surface.specs.Rows.{rows}
+use Rattle.surface.specs.Stage.{Stage, InRange}
+use Rattle.refusal.specs.declared.Verdict.{Verdict}
+use Rattle.refusal.specs.declared.Verdict.the-variants.{Passes}
+use Rattle.refusal.specs.First.{First}
+use Rattle.refusal.specs.Told.{Told}
+use Rattle.verdicts.specs.Lesser.{either}
+use Rattle.answer.specs.Outcome.{outcome}
+use Rattle.faults.specs.Counts.{corners}
+use Rattle.faults.specs.Order.{lines-at, CheckedStageAt}
+use Rattle.figure.specs.Sum.{sixfold}
+use Rattle.figure.specs.Rounding.{divisor, figure, change}
+use Rattle.volume.specs.declared.Measured.{Measured}
+use Rattle.volume.specs.declared.Measured.the-variants.{Figure}
+
+-- a volume is asked of one stage with its coordinates: the first of 2, 4 to 8, 10 and 11 that holds, and where none does, the table is a stage
+-- and the answer the figure of its exact sum
+pub record VolumeReport (xs : List ℤ) (t : List ℕ) (a : Told) : Type 0 where
+  pub verdict : Verdict
+  pub checked : CheckedStageAt xs t verdict
+  pub tells : a ≡ outcome verdict (figure (sixfold xs (rows t)) ∷ [])
+
+-- a change is asked of two stages over the same coordinates: the first of those numbers that holds of the one or of the other, and where none
+-- does, both are stages and the answer is the later exact sum less the earlier, rounded once
+pub record ChangeReport (xs : List ℤ) (earlier later : List ℕ) (a : Told) : Type 0 where
+  pub verdict : Verdict
+  pub first : First (either (lines-at false xs earlier) (lines-at false xs later)) verdict
+  pub earlier-stage : verdict ≡ Passes → Stage (corners xs) (rows earlier)
+  pub later-stage : verdict ≡ Passes → Stage (corners xs) (rows later)
+  pub in-range : verdict ≡ Passes → InRange xs
+  pub tells : a ≡ outcome verdict (change (sixfold xs (rows earlier)) (sixfold xs (rows later)) ∷ [])
+
+-- the answer is a figure, within half a cubic metre of the exact sum s over 6,000,000
+pub record Near (s : ℤ) (a : Measured) : Type 0 where
+  pub f : ℤ
+  pub is : a ≡ Figure f
+  pub near : 2 * natAbs (pos divisor *ℤ f -ℤ s) ≤ divisor

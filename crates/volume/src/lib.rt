@@ -1,0 +1,43 @@
+// The volume of a stage and the change between two, in cubic metres. Nothing is written.
+ghost use Rattle.volume.specs.Answer.{told};
+ghost use Rattle.volume.specs.Report.{VolumeReport, ChangeReport};
+use refusal::Refusal;
+use refusal::Verdict;
+
+// What a volume or a change answers: the figure in cubic metres, or the first refusal that holds.
+pub enum Measured {
+    Figure(i64),
+    Refused(Refusal),
+}
+
+// The volume of a stage with its coordinates.
+pub fn volume(table: &[u32], corners: &[i32]) -> Measured
+    ensures { λ r. ⌜ VolumeReport (now (corners .entry)) (now (table .entry)) (told r) ⌝ }
+{
+    let verdict = skin::check_stage_at(table, corners);
+    match verdict {
+        Verdict::Passes => {
+            let sum = figure::sixfold_sum(table, corners);
+            let metres = figure::cubic_metres(sum);
+            Measured::Figure(metres)
+        }
+        Verdict::Refused(first) => Measured::Refused(first),
+    }
+}
+
+// The change from an earlier stage to a later one over the same coordinates.
+pub fn change(earlier: &[u32], later: &[u32], corners: &[i32]) -> Measured
+    ensures { λ r. ⌜ ChangeReport (now (corners .entry)) (now (earlier .entry)) (now (later .entry)) (told r) ⌝ }
+{
+    let of_earlier = skin::check_stage_at(earlier, corners);
+    let of_later = skin::check_stage_at(later, corners);
+    let verdict = verdicts::lesser(of_earlier, of_later);
+    match verdict {
+        Verdict::Passes => {
+            let before = figure::sixfold_sum(earlier, corners);
+            let after = figure::sixfold_sum(later, corners);
+            Measured::Figure(figure::change_of(before, after))
+        }
+        Verdict::Refused(least) => Measured::Refused(least),
+    }
+}
