@@ -1,0 +1,86 @@
+-- Rooms with rows in front: read, filled again, and a row put in.
+use mathlib.Core.Path.{_≡_, refl, sym, _∙_, ap, ap₂}
+use mathlib.Core.List.{List, [], _∷_, _++_, append-assoc}
+use Prim.Native.Nat.{ℕ, zero, suc, _+_, _-_, _*_, _≤_, _<_}
+use native.Mathlib.Omega.{arith}
+use lib.ListN.{length, take, drop, set, length-append, length-drop, take-append-drop}
+use lib.Seq.{take-at, drop-at, take-take, drop-drop, length-take-le, drop-append-add, sets, sets-eq}
+use Rattle.surface.specs.Rows.{Row, row, rows, flat}
+use Rattle.surface.specs.Grow.{put}
+use Rattle.surface.proofs.Flat.{rows-flat, flat-length, flat-rows, rows-length}
+use Rattle.surface.proofs.Put.{put-length}
+use Rattle.grow.specs.Room.{front, filled, MovedOn}
+
+-- as many rows stand in front as are told
+pub front-length : (m : ℕ) (room : List ℕ) → 3 * m ≤ length room → length (front m room) ≡ m
+front-length m room h = rows-length m (take (3 * m) room) (length-take-le (3 * m) room h)
+
+pub front-flat : (m : ℕ) (room : List ℕ) → 3 * m ≤ length room → flat (front m room) ≡ take (3 * m) room
+front-flat m room h = flat-rows m (take (3 * m) room) (length-take-le (3 * m) room h)
+
+pub front-filled : (m : ℕ) (T : List Row) (room : List ℕ) → length T ≡ m → front m (filled T room) ≡ T
+front-filled m T room h = ap rows (take-at (flat T) (drop (3 * length T) room) (3 * m) (flat-length T ∙ ap (λ z. 3 * z) h)) ∙ rows-flat T
+
+pub filled-length : (T : List Row) (room : List ℕ) → 3 * length T ≤ length room → length (filled T room) ≡ length room
+filled-length T room h =
+    let e = length-append (flat T) (drop (3 * length T) room) in
+    let f = flat-length T in
+    let d = length-drop (3 * length T) room in
+    omega arith
+
+-- what lies past the second rows lies past the first
+pub filled-again : (S T : List Row) (room : List ℕ) → length S ≤ length T → filled T (filled S room) ≡ filled T room
+filled-again S T room h =
+    let e : 3 * length T ≡ length (flat S) + (3 * length T - 3 * length S) = let f = flat-length S in omega arith in
+    let g : 3 * length S + (3 * length T - 3 * length S) ≡ 3 * length T = omega arith in
+    ap (λ z. flat T ++ z)
+    (ap (λ z. drop z (filled S room)) e
+    ∙ drop-append-add (flat S) (drop (3 * length S) room) (3 * length T - 3 * length S)
+    ∙ drop-drop (3 * length T - 3 * length S) (3 * length S) room
+    ∙ ap (λ z. drop z room) g)
+
+-- a row put in, number by number
+flat-put : (i : ℕ) (a b c : ℕ) (T : List Row) → i ≤ length T → flat (put i (row a b c) T) ≡ take (3 * i) (flat T) ++ (a ∷ b ∷ c ∷ drop (3 * i) (flat T))
+unfolding flat put
+flat-put zero a b c T h = refl
+flat-put (suc i) a b c [] h = absurd (omega arith)
+flat-put (suc i) a b c (row u v w ∷ T) h =
+    let e : 3 * suc i ≡ suc (suc (suc (3 * i))) = omega arith in
+    rw e (ap (λ l. u ∷ v ∷ w ∷ l) (flat-put i a b c T (omega arith)))
+
+-- the numbers from the place on moved by three, and the row's three written there
+module _ (m i a b c : ℕ) (room room₁ : List ℕ) (h : i ≤ m) (fits : 3 * (m + 1) ≤ length room) (same : length room₁ ≡ length room) (moved : MovedOn (3 * i) (3 * m) room room₁) where
+  abbrev f : List ℕ
+  f = take (3 * m) room
+
+  before : take (3 * i) room₁ ≡ take (3 * i) f
+  before =
+      sym (take-take (3 * i) (3 * i + 3) room₁ (omega arith))
+      ∙ ap (take (3 * i)) (moved .before)
+      ∙ take-take (3 * i) (3 * i + 3) room (omega arith)
+      ∙ sym (take-take (3 * i) (3 * m) room (omega arith))
+
+  pub row-put : set (set (set room₁ (3 * i) a) (3 * i + 1) b) (3 * i + 2) c ≡ filled (put i (row a b c) (front m room)) room
+  row-put =
+      let one : 3 * i + 1 ≡ suc (3 * i) = omega arith in
+      let two : 3 * i + 2 ≡ suc (suc (3 * i)) = omega arith in
+      (λ l. set (set (set room₁ (3 * i) a) (one l) b) (two l) c)
+      ∙ sets-eq (a ∷ b ∷ c ∷ []) room₁ (3 * i) (omega arith)
+      ∙ ap₂ (λ x z. x ++ (a ∷ b ∷ c ∷ []) ++ z) before (moved .after)
+      ∙ shift
+    where
+      rest : drop (3 * m + 3) room ≡ drop (3 * length (put i (row a b c) (front m room))) room
+      rest =
+          let e = put-length i (row a b c) (front m room) in
+          let g = front-length m room (omega arith) in
+          let q : 3 * m + 3 ≡ 3 * length (put i (row a b c) (front m room)) = omega arith in
+          ap (λ z. drop z room) q
+
+      shift : take (3 * i) f ++ (a ∷ b ∷ c ∷ []) ++ (drop (3 * i) f ++ drop (3 * m + 3) room) ≡ filled (put i (row a b c) (front m room)) room
+      shift =
+          let g = front-length m room (omega arith) in
+          ap (λ z. take (3 * i) f ++ (a ∷ b ∷ c ∷ []) ++ (drop (3 * i) f ++ z)) rest
+          ∙ append-assoc (take (3 * i) f) (a ∷ b ∷ c ∷ []) (drop (3 * i) f ++ drop (3 * length (put i (row a b c) (front m room))) room)
+          ∙ sym (append-assoc (take (3 * i) f) (a ∷ b ∷ c ∷ drop (3 * i) f) (drop (3 * length (put i (row a b c) (front m room))) room))
+          ∙ ap (λ z. z ++ drop (3 * length (put i (row a b c) (front m room))) room)
+          (ap (λ z. take (3 * i) z ++ (a ∷ b ∷ c ∷ drop (3 * i) z)) (sym (front-flat m room (omega arith))) ∙ sym (flat-put i a b c (front m room) (omega arith)))

@@ -1,0 +1,4 @@
+pub mod Walking
+pub mod Moving
+pub mod Filling
+pub mod Growing
