@@ -14,9 +14,9 @@ use Rattle.volume.specs.Report.{VolumeReport}
 use Rattle.thin.specs.declared.Thinning.{Thinning}
 use Rattle.thin.specs.declared.Thinning.the-variants.{Done, Refused}
 use Rattle.thin.specs.Thin.{Thinned}
-use Rattle.cases.specs.Skins.{T, T-corners, O, O-corners}
+use Rattle.cases.specs.Skins.{T, T-corners, O, O-corners, M, M-corners}
 use Rattle.cases.specs.Cases.{lent, cm-141, cm-142, O-one}
-use Rattle.cases.proofs.Starred.{case-T, case-O, case-141, case-142, weighs-one}
+use Rattle.cases.proofs.Starred.{case-T, case-M, case-O, case-141, case-142, weighs-one}
 
 done-refused : {X : Type 0} {k : ℕ} {r : Refusal} → Refused r ≡ Done k → X
 done-refused e = let z : _≡_ {A = ℕ} 0 1 = cc in absurd (omega arith)
@@ -26,44 +26,48 @@ done-count e = cc
 
 -- one that refuses everything
 pub refuses-all : (r : Refusal) (u m : List ℕ) → ¬ Thinned NoLimit T-corners T [] (Refused r) u m
-refuses-all r u m h = done-refused ((case-T (Refused r) u m h) .0)
+refuses-all r u m h = done-refused ((case-T .1 (Refused r) u m h) .0)
 
 -- one that answers with the tetrahedron for everything: its first row is not the one that O ends with
 pub tetrahedron-for-all : (b : Thinning) (u m : List ℕ) → getD u 1 0 ≡ getD T 1 0 → ¬ Thinned NoLimit O-corners O (lent 20) b u m
-tetrahedron-for-all b u m e h = let k = ap (λ l. getD l 1 0) ((case-O b u m h) .1) in let f : _≡_ {A = ℕ} 1 3 = sym e ∙ k in omega arith
+tetrahedron-for-all b u m e h = let k = ap (λ l. getD l 1 0) ((case-O .1 b u m h) .1) in let f : _≡_ {A = ℕ} 1 3 = sym e ∙ k in omega arith
+
+-- one that ends in a tetrahedron whatever it is given: M has no record
+pub tetrahedron-for-M : (k : ℕ) (u m : List ℕ) → ¬ Thinned NoLimit M-corners M (lent 30) (Done (suc k)) u m
+tetrahedron-for-M k u m h = let e = done-count ((case-M .1 (Done (suc k)) u m h) .0) in omega arith
 
 -- one that contracts nothing
 pub contracts-nothing : (u m : List ℕ) → ¬ Thinned NoLimit O-corners O (lent 20) (Done 0) u m
-contracts-nothing u m h = let e = done-count ((case-O (Done 0) u m h) .0) in omega arith
+contracts-nothing u m h = let e = done-count ((case-O .1 (Done 0) u m h) .0) in omega arith
 
--- one that does all steps under the first record: the log's second record is left as it was lent
-pub all-under-one : (b : Thinning) (u m : List ℕ) → getD m 10 0 ≡ 7 → ¬ Thinned NoLimit O-corners O (lent 20) b u m
-all-under-one b u m e h = let k = ap (λ l. getD l 10 0) ((case-O b u m h) .2) in let f : _≡_ {A = ℕ} 7 0 = sym e ∙ k in omega arith
+-- one that does all steps under the first record: the log's second record does not remove corner 2
+pub all-under-one : (b : Thinning) (u m : List ℕ) → getD m 11 0 ≢ 2 → ¬ Thinned NoLimit O-corners O (lent 20) b u m
+all-under-one b u m n h = n (ap (λ l. getD l 11 0) ((case-O .1 b u m h) .2))
 
 -- an invented step count
 pub invented-count : (k : ℕ) (u m : List ℕ) → k ≢ 2 → ¬ Thinned NoLimit O-corners O (lent 20) (Done k) u m
-invented-count k u m n h = n (done-count ((case-O (Done k) u m h) .0))
+invented-count k u m n h = n (done-count ((case-O .1 (Done k) u m h) .0))
 
 -- one that counts common neighbours only, and contracts an edge of T
 pub neighbours-only : (k : ℕ) (u m : List ℕ) → ¬ Thinned NoLimit T-corners T [] (Done (suc k)) u m
-neighbours-only k u m h = let e = done-count ((case-T (Done (suc k)) u m h) .0) in omega arith
+neighbours-only k u m h = let e = done-count ((case-T .1 (Done (suc k)) u m h) .0) in omega arith
 
 -- one that keeps the higher number: the first record does not begin 1, 0
 pub keeps-higher : (b : Thinning) (u m : List ℕ) → getD m 0 0 ≡ 1 → ¬ Thinned NoLimit O-corners O (lent 20) b u m
-keeps-higher b u m e h = let k = ap (λ l. getD l 0 0) ((case-O b u m h) .2) in let f : _≡_ {A = ℕ} 1 0 = sym e ∙ k in omega arith
+keeps-higher b u m e h = let k = ap (λ l. getD l 0 0) ((case-O .1 b u m h) .2) in let f : _≡_ {A = ℕ} 1 0 = sym e ∙ k in omega arith
 
 -- one that writes no zeros behind the last stage
 pub no-zeros : (b : Thinning) (u m : List ℕ) → getD u 12 0 ≡ getD O 12 0 → ¬ Thinned NoLimit O-corners O (lent 20) b u m
-no-zeros b u m e h = let k = ap (λ l. getD l 12 0) ((case-O b u m h) .1) in let f : _≡_ {A = ℕ} 5 0 = sym e ∙ k in omega arith
+no-zeros b u m e h = let k = ap (λ l. getD l 12 0) ((case-O .1 b u m h) .1) in let f : _≡_ {A = ℕ} 5 0 = sym e ∙ k in omega arith
 
--- one that compares the limit with the length unsquared, or takes a limit for none: at 141 cm nothing is contracted
+-- one that rounds the length down before comparing, or takes a limit for none: at 141 cm nothing is contracted
 pub limit-ignored : (k : ℕ) (u m : List ℕ) → ¬ Thinned cm-141 O-corners O (lent 20) (Done (suc k)) u m
-limit-ignored k u m h = let e = done-count ((case-141 (Done (suc k)) u m h) .0) in omega arith
+limit-ignored k u m h = let e = done-count ((case-141 .1 (Done (suc k)) u m h) .0) in omega arith
 
--- one that contracts nothing under any limit
+-- one that compares the squared length with the limit unsquared: at 142 cm it contracts nothing
 pub limit-stops-all : (u m : List ℕ) → ¬ Thinned cm-142 O-corners O (lent 20) (Done 0) u m
-limit-stops-all u m h = let e = done-count ((case-142 (Done 0) u m h) .0) in omega arith
+limit-stops-all u m h = let e = done-count ((case-142 .1 (Done 0) u m h) .0) in omega arith
 
 -- one that takes rounded changes off a rounded start: O shows 0 at stage one, where 1 is right
 pub rounded-start : ¬ VolumeReport O-corners O-one (told (Figure (pos 0)))
-rounded-start h = let e : Figure (pos 0) ≡ Figure (pos 1) = (weighs-one .1) (Figure (pos 0)) h in let z : _≡_ {A = ℕ} 0 1 = cc in omega arith
+rounded-start h = let e : Figure (pos 0) ≡ Figure (pos 1) = (weighs-one .2) (Figure (pos 0)) h in let z : _≡_ {A = ℕ} 0 1 = cc in omega arith

@@ -10,7 +10,7 @@ use lib.Dec.{T as So, leb, leb→le, le→leb}
 use lib.Ieee.{binary64, ofBits, ofFields, odd}
 use lib.Count.{trailingZeros}
 use lib.IntN.{ℤ, pos, negℤ}
-use lib.ListN.{length}
+use lib.ListN.{length, take}
 use Rattle.surface.specs.Rows.{Row, row, rows, flat}
 use Rattle.surface.specs.Table.{edges}
 use Rattle.surface.specs.Stage.{Skin, StageTable, InRange}
@@ -39,7 +39,8 @@ use Rattle.length.specs.Limit.{capped, reading, limit-of}
 use Rattle.least.specs.declared.Bound.{Bound}
 use Rattle.least.specs.declared.Bound.the-variants.{Free, Within}
 use Rattle.least.specs.Limited.{Allowed}
-use Rattle.record.specs.Layout.{log-of}
+use Rattle.run.proofs.Main.{taken-replayed}
+use Rattle.record.specs.Layout.{log-of, first-records, records}
 use Rattle.thin.specs.declared.Asked.{Asked}
 use Rattle.thin.specs.declared.Asked.the-variants.{Under, NoUse}
 use Rattle.thin.specs.declared.Thinning.{Thinning}
@@ -49,14 +50,14 @@ use Rattle.thin.specs.Thin.{need, thin-lines, Thinned, ThinnedAs, refused, done
 use Rattle.thin.proofs.Main.{thinned-one, thin-passes}
 use Rattle.surface.proofs.Testing.{every}
 use Rattle.computed.proofs.Passing.{row-fits, rows-below, passes, passes-stage}
-use Rattle.computed.proofs.Running.{Passing, least, over, Steps, stays-at, goes-on, run-sound, run-same}
+use Rattle.computed.proofs.Running.{Passing, least, over, Steps, stays-at, goes-on, steps-taken, run-sound, run-same}
 use Rattle.cases.specs.Skins.{T, T-corners, T-turned, O, O-corners, M, M-corners}
-use Rattle.cases.specs.Cases.{Case, thins, weighs, changes, Holds, cm-141, cm-142, lent, O-last, O-log, O-one, O-two, starred, All, all-none, all-more}
+use Rattle.cases.specs.Cases.{Case, thins, weighs, changes, leads, Holds, cm-141, cm-142, lent, O-last, O-log, O-one, O-two, starred, All, all-none, all-more}
 use Rattle.cases.proofs.Skinned.{T-skin, O-skin, M-skin}
 
 -- the listed outcome is the only one
 only : (o : Order) {xs : List ℤ} {t l : List ℕ} {a : Thinning} {t′ l′ : List ℕ} → Thinned o xs t l a t′ l′ → Holds (thins o xs t l a t′ l′)
-only o h b u m k = thinned-one k h
+only o h = (h, λ b u m k. thinned-one k h)
 
 under-usable : {a : Asked} {b : Bound} → a ≡ Under b → ¬ (a ≡ NoUse)
 under-usable e k = let z : _≡_ {A = ℕ} 0 1 = cc in omega arith
@@ -75,10 +76,10 @@ limited : (L : ℕ) (xs : List ℤ) {S S′ : List Row} {l : List Record} → Ru
 limited L xs r = run-same (λ a b k. leb→le (squared-distance xs a b) (L * L) k) (λ a b k. le→leb (squared-distance xs a b) (L * L) k) r
 
 -- O's two records
-k₁ : Record
+abbrev k₁ : Record
 k₁ = record { kept = 0; removed = 1; place-1 = 0; row-1 = row 0 1 2; place-2 = 3; row-2 = row 0 4 1 }
 
-k₂ : Record
+abbrev k₂ : Record
 k₂ = record { kept = 0; removed = 2; place-1 = 0; row-1 = row 0 2 3; place-2 = 2; row-2 = row 5 2 0 }
 
 abbrev O-end : List Row
@@ -88,16 +89,16 @@ pub case-T : Holds (thins NoLimit T-corners T [] (Done 0) T [])
 unfolding edges rows flat log-of
 case-T = only NoLimit (done {b = Free} {log = []} {last = rows T} (thin-passes T (under-usable refl) refl T-skin (omega arith)) refl (free T-corners (run-sound any (stays-at refl) tt)) refl refl refl)
 
-case-M : Holds (thins NoLimit M-corners M (lent 30) (Done 0) M (lent 30))
+pub case-M : Holds (thins NoLimit M-corners M (lent 30) (Done 0) M (lent 30))
 unfolding edges rows flat log-of
 case-M = only NoLimit (done {b = Free} {log = []} {last = rows M} (thin-passes M (under-usable refl) refl M-skin (omega arith)) refl (free M-corners (run-sound any (stays-at refl) tt)) refl refl refl)
 
 O-steps : (p : ℕ → ℕ → Bool) → So (least p 0 1 (rows O)) → So (least p 0 2 (contract 0 1 (rows O))) → Steps p (rows O) (k₁ ∷ k₂ ∷ []) O-end
-unfolding edges rows contract renumber replace stays? holds? ℕ-discrete leaving later k₁ k₂
+unfolding edges rows contract renumber replace stays? holds? ℕ-discrete leaving later
 O-steps p h₁ h₂ = goes-on h₁ refl (goes-on h₂ refl (stays-at refl))
 
 pub case-O : Holds (thins NoLimit O-corners O (lent 20) (Done 2) O-last O-log)
-unfolding edges rows flat log-of contract renumber replace stays? holds? ℕ-discrete leaving later k₁ k₂
+unfolding edges rows flat log-of contract renumber replace stays? holds? ℕ-discrete leaving later
 case-O = only NoLimit (done {b = Free} {log = k₁ ∷ k₂ ∷ []} {last = O-end} (thin-passes O (under-usable refl) refl O-skin (omega arith)) refl (free O-corners (run-sound any (O-steps any tt tt) tt)) refl refl refl)
 
 pub case-141 : Holds (thins cm-141 O-corners O (lent 20) (Done 0) O (lent 20))
@@ -105,7 +106,7 @@ unfolding edges rows flat log-of limit-of reading capped ofBits squared-distance
 case-141 = only cm-141 (done {b = Within 141} {log = []} {last = rows O} (thin-passes O (under-usable {b = Within 141} refl) refl O-skin (omega arith)) refl (limited 141 O-corners (run-sound (within 141 O-corners) (stays-at refl) tt)) refl refl refl)
 
 pub case-142 : Holds (thins cm-142 O-corners O (lent 20) (Done 2) O-last O-log)
-unfolding edges rows flat log-of contract renumber replace stays? holds? ℕ-discrete leaving later k₁ k₂ limit-of reading capped ofBits squared-distance
+unfolding edges rows flat log-of contract renumber replace stays? holds? ℕ-discrete leaving later limit-of reading capped ofBits squared-distance
 case-142 = only cm-142 (done {b = Within 142} {log = k₁ ∷ k₂ ∷ []} {last = O-end} (thin-passes O (under-usable {b = Within 142} refl) refl O-skin (omega arith)) refl (limited 142 O-corners (run-sound (within 142 O-corners) (O-steps (within 142 O-corners) tt tt) tt)) refl refl refl)
 
 -- T with a row turned over: the directed edge 0 to 2 is there twice
@@ -165,28 +166,29 @@ unfolding rows edges
 O-two-table = record { count = refl; stage = passes-stage 6 (rows O-two) tt }
 
 -- the figure of the sum is the only answer
-weighed : {n : ℕ} {xs : List ℤ} (t : List ℕ) {f : ℤ} → length xs ≡ 3 * n → InRange xs → StageTable n t → figure (sixfold xs (rows t)) ≡ f → (b : Measured) → VolumeReport xs t (told b) → b ≡ Figure f
-weighed t e r s h b p = volume-one b _ p (volume-there e r s) ∙ ap Figure h
+weighed : {n : ℕ} {xs : List ℤ} (t : List ℕ) {f : ℤ} → length xs ≡ 3 * n → InRange xs → StageTable n t → figure (sixfold xs (rows t)) ≡ f →
+    VolumeReport xs t (told (Figure f)) × ((b : Measured) → VolumeReport xs t (told b) → b ≡ Figure f)
+weighed t e r s h = let v = volume-there e r s in (rw h at v, λ b p. volume-one b _ p v ∙ ap Figure h)
 
 changed : {n : ℕ} {xs : List ℤ} (t u : List ℕ) {f : ℤ} → length xs ≡ 3 * n → InRange xs → StageTable n t → StageTable n u → change (sixfold xs (rows t)) (sixfold xs (rows u)) ≡ f →
-    (b : Measured) → ChangeReport xs t u (told b) → b ≡ Figure f
-changed t u e r s z h b p = change-one b _ p (change-there e r s z) ∙ ap Figure h
+    ChangeReport xs t u (told (Figure f)) × ((b : Measured) → ChangeReport xs t u (told b) → b ≡ Figure f)
+changed t u e r s z h = let v = change-there e r s z in (rw h at v, λ b p. change-one b _ p v ∙ ap Figure h)
 
 weighs-T : Holds (weighs T-corners T (negℤ (pos 27000000)) (negℤ (pos 5)))
 unfolding rows sixfold determinant minor figure
-weighs-T = (refl, weighed T (T-skin .corners) (T-skin .in-range) T-table refl)
+weighs-T = let w = weighed T (T-skin .corners) (T-skin .in-range) T-table refl in (refl, w .0, w .1)
 
 weighs-O : Holds (weighs O-corners O (pos 8000000) (pos 1))
 unfolding rows sixfold determinant minor figure
-weighs-O = (refl, weighed O (O-skin .corners) (O-skin .in-range) O-table refl)
+weighs-O = let w = weighed O (O-skin .corners) (O-skin .in-range) O-table refl in (refl, w .0, w .1)
 
 pub weighs-one : Holds (weighs O-corners O-one (pos 4000000) (pos 1))
 unfolding rows sixfold determinant minor figure
-weighs-one = (refl, weighed O-one (O-skin .corners) (O-skin .in-range) O-one-table refl)
+weighs-one = let w = weighed O-one (O-skin .corners) (O-skin .in-range) O-one-table refl in (refl, w .0, w .1)
 
 weighs-two : Holds (weighs O-corners O-two (pos 2000000) (pos 0))
 unfolding rows sixfold determinant minor figure
-weighs-two = (refl, weighed O-two (O-skin .corners) (O-skin .in-range) O-two-table refl)
+weighs-two = let w = weighed O-two (O-skin .corners) (O-skin .in-range) O-two-table refl in (refl, w .0, w .1)
 
 changes-one : Holds (changes O-corners O O-one (negℤ (pos 1)))
 unfolding rows sixfold determinant minor figure
@@ -200,9 +202,18 @@ changes-both : Holds (changes O-corners O O-two (negℤ (pos 1)))
 unfolding rows sixfold determinant minor figure
 changes-both = changed O O-two (O-skin .corners) (O-skin .in-range) O-table O-two-table refl
 
+-- O's stages
+leads-one : Holds (leads O (take 10 O-log) O-one)
+unfolding edges rows contract renumber replace stays? holds? ℕ-discrete leaving later first-records
+leads-one = taken-replayed (steps-taken any (goes-on {k = k₁} tt refl (stays-at refl)))
+
+leads-two : Holds (leads O O-log O-two)
+unfolding edges rows contract renumber replace stays? holds? ℕ-discrete leaving later first-records
+leads-two = taken-replayed (steps-taken any (goes-on {k = k₁} tt refl (goes-on {k = k₂} tt refl (stays-at refl))))
+
 -- every starred case holds
 pub all-starred : All Holds starred
 all-starred =
     all-more case-T (all-more case-turned (all-more case-O (all-more case-141 (all-more case-142 (all-more case-M
-    (all-more weighs-T (all-more weighs-O (all-more weighs-one (all-more weighs-two
-    (all-more changes-one (all-more changes-two (all-more changes-both all-none))))))))))))
+    (all-more leads-one (all-more leads-two (all-more weighs-T (all-more weighs-O (all-more weighs-one (all-more weighs-two
+    (all-more changes-one (all-more changes-two (all-more changes-both all-none))))))))))))))

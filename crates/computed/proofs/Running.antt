@@ -59,11 +59,11 @@ module _ (p : ℕ → ℕ → Bool) where
     goes-on : {T T′ : List Row} {k : Record} {l : List Record} → So (least (k .kept) (k .removed) T) → leaving (k .kept) (k .removed) T ≡ placed k →
         Steps (contract (k .kept) (k .removed) T) l T′ → Steps T (k ∷ l) T′
 
-  taken : {T T′ : List Row} {l : List Record} → Steps T l T′ → Taken Passing T l T′
-  taken (stays-at e) = none-yet e
-  taken (goes-on {T = T} {k = k} h e s) =
+  pub steps-taken : {T T′ : List Row} {l : List Record} → Steps T l T′ → Taken Passing T l T′
+  steps-taken (stays-at e) = none-yet e
+  steps-taken (goes-on {T = T} {k = k} h e s) =
       let w = least-sound (k .kept) (k .removed) T h in
-      one-more w (record { lower = w .does .rises; meets = w .does .meets; leaves = refl; record-is = e }) (taken s)
+      one-more w (record { lower = w .does .rises; meets = w .does .meets; leaves = refl; record-is = e }) (steps-taken s)
 
   pub over-sound : (T : List Row) → So (over T) → Over Passing T
   over-sound T h = record {
@@ -71,7 +71,7 @@ module _ (p : ℕ → ℕ → Bool) where
   }
 
   pub run-sound : {T T′ : List Row} {l : List Record} → Steps T l T′ → So (over T′) → Run Passing T l T′
-  run-sound {T′ = T′} s h = record { taken = taken s; ended = over-sound T′ h }
+  run-sound {T′ = T′} s h = record { taken = steps-taken s; ended = over-sound T′ h }
 
 -- limits that say the same make the same runs
 module _ {P Q : ℕ → ℕ → Type 0} (to : (a b : ℕ) → P a b → Q a b) (from : (a b : ℕ) → Q a b → P a b) where

@@ -6,14 +6,14 @@ use lib.IntN.{ℤ}
 use lib.ListN.{length}
 use Rattle.surface.specs.Stage.{InRange}
 use Rattle.length.specs.Limit.{most-limit}
-use Rattle.figure.specs.Corners.{Has, squared-distance}
+use Rattle.figure.specs.Corners.{Has, Short}
 use Rattle.least.specs.declared.Bound.{Bound}
 use Rattle.least.specs.declared.Bound.the-variants.{Free, Within}
 
 -- its squared length is at most the squared limit; without a limit any edge will do, and no coordinate is named
 abbrev pub Allowed : Bound → List ℤ → ℕ → ℕ → Type 0
 Allowed Free xs a b = Unit
-Allowed (Within l) xs a b = squared-distance xs a b ≤ l * l
+Allowed (Within l) xs a b = Short xs l a b
 
 -- a usable limit, and coordinates in range, three for each of n corners
 pub record Measured (l n : ℕ) (xs : List ℤ) : Type 0 where

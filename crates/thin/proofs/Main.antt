@@ -1,11 +1,11 @@
 -- Thinning has one outcome, and a skin with room and a usable limit or none is thinned.
 use mathlib.Core.Path.{_≡_, refl, sym, _∙_, ap}
 use mathlib.Core.Logic.{_⊎_, inl, inr}
-use mathlib.Core.List.{List, _++_}
+use mathlib.Core.List.{List, [], _∷_, _++_}
 use mathlib.Core.Bool.{true}
 use Prim.Native.Nat.{ℕ, _-_, _*_, _%_, _≤_, _<_}
 use native.Mathlib.Omega.{arith}
-use lib.IntN.{ℤ}
+use lib.IntN.{ℤ, pos}
 use lib.ListN.{length, drop, replicate}
 use Rattle.surface.specs.Rows.{Row, rows, flat}
 use Rattle.surface.specs.Stage.{Skin}
@@ -15,6 +15,7 @@ use Rattle.refusal.specs.declared.Verdict.{Verdict}
 use Rattle.refusal.specs.declared.Verdict.the-variants.{Passes}
 use Rattle.refusal.specs.declared.Verdict.the-variants as verdict
 use Rattle.refusal.specs.First.{First}
+use Rattle.refusal.specs.Told as answers
 use Rattle.refusal.proofs.Laws.{first-one}
 use Rattle.verdicts.proofs.Laws.{first-before}
 use Rattle.faults.specs.Counts.{CountsFitAt, corners}
@@ -31,6 +32,7 @@ use Rattle.thin.specs.declared.Asked.{Asked}
 use Rattle.thin.specs.declared.Asked.the-variants.{Under, NoUse}
 use Rattle.thin.specs.declared.Thinning.{Thinning}
 use Rattle.thin.specs.declared.Thinning.the-variants.{Done, Refused}
+use Rattle.thin.specs.Answer.{told}
 use Rattle.thin.specs.Order.{asked}
 use Rattle.thin.specs.Thin.{need, thin-lines, ThinnedAs, refused, done}
 
@@ -79,14 +81,32 @@ pub accepted : {a : Asked} {xs : List ℤ} {t l : List ℕ} {r : Thinning} {t′
 accepted u threes s room (refused f er et el) = passes-refused (first-one _ (thin-passes _ u threes s room) f)
 accepted u threes s room (done {log = log} f eb r er et el) = (length log, er)
 
--- what was thinned: the run, each of whose records is the least edge that qualifies, and that ends where none does
-pub thinned-run : {a : Asked} {xs : List ℤ} {t l : List ℕ} {k : ℕ} {t′ l′ : List ℕ} → ThinnedAs a xs t l (Done k) t′ l′ →
-    (b : Bound) × (log : List Record) × (last : List Row) × (a ≡ Under b) × Run (Allowed b xs) (rows t) log last × (k ≡ length log)
+-- what was thinned: the run, each of whose records is the least edge that qualifies, and that ends where none does; its last stage stands in
+-- the table, its records in the log
+pub record RunOf (a : Asked) (xs : List ℤ) (t l : List ℕ) (k : ℕ) (t′ l′ : List ℕ) : Type 0 where
+  pub b : Bound
+  pub log : List Record
+  pub last : List Row
+  pub under : a ≡ Under b
+  pub run : Run (Allowed b xs) (rows t) log last
+  pub count : k ≡ length log
+  pub table : t′ ≡ flat last ++ replicate (length t - length (flat last)) 0
+  pub logged : l′ ≡ log-of log ++ drop (width * length log) l
+
+done-count : {k m : ℕ} → Done k ≡ Done m → k ≡ m
+done-count e = cc
+
+pub thinned-run : {a : Asked} {xs : List ℤ} {t l : List ℕ} {k : ℕ} {t′ l′ : List ℕ} → ThinnedAs a xs t l (Done k) t′ l′ → RunOf a xs t l k t′ l′
 thinned-run (refused f er et el) = done-refused er
-thinned-run (done {b = b} {log = log} {last = last} f eb r er et el) = (b, log, last, eb, r, done-count er)
-  where
-    done-count : {k m : ℕ} → Done k ≡ Done m → k ≡ m
-    done-count e = cc
+thinned-run (done {b = b} {log = log} {last = last} f eb r er et el) =
+    record { b = b; log = log; last = last; under = eb; run = r; count = done-count er; table = et; logged = el }
+
+-- the answer tells the first refusal that holds, and else 0 and how many records were written
+pub thin-told : {a : Asked} {xs : List ℤ} {t l : List ℕ} {r : Thinning} {t′ l′ : List ℕ} → ThinnedAs a xs t l r t′ l′ →
+    ((e : Refusal) × First (thin-lines a xs t (length l)) (verdict.Refused e) × (told r ≡ answers.refused e))
+    ⊎ (First (thin-lines a xs t (length l)) Passes × (k : ℕ) × (told r ≡ answers.done (pos k ∷ [])))
+thin-told (refused {e = e} f er et el) = inl (e, f, ap told er)
+thin-told (done {log = log} f eb r er et el) = inr (f, length log, ap told er)
 
 -- a refused thinning changes nothing
 pub refused-same : {a : Asked} {xs : List ℤ} {t l : List ℕ} {r : Refusal} {t′ l′ : List ℕ} → ThinnedAs a xs t l (Refused r) t′ l′ → (t′ ≡ t) × (l′ ≡ l)

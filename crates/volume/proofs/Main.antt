@@ -7,7 +7,7 @@ use lib.IntN.{ℤ, _-ℤ_}
 use lib.ListN.{length}
 use Rattle.surface.specs.Rows.{Row, rows, flat}
 use Rattle.surface.specs.Stage.{Stage, StageTable, InRange, Skin}
-use Rattle.surface.specs.Record.{Record}
+use Rattle.surface.specs.Record.{Record, Replayed}
 use Rattle.surface.proofs.Flat.{rows-flat, flat-length}
 use Rattle.refusal.specs.declared.Verdict.the-variants.{Passes}
 use Rattle.refusal.specs.Told.{Told}
@@ -21,8 +21,7 @@ use Rattle.faults.proofs.Order.{one-stage-at, stage-passes-at}
 use Rattle.figure.specs.Sum.{sixfold}
 use Rattle.figure.specs.Rounding.{figure, change}
 use Rattle.figure.proofs.Rounded as rounded
-use Rattle.run.specs.Run.{Taken}
-use Rattle.run.proofs.Main.{taken-replayed, replayed-stage}
+use Rattle.run.proofs.Main.{replayed-stage}
 use Rattle.volume.specs.declared.Measured.{Measured}
 use Rattle.volume.specs.declared.Measured.the-variants.{Figure, Refused}
 use Rattle.volume.specs.Answer.{told}
@@ -84,16 +83,16 @@ module _ {n : ℕ} {xs : List ℤ} (e : length xs ≡ 3 * n) (r : InRange xs) wh
   change-near {t} {s} p q a c =
       record { f = change (sixfold xs (rows t)) (sixfold xs (rows s)); is = change-one a _ c (change-there p q); near = rounded.change-near (sixfold xs (rows t)) (sixfold xs (rows s)) }
 
--- the stages of a log over a skin, whatever the limit was
-module _ {n : ℕ} {T : List Row} {xs : List ℤ} (k : Skin n T xs) {P : ℕ → ℕ → Type 0} where
-  stage-of-log : {l : List Record} {T′ : List Row} → Taken P T l T′ → StageTable n (flat T′)
-  stage-of-log {T′ = T′} w = record { count = rw (rows-flat T′) (flat-length T′); stage = rw (rows-flat T′) (replayed-stage (k .stage) (taken-replayed w)) }
+-- the stages of a log over a skin, whoever wrote it
+module _ {n : ℕ} {T : List Row} {xs : List ℤ} (k : Skin n T xs) where
+  stage-of-log : {l : List Record} {T′ : List Row} → Replayed T l T′ → StageTable n (flat T′)
+  stage-of-log {T′ = T′} w = record { count = rw (rows-flat T′) (flat-length T′); stage = rw (rows-flat T′) (replayed-stage (k .stage) w) }
 
   -- the volume of each is within half a cubic metre
-  pub log-volume : {l : List Record} {T′ : List Row} → Taken P T l T′ → (a : Measured) → VolumeReport xs (flat T′) (told a) → Near (sixfold xs T′) a
+  pub log-volume : {l : List Record} {T′ : List Row} → Replayed T l T′ → (a : Measured) → VolumeReport xs (flat T′) (told a) → Near (sixfold xs T′) a
   log-volume {T′ = T′} w a p = rw (rows-flat T′) at (volume-near (k .corners) (k .in-range) (stage-of-log w) a p)
 
   -- and so is the change between any two
-  pub log-change : {l m : List Record} {T₁ T₂ : List Row} → Taken P T l T₁ → Taken P T m T₂ → (a : Measured) → ChangeReport xs (flat T₁) (flat T₂) (told a) →
+  pub log-change : {l m : List Record} {T₁ T₂ : List Row} → Replayed T l T₁ → Replayed T m T₂ → (a : Measured) → ChangeReport xs (flat T₁) (flat T₂) (told a) →
       Near (sixfold xs T₂ -ℤ sixfold xs T₁) a
   log-change {T₁ = T₁} {T₂ = T₂} w z a p = rw (rows-flat T₁, rows-flat T₂) at (change-near (k .corners) (k .in-range) (stage-of-log w) (stage-of-log z) a p)
