@@ -1,0 +1,72 @@
+-- 5 of a log, record by record; and the refusals of a shift in order.
+use mathlib.Core.Path.{_≡_, refl, subst}
+use mathlib.Core.Logic.{inl, inr}
+use mathlib.Core.List.{List}
+use Prim.Native.Nat.{ℕ, _*_, _/_, _≤_, _<_}
+use native.Mathlib.Omega.{arith}
+use lib.IntN.{ℤ}
+use lib.ListN.{length}
+use Rattle.surface.specs.Record.{Record}
+use Rattle.surface.specs.Stage.{InRange}
+use Rattle.refusal.specs.declared.Refusal.{Refusal}
+use Rattle.refusal.specs.declared.Refusal.the-variants.{CountsOutside, CoordinateOutOfRange, NumberNotBelow}
+use Rattle.refusal.specs.declared.Verdict.the-variants.{Passes, Refused}
+use Rattle.refusal.specs.First.{First}
+use Rattle.record.specs.Layout.{width, record-at, records}
+use Rattle.faults.specs.Counts.{corners}
+use Rattle.faults.specs.Words.{OutOfRange}
+use Rattle.faults.proofs.Opposites.{in-or-out}
+use Rattle.shift.specs.Order.{ShiftFits, PastIn, kept-past, removed-past, BelowIn, Past, shift-lines, CheckedShift}
+use Rattle.shift.proofs.Places.{in-records, records-in}
+
+-- ---- 5 of a log
+
+-- kept and removed of a record are below the count
+pub record Both (n : ℕ) (log : List ℕ) (j : ℕ) : Type 0 where
+  pub kept : record-at log (width * j) .kept < n
+  pub removed : record-at log (width * j) .removed < n
+
+module _ (log : List ℕ) (n : ℕ) where
+  pub past-kept : (j : ℕ) → j < length log / width → n ≤ record-at log (width * j) .kept → PastIn n (records log)
+  past-kept j h p = kept-past (in-records log j h) p
+
+  pub past-removed : (j : ℕ) → j < length log / width → n ≤ record-at log (width * j) .removed → PastIn n (records log)
+  past-removed j h p = removed-past (in-records log j h) p
+
+  pub all-below : ((j : ℕ) → j < length log / width → Both n log j) → BelowIn n (records log)
+  all-below f = record {
+    kept = λ m. let p = records-in log m in subst (λ (k : Record). k .kept < n) (p .2) (f (p .0) (p .1) .kept);
+    removed = λ m. let p = records-in log m in subst (λ (k : Record). k .removed < n) (p .2) (f (p .0) (p .1) .removed);
+  }
+
+-- ---- 2, 4 and 5 in order
+
+past-or-below : {n v : ℕ} {l : List Record} → Past n l v → v < n → BelowIn n l → ⊥
+past-or-below (inl h) a b = omega arith
+past-or-below (inr (kept-past m h)) a b = let k = b .kept m in omega arith
+past-or-below (inr (removed-past m h)) a b = let k = b .removed m in omega arith
+
+module _ (xs : List ℤ) (log : List ℕ) (v : ℕ) where
+  refused : (a : Refusal) → First (shift-lines xs log v) (Refused a) → CheckedShift xs log v (Refused a)
+  refused a f = record { holds = f; clear = λ e. let z : _≡_ {A = ℕ} 0 1 = cc in absurd (omega arith) }
+
+  pub refuse-2 : (¬ ShiftFits xs log) → CheckedShift xs log v (Refused CountsOutside)
+  unfolding First shift-lines
+  refuse-2 p = refused _ (inl (p, refl))
+
+  module _ (fit : ShiftFits xs log) where
+    pub refuse-4 : OutOfRange xs → CheckedShift xs log v (Refused CoordinateOutOfRange)
+    unfolding First shift-lines
+    refuse-4 p = refused _ (inr (λ n. n fit, inl (p, refl)))
+
+    module _ (range : InRange xs) where
+      pub refuse-5 : Past (corners xs) (records log) v → CheckedShift xs log v (Refused NumberNotBelow)
+      unfolding First shift-lines
+      refuse-5 p = refused _ (inr (λ n. n fit, inr (λ o. in-or-out o range, inl (p, refl))))
+
+      pub all-clear : v < corners xs → BelowIn (corners xs) (records log) → CheckedShift xs log v Passes
+      unfolding First shift-lines
+      all-clear a b = record {
+        holds = inr (λ n. n fit, inr (λ o. in-or-out o range, inr (λ p. past-or-below p a b, refl)));
+        clear = λ e. record { fits = fit; in-range = range; asked = a; below = b };
+      }

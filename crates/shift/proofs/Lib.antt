@@ -1,0 +1,6 @@
+pub mod Places
+pub mod Following
+pub mod Checking
+pub mod Reporting
+pub mod Main
+pub mod Examples

@@ -1,0 +1,4 @@
+pub mod StandIn
+pub mod Order
+pub mod Answer
+pub mod Report
