@@ -1,0 +1,73 @@
+-- `first_line` meets its contract.
+use mathlib.Core.Path.{subst}
+use mathlib.Core.List.{[], _∷_}
+use Prim.Native.Nat.{ℕ}
+use lib.IntN.{pos}
+use lib.ListN.{drop}
+use Rattle.lines.specs.Lines.{LineAt, ReadInto}
+use Rattle.sheet.specs.Limits.{most-digits}
+use Rattle.sheet.specs.Form.{SKIN, ReadFirst}
+use Rattle.sheet.proofs.Heading.{no-two, x-fits, y-fits, count-fits, corners-below, rows-below, both-counts, x, y}
+use native.Mathlib.Omega.{arith}
+use borrow.Author.Needs.{needs}
+use Rattle.sheet.proofs.first_line.Statement.{statement}
+use Rattle.sheet.proofs.first_line.Tie as tie
+
+slice-aggregate-read-line : tie.Need-slice-aggregate-read-line
+slice-aggregate-read-line c = search needs
+
+read-line-requires : tie.Need-read-line-requires
+read-line-requires c κs = search needs
+
+enum-known-end : tie.Need-enum-known-end
+enum-known-end c = search needs
+
+enum-told : tie.Need-enum-told
+enum-told c = search needs
+
+returns : tie.Need-returns
+unfolding ReadFirst ReadInto
+returns c = no-two (c .before .before .before .before .before .before .before .before .args .bytes .now) (subst (ReadInto (LineAt most-digits SKIN (c .before .before .before .before .before .before .before .before .args .bytes .now)) 2 (c .before .before .before .before .before .before .before .before .args .bytes .now) (pos 0 ∷ pos 0 ∷ []) 0 (c .before .before .before .read-line .last .1 .1 .1 .1 .0)) (c .enum-told .given .1) (c .before .before .before .read-line .ensures))
+
+array-copy-out-n : tie.Need-array-copy-out-n
+array-copy-out-n c = search needs
+
+array-copy-out-m : tie.Need-array-copy-out-m
+array-copy-out-m c = search needs
+
+returns-2 : tie.Need-returns-2
+unfolding ReadFirst ReadInto
+returns-2 c = corners-below (c .before .before .before .before .before .before .before .before .before .before .before .before .args .bytes .now) (c .before .before .before .before .before .before .before .read-line .last .1 .1 .1 .1 .0) (drop (c .before .before .before .before .end .given .0 .0 .at) (c .before .before .before .before .before .before .before .before .before .before .before .before .args .bytes .now)) (subst (ReadInto (LineAt most-digits SKIN (c .before .before .before .before .before .before .before .before .before .before .before .before .args .bytes .now)) 2 (c .before .before .before .before .before .before .before .before .before .before .before .before .args .bytes .now) (pos 0 ∷ pos 0 ∷ []) 0 (c .before .before .before .before .before .before .before .read-line .last .1 .1 .1 .1 .0)) (c .before .before .before .before .end .given .1) (c .before .before .before .before .before .before .before .read-line .ensures)) (c .if1 .taken)
+
+returns-3 : tie.Need-returns-3
+unfolding ReadFirst ReadInto
+returns-3 c = rows-below (c .before .before .before .before .before .before .before .before .before .before .before .before .before .args .bytes .now) (c .before .before .before .before .before .before .before .before .read-line .last .1 .1 .1 .1 .0) (drop (c .before .before .before .before .before .end .given .0 .0 .at) (c .before .before .before .before .before .before .before .before .before .before .before .before .before .args .bytes .now)) (subst (ReadInto (LineAt most-digits SKIN (c .before .before .before .before .before .before .before .before .before .before .before .before .before .args .bytes .now)) 2 (c .before .before .before .before .before .before .before .before .before .before .before .before .before .args .bytes .now) (pos 0 ∷ pos 0 ∷ []) 0 (c .before .before .before .before .before .before .before .before .read-line .last .1 .1 .1 .1 .0)) (c .before .before .before .before .before .end .given .1) (c .before .before .before .before .before .before .before .before .read-line .ensures)) (c .if2 .taken)
+
+cast-t20 : tie.Need-cast-t20
+unfolding ReadInto
+cast-t20 c = count-fits (x (c .before .before .before .before .before .before .before .before .before .before .before .before .before .args .bytes .now) (c .before .before .before .before .before .before .before .before .read-line .last .1 .1 .1 .1 .0) (drop (c .before .before .before .before .before .end .given .0 .0 .at) (c .before .before .before .before .before .before .before .before .before .before .before .before .before .args .bytes .now)) (subst (ReadInto (LineAt most-digits SKIN (c .before .before .before .before .before .before .before .before .before .before .before .before .before .args .bytes .now)) 2 (c .before .before .before .before .before .before .before .before .before .before .before .before .before .args .bytes .now) (pos 0 ∷ pos 0 ∷ []) 0 (c .before .before .before .before .before .before .before .before .read-line .last .1 .1 .1 .1 .0)) (c .before .before .before .before .before .end .given .1) (c .before .before .before .before .before .before .before .before .read-line .ensures))) (x-fits (c .before .before .before .before .before .before .before .before .before .before .before .before .before .args .bytes .now) (c .before .before .before .before .before .before .before .before .read-line .last .1 .1 .1 .1 .0) (drop (c .before .before .before .before .before .end .given .0 .0 .at) (c .before .before .before .before .before .before .before .before .before .before .before .before .before .args .bytes .now)) (subst (ReadInto (LineAt most-digits SKIN (c .before .before .before .before .before .before .before .before .before .before .before .before .before .args .bytes .now)) 2 (c .before .before .before .before .before .before .before .before .before .before .before .before .before .args .bytes .now) (pos 0 ∷ pos 0 ∷ []) 0 (c .before .before .before .before .before .before .before .before .read-line .last .1 .1 .1 .1 .0)) (c .before .before .before .before .before .end .given .1) (c .before .before .before .before .before .before .before .before .read-line .ensures))) (c .before .if1 .left)
+
+cast-t21 : tie.Need-cast-t21
+unfolding ReadInto
+cast-t21 c = count-fits (y (c .before .before .before .before .before .before .before .before .before .before .before .before .before .args .bytes .now) (c .before .before .before .before .before .before .before .before .read-line .last .1 .1 .1 .1 .0) (drop (c .before .before .before .before .before .end .given .0 .0 .at) (c .before .before .before .before .before .before .before .before .before .before .before .before .before .args .bytes .now)) (subst (ReadInto (LineAt most-digits SKIN (c .before .before .before .before .before .before .before .before .before .before .before .before .before .args .bytes .now)) 2 (c .before .before .before .before .before .before .before .before .before .before .before .before .before .args .bytes .now) (pos 0 ∷ pos 0 ∷ []) 0 (c .before .before .before .before .before .before .before .before .read-line .last .1 .1 .1 .1 .0)) (c .before .before .before .before .before .end .given .1) (c .before .before .before .before .before .before .before .before .read-line .ensures))) (y-fits (c .before .before .before .before .before .before .before .before .before .before .before .before .before .args .bytes .now) (c .before .before .before .before .before .before .before .before .read-line .last .1 .1 .1 .1 .0) (drop (c .before .before .before .before .before .end .given .0 .0 .at) (c .before .before .before .before .before .before .before .before .before .before .before .before .before .args .bytes .now)) (subst (ReadInto (LineAt most-digits SKIN (c .before .before .before .before .before .before .before .before .before .before .before .before .before .args .bytes .now)) 2 (c .before .before .before .before .before .before .before .before .before .before .before .before .before .args .bytes .now) (pos 0 ∷ pos 0 ∷ []) 0 (c .before .before .before .before .before .before .before .before .read-line .last .1 .1 .1 .1 .0)) (c .before .before .before .before .before .end .given .1) (c .before .before .before .before .before .before .before .before .read-line .ensures))) (c .if2 .left)
+
+returns-4 : tie.Need-returns-4
+unfolding ReadFirst ReadInto
+returns-4 c = both-counts (c .before .before .before .before .before .before .before .before .before .before .before .before .before .args .bytes .now) (c .before .before .before .before .before .before .before .before .read-line .last .1 .1 .1 .1 .0) (drop (c .before .before .before .before .before .end .given .0 .0 .at) (c .before .before .before .before .before .before .before .before .before .before .before .before .before .args .bytes .now)) (subst (ReadInto (LineAt most-digits SKIN (c .before .before .before .before .before .before .before .before .before .before .before .before .before .args .bytes .now)) 2 (c .before .before .before .before .before .before .before .before .before .before .before .before .before .args .bytes .now) (pos 0 ∷ pos 0 ∷ []) 0 (c .before .before .before .before .before .before .before .before .read-line .last .1 .1 .1 .1 .0)) (c .before .before .before .before .before .end .given .1) (c .before .before .before .before .before .before .before .before .read-line .ensures)) (c .before .if1 .left) (c .if2 .left)
+
+pub first-line-spec : {M : Type 1} → statement M
+first-line-spec =
+    tie.close
+    (tie.spec
+    slice-aggregate-read-line
+    read-line-requires
+    enum-known-end
+    enum-told
+    returns
+    array-copy-out-n
+    array-copy-out-m
+    returns-2
+    returns-3
+    cast-t20
+    cast-t21
+    returns-4)

@@ -1,0 +1,75 @@
+-- `read_sheet` meets its contract.
+use mathlib.Core.Path.{_≡_, refl, subst}
+use Prim.Native.Nat.{ℕ, _*_, _≤_}
+use lib.IntN.{pos}
+use lib.ListN.{replicate}
+use Rattle.sheet.specs.Outcome.{ReadForm, bad-form}
+use Rattle.sheet.proofs.Last.{whole-outcome}
+use native.Mathlib.Omega.{arith}
+use borrow.Author.Needs.{needs}
+use Rattle.sheet.proofs.read_sheet.Statement.{statement}
+use Rattle.sheet.proofs.read_sheet.Tie as tie
+
+slice-aggregate-read-form : tie.Need-slice-aggregate-read-form
+slice-aggregate-read-form c = search needs
+
+slice-aggregate-read-form-2 : tie.Need-slice-aggregate-read-form-2
+slice-aggregate-read-form-2 c = search needs
+
+read-form-requires : tie.Need-read-form-requires
+read-form-requires c κs = search needs
+
+enum-known-form : tie.Need-enum-known-form
+enum-known-form c = search needs
+
+enum-known-form-2 : tie.Need-enum-known-form-2
+enum-known-form-2 c = search needs
+
+slice-aggregate-deliver : tie.Need-slice-aggregate-deliver
+slice-aggregate-deliver c = search needs
+
+slice-aggregate-deliver-2 : tie.Need-slice-aggregate-deliver-2
+slice-aggregate-deliver-2 c = search needs
+
+deliver-requires : tie.Need-deliver-requires
+unfolding ReadForm
+deliver-requires c κs = let f = (subst (ReadForm (c .before .before .before .before .before .before .before .before .before .before .before .before .before .before .args .bytes .now) (replicate 1542 (pos 0)) (c .before .before .before .before .before .before .before .before .before .read-form .last .1 .0) (replicate 3072 0) (c .before .before .before .before .before .before .before .before .before .read-form .last .1 .1 .0)) (c .before .before .before .before .before .form2 .given .1) (c .before .before .before .before .before .before .before .before .before .read-form .ensures)) in
+    let a = f .counts .many in
+    let b = f .counts .most in
+    (f .counts, omega (arith, c .before .before .before .before .before .before .before .before .xs2 .given), omega (arith, c .before .before .before .before .before .before .before .t2 .given))
+
+returns : tie.Need-returns
+unfolding ReadForm
+returns c = bad-form (subst (ReadForm (c .before .before .before .before .before .before .before .before .before .before .args .bytes .now) (replicate 1542 (pos 0)) (c .before .before .before .before .before .read-form .last .1 .0) (replicate 3072 0) (c .before .before .before .before .before .read-form .last .1 .1 .0)) (c .before .form .given .1) (c .before .before .before .before .before .read-form .ensures)) refl refl refl
+
+same-length : tie.Need-same-length
+same-length c = search needs
+
+same-length-2 : tie.Need-same-length-2
+same-length-2 c = search needs
+
+returns-2 : tie.Need-returns-2
+unfolding ReadForm
+returns-2 c = let f = (subst (ReadForm (c .before .before .before .before .before .before .before .before .before .before .before .before .before .before .before .before .before .before .args .bytes .now) (replicate 1542 (pos 0)) (c .before .before .before .before .before .before .before .before .before .before .before .before .before .read-form .last .1 .0) (replicate 3072 0) (c .before .before .before .before .before .before .before .before .before .before .before .before .before .read-form .last .1 .1 .0)) (c .before .before .before .before .before .before .before .before .before .form2 .given .1) (c .before .before .before .before .before .before .before .before .before .before .before .before .before .read-form .ensures)) in
+    let a = f .counts .many in
+    let b = f .counts .most in
+    let h : (c .before .before .before .before .before .before .before .before .before .form2 .given .0 .0) * 3 ≤ 1542 = omega arith in
+    let k : (c .before .before .before .before .before .before .before .before .before .form2 .given .0 .1 .0) * 3 ≤ 3072 = omega arith in
+    whole-outcome (c .before .before .before .before .before .before .before .before .before .before .before .before .before .before .before .before .before .before .args .bytes .now) (c .before .before .before .before .before .before .before .before .before .before .before .before .before .before .before .before .before .before .args .table .now) (c .before .before .before .deliver .last .1 .1 .1 .1 .0) (c .before .before .before .before .before .before .before .before .before .before .before .before .before .before .before .before .before .before .args .corners .now) (c .before .before .before .deliver .last .1 .1 .1 .1 .1 .0) (c .before .before .before .deliver .result) (c .before .before .before .before .before .before .before .before .before .form2 .given .0 .0) (c .before .before .before .before .before .before .before .before .before .form2 .given .0 .1 .0) (replicate 1542 (pos 0)) (c .before .before .before .before .before .before .before .before .before .before .before .before .before .read-form .last .1 .0) (replicate 3072 0) (c .before .before .before .before .before .before .before .before .before .before .before .before .before .read-form .last .1 .1 .0) f h k (c .before .before .before .deliver .ensures)
+
+pub read-sheet-spec : {M : Type 1} → statement M
+read-sheet-spec =
+    tie.close
+    (tie.spec
+    slice-aggregate-read-form
+    slice-aggregate-read-form-2
+    read-form-requires
+    enum-known-form
+    enum-known-form-2
+    slice-aggregate-deliver
+    slice-aggregate-deliver-2
+    deliver-requires
+    returns
+    same-length
+    same-length-2
+    returns-2)

@@ -1,0 +1,5 @@
+pub mod Limits
+pub mod Form
+pub mod Body
+pub mod Outcome
+pub mod Answer

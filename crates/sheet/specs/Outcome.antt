@@ -1,0 +1,56 @@
+-- The whole outcome of reading a sheet: the answer, and every number of the two lent rooms.
+use mathlib.Core.Path.{_≡_}
+use mathlib.Core.Bool.{true}
+use mathlib.Core.List.{List, _∷_, _++_}
+use Prim.Native.Nat.{ℕ, _<_}
+use lib.IntN.{ℤ}
+use lib.ListN.{length, drop}
+use lib.Seq.{sets}
+use Rattle.surface.specs.Rows.{rows}
+use Rattle.surface.specs.Stage.{Skin}
+use Rattle.refusal.specs.First.{Clause, _when_, First}
+use Rattle.refusal.specs.declared.Refusal.{Refusal}
+use Rattle.refusal.specs.declared.Refusal.the-variants.{RoomShort}
+use Rattle.refusal.specs.declared.Verdict.the-variants as verdict
+use Rattle.faults.specs.Order.{lines-after-counts}
+use Rattle.sheet.specs.declared.Sheet.{Sheet}
+use Rattle.sheet.specs.declared.Sheet.the-variants.{Read, Refused}
+use Rattle.sheet.specs.Form.{CountsIn, SheetOf, form-refusals}
+
+-- table or corners do not fit their lent rooms
+pub data NoRoom (troom : List ℕ) (croom : List ℤ) (xs : List ℤ) (t : List ℕ) : Type 0 where
+  table-short : length troom < length t → NoRoom troom croom xs t
+  corners-short : length croom < length xs → NoRoom troom croom xs t
+
+-- the rest, of the corners and rows that the sheet holds: 3, then 4 to 11, with 9
+unfoldable pub skin-refusals : List ℕ → List ℤ → List ℤ → List ℕ → List Clause
+skin-refusals troom croom xs t = (RoomShort when NoRoom troom croom xs t) ∷ lines-after-counts true xs t
+
+-- reading a sheet b with the lent rooms troom and croom leaves troom′ and croom′, and answers a
+pub data ReadSheet (b : List ℕ) (troom troom′ : List ℕ) (croom croom′ : List ℤ) (a : Sheet) : Type 0 where
+  -- refused for its form: nothing is written
+  bad-form : {r : Refusal} → First (form-refusals b) (verdict.Refused r) → a ≡ Refused r → troom′ ≡ troom → croom′ ≡ croom → ReadSheet b troom troom′ croom croom′ a
+  -- in the form, and refused for what it holds: nothing is written
+  bad-skin : {n m : ℕ} {xs : List ℤ} {t : List ℕ} {r : Refusal} → First (form-refusals b) verdict.Passes → SheetOf b n m xs t → First (skin-refusals troom croom xs t) (verdict.Refused r) → a ≡ Refused r → troom′ ≡ troom → croom′ ≡ croom → ReadSheet b troom troom′ croom croom′ a
+  -- done: a skin, its table and corners in front of their rooms, the rest as it was
+  read : {n m : ℕ} {xs : List ℤ} {t : List ℕ} → First (form-refusals b) verdict.Passes → SheetOf b n m xs t → First (skin-refusals troom croom xs t) verdict.Passes → Skin n (rows t) xs → a ≡ Read n m → troom′ ≡ t ++ drop (length t) troom → croom′ ≡ xs ++ drop (length xs) croom → ReadSheet b troom troom′ croom croom′ a
+
+-- ---- its two halves, for the inner functions
+
+-- in the form, with its corners and rows put into two rooms
+pub record FormRead (b : List ℕ) (n m : ℕ) (xroom xroom′ : List ℤ) (troom troom′ : List ℕ) : Type 0 where
+  pub passes : First (form-refusals b) verdict.Passes
+  pub counts : CountsIn n m
+  pub xs : List ℤ
+  pub t : List ℕ
+  pub here : SheetOf b n m xs t
+  pub put-corners : xroom′ ≡ sets xroom 0 xs
+  pub put-rows : troom′ ≡ sets troom 0 t
+
+unfoldable pub ReadForm : List ℕ → List ℤ → List ℤ → List ℕ → List ℕ → Sheet → Type 0
+ReadForm b xroom xroom′ troom troom′ (Read n m) = FormRead b n m xroom xroom′ troom troom′
+ReadForm b xroom xroom′ troom troom′ (Refused r) = First (form-refusals b) (verdict.Refused r)
+
+pub data Delivered (n m : ℕ) (xs : List ℤ) (t : List ℕ) (troom troom′ : List ℕ) (croom croom′ : List ℤ) (a : Sheet) : Type 0 where
+  kept : {r : Refusal} → First (skin-refusals troom croom xs t) (verdict.Refused r) → a ≡ Refused r → troom′ ≡ troom → croom′ ≡ croom → Delivered n m xs t troom troom′ croom croom′ a
+  put : First (skin-refusals troom croom xs t) verdict.Passes → Skin n (rows t) xs → a ≡ Read n m → troom′ ≡ t ++ drop (length t) troom → croom′ ≡ xs ++ drop (length xs) croom → Delivered n m xs t troom troom′ croom croom′ a
