@@ -8,6 +8,7 @@ use length::read_limit;
 use refusal::Verdict;
 use ring::Trial;
 use thin::Thinning;
+use volume::Measured;
 
 // A line of a name and a whole number.
 fn show(name: &[u8], value: i64) {
@@ -346,6 +347,101 @@ fn thin_ring() {
     show_numbers(b"past its 18 rows then:", &t[54..60]);
 }
 
+// A number of the 32 by 16 torus, built as the trial ring is: 1,024 rows over 512 corners.
+fn torus_number(i: usize) -> u32 {
+    let r = i / 6 / 16;
+    let c = i / 6 % 16;
+    let k = i % 6;
+    let down = torus_corner(r + 1, c);
+    let across = torus_corner(r + 1, c + 1);
+    if k == 1 {
+        return down;
+    }
+    if k == 2 {
+        return across;
+    }
+    if k == 4 {
+        return across;
+    }
+    if k == 5 {
+        return torus_corner(r, c + 1);
+    }
+    torus_corner(r, c)
+}
+
+fn torus_corner(r: usize, c: usize) -> u32 {
+    (16 * (r % 32) + c % 16) as u32
+}
+
+fn copy_torus(t: &mut [u32]) {
+    let mut i: usize = 0;
+    while i < t.len() {
+        t[i] = torus_number(i);
+        i += 1;
+    }
+}
+
+// Its corners take the four ends of a tetrahedron in a cube of the largest coordinates, so that every row has the largest determinant, and all
+// of one sign.
+fn torus_coordinate(i: usize, out: i32) -> i32 {
+    let p = i / 3 / 16 % 2;
+    let q = i / 3 % 2;
+    let j = i % 3;
+    if j == 0 {
+        if q == 0 {
+            return out;
+        }
+        return near(out);
+    }
+    if j == 1 {
+        if p == q {
+            return 50000;
+        }
+        return -50000;
+    }
+    if p == 0 {
+        return 50000;
+    }
+    -50000
+}
+
+// The other end of a coordinate's range.
+fn near(out: i32) -> i32 {
+    if out == 50000 { -50000 } else { 50000 }
+}
+
+fn place_torus(xs: &mut [i32], out: i32) {
+    let mut i: usize = 0;
+    while i < xs.len() {
+        xs[i] = torus_coordinate(i, out);
+        i += 1;
+    }
+}
+
+// A line of a volume's answer.
+fn show_volume(name: &[u8], r: Measured) {
+    match r {
+        Measured::Figure(f) => show(name, f),
+        Measured::Refused(e) => {
+            io::write_all(1, name);
+            io::write_all(1, b"refused ");
+            io::print_decimal(1, refusal::number_of(e) as u64);
+            io::write_all(1, b"\n");
+        }
+    }
+}
+
+// The largest sums: 512,000,000,000,000,000 either way.
+fn largest_sums() {
+    let mut t = [0u32; 3072];
+    copy_torus(&mut t);
+    let mut xs = [0i32; 1536];
+    place_torus(&mut xs, 50000);
+    show_volume(b"1,024 rows at the limits: ", volume::volume(&t, &xs));
+    place_torus(&mut xs, -50000);
+    show_volume(b"and mirrored: ", volume::volume(&t, &xs));
+}
+
 fn main() {
     limits();
     figures();
@@ -356,4 +452,5 @@ fn main() {
     pairs();
     thin_octahedron();
     thin_ring();
+    largest_sums();
 }
