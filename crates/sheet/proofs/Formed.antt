@@ -5,7 +5,7 @@ use mathlib.Core.List.{List, [], _∷_, _++_}
 use Prim.Native.Nat.{ℕ, _*_, _≤_, _<_}
 use native.Mathlib.Omega.{arith}
 use lib.IntN.{ℤ, pos}
-use lib.ListN.{length, drop}
+use lib.ListN.{length}
 use Rattle.refusal.specs.First.{Clause, _when_, First}
 use Rattle.refusal.specs.declared.Refusal.the-variants.{SheetForm, CountsOutside}
 use Rattle.refusal.specs.declared.Verdict.the-variants.{Passes, Refused}
@@ -23,7 +23,7 @@ too-long b h = inl (h, refl)
 module _ (b : List ℕ) (size : length b ≤ most-sheet-bytes) where
   pub no-first-line : NoFirstLine b → First (form-refusals b) (Refused SheetForm)
   unfolding First form-refusals
-  no-first-line h = inr (λ l. omega arith, inl (h, refl))
+  no-first-line h = inr (λ k. omega arith, inl (h, refl))
 
 -- two first lines are the same
 pub record SameFirst (n m n′ m′ : ℕ) (l r : List ℕ) : Type 0 where
@@ -41,33 +41,33 @@ same-first b n m n′ m′ l r f g =
 pub its-line : {b : List ℕ} {n m : ℕ} {xs : List ℤ} {t : List ℕ} → SheetOf b n m xs t → LineAt most-digits SKIN b (pos n ∷ pos m ∷ []) (corner-lines n xs ++ row-lines m t)
 its-line s = record { bytes = s .text; short = s .counts-short }
 
-module _ (b : List ℕ) (size : length b ≤ most-sheet-bytes) (n m c : ℕ) (f : LineAt most-digits SKIN b (pos n ∷ pos m ∷ []) (drop c b)) where
+module _ (b : List ℕ) (size : length b ≤ most-sheet-bytes) (n m : ℕ) (l : List ℕ) (f : LineAt most-digits SKIN b (pos n ∷ pos m ∷ []) l) where
   begins : Begins b n m
-  begins = record { rest = drop c b; line = f }
+  begins = record { rest = l; line = f }
 
   pub refuse-counts : (¬ CountsIn n m) → First (form-refusals b) (Refused CountsOutside)
   unfolding First form-refusals
-  refuse-counts h = inr (λ l. omega arith, inr (λ k. k n m begins, inl (record { n = n; m = m; begins = begins; out = h }, refl)))
+  refuse-counts h = inr (λ k. omega arith, inr (λ k. k n m begins, inl (record { n = n; m = m; begins = begins; out = h }, refl)))
 
   module _ (fit : CountsIn n m) where
     not-out : ¬ CountsOut b
     not-out o =
-        let u = same-first b n m (o .n) (o .m) (drop c b) (o .begins .rest) f (o .begins .line) in
+        let u = same-first b n m (o .n) (o .m) l (o .begins .rest) f (o .begins .line) in
         o .out (subst (λ (k : ℕ). CountsIn k (o .m)) (u .corners) (subst (CountsIn n) (u .rows) fit))
 
-    pub refuse-lines : NoBody (drop c b) n m → First (form-refusals b) (Refused SheetForm)
+    pub refuse-lines : NoBody l n m → First (form-refusals b) (Refused SheetForm)
     unfolding First form-refusals
-    refuse-lines h = inr (λ l. omega arith, inr (λ k. k n m begins, inr (not-out, inl (no-sheet, refl))))
+    refuse-lines h = inr (λ k. omega arith, inr (λ k. k n m begins, inr (not-out, inl (no-sheet, refl))))
       where
         no-sheet : NoSheet b
         no-sheet n′ m′ xs t s =
-            let u = same-first b n m n′ m′ (drop c b) (corner-lines n′ xs ++ row-lines m′ t) f (its-line s) in
-            let w : BodyAt (drop c b) n′ m′ xs t = record { text = u .after; corners = s .corners; rows = s .rows; corners-short = s .corners-short; rows-short = s .rows-short } in
-            h xs t (subst (λ (k : ℕ). BodyAt (drop c b) k m xs t) (sym (u .corners)) (subst (λ (k : ℕ). BodyAt (drop c b) n′ k xs t) (sym (u .rows)) w))
+            let u = same-first b n m n′ m′ l (corner-lines n′ xs ++ row-lines m′ t) f (its-line s) in
+            let w : BodyAt l n′ m′ xs t = record { text = u .after; corners = s .corners; rows = s .rows; corners-short = s .corners-short; rows-short = s .rows-short } in
+            h xs t (subst (λ (k : ℕ). BodyAt l k m xs t) (sym (u .corners)) (subst (λ (k : ℕ). BodyAt l n′ k xs t) (sym (u .rows)) w))
 
-    whole : (xs : List ℤ) (t : List ℕ) → BodyAt (drop c b) n m xs t → SheetOf b n m xs t
+    whole : (xs : List ℤ) (t : List ℕ) → BodyAt l n m xs t → SheetOf b n m xs t
     whole xs t w = record {
-      text = f .bytes ∙ ap (λ l. first-line n m ++ l) (w .text);
+      text = f .bytes ∙ ap (λ x. first-line n m ++ x) (w .text);
       corners = w .corners;
       rows = w .rows;
       counts-short = f .short;
@@ -75,10 +75,14 @@ module _ (b : List ℕ) (size : length b ≤ most-sheet-bytes) (n m c : ℕ) (f 
       rows-short = w .rows-short;
     }
 
-    pub form-read : (xroom xroom′ : List ℤ) (troom troom′ : List ℕ) → BodyRead (drop c b) n m xroom xroom′ troom troom′ → FormRead b n m xroom xroom′ troom troom′
+    -- a sheet passes
+    pub form-passes : {xs : List ℤ} {t : List ℕ} → SheetOf b n m xs t → First (form-refusals b) Passes
     unfolding First form-refusals
+    form-passes {xs} {t} s = inr (λ k. omega arith, inr (λ k. k n m begins, inr (not-out, inr (λ k. k n m xs t s, refl))))
+
+    pub form-read : (xroom xroom′ : List ℤ) (troom troom′ : List ℕ) → BodyRead l n m xroom xroom′ troom troom′ → FormRead b n m xroom xroom′ troom troom′
     form-read xroom xroom′ troom troom′ r = record {
-      passes = inr (λ l. omega arith, inr (λ k. k n m begins, inr (not-out, inr (λ k. k n m (r .xs) (r .t) (whole (r .xs) (r .t) (r .here)), refl))));
+      passes = form-passes (whole (r .xs) (r .t) (r .here));
       counts = fit;
       xs = r .xs;
       t = r .t;

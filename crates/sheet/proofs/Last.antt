@@ -17,7 +17,7 @@ use Rattle.refusal.specs.declared.Refusal.the-variants.{RoomShort}
 use Rattle.refusal.specs.declared.Verdict.{Verdict}
 use Rattle.refusal.specs.declared.Verdict.the-variants.{Passes, Refused}
 use Rattle.faults.specs.Counts.{CountsFitAt, corners}
-use Rattle.faults.specs.Order.{CheckedFirst, lines-after-counts}
+use Rattle.faults.specs.Order.{CheckedFirst, lines-at, lines-after-counts}
 use Rattle.faults.proofs.Order.{after-2-at}
 use Rattle.sheet.specs.declared.Sheet.{Sheet}
 use Rattle.sheet.specs.declared.Sheet.the-variants as sheet
@@ -50,17 +50,17 @@ module _ (n m : ℕ) (fit : CountsIn n m) (xs : List ℤ) (t : List ℕ) (cs : l
       room-enough (table-short h) = omega arith
       room-enough (corners-short h) = omega arith
 
-      after-room : (v : Verdict) → CheckedFirst xs t v → First (skin-refusals troom croom xs t) v
+      pub after-room : (v : Verdict) → First (lines-at true xs t) v → First (skin-refusals troom croom xs t) v
       unfolding First skin-refusals
-      after-room v k = inr (room-enough, after-2-at true xs t v library-fits (k .holds))
+      after-room v k = inr (room-enough, after-2-at true xs t v library-fits k)
 
       pub refused-skin : (v : Verdict) (r : Refusal) → CheckedFirst xs t v → v ≡ Refused r → Delivered n m xs t troom troom croom croom (sheet.Refused r)
-      refused-skin v r k e = kept (subst (First (skin-refusals troom croom xs t)) e (after-room v k)) refl refl refl
+      refused-skin v r k e = kept (subst (First (skin-refusals troom croom xs t)) e (after-room v (k .holds))) refl refl refl
 
       pub skin-put : (v : Verdict) → CheckedFirst xs t v → v ≡ Passes → (troom′ : List ℕ) (croom′ : List ℤ) → troom′ ≡ sets troom 0 t → croom′ ≡ sets croom 0 xs → Delivered n m xs t troom troom′ croom croom′ (sheet.Read n m)
       skin-put v k e troom′ croom′ p q =
           let c : corners xs ≡ n = omega arith in
-          put (subst (First (skin-refusals troom croom xs t)) e (after-room v k)) (subst (λ (j : ℕ). Skin j (rows t) xs) c (k .skin e)) refl (p ∙ in-front troom t (omega arith)) (q ∙ in-front croom xs (omega arith))
+          put (subst (First (skin-refusals troom croom xs t)) e (after-room v (k .holds))) (subst (λ (j : ℕ). Skin j (rows t) xs) c (k .skin e)) refl (p ∙ in-front troom t (omega arith)) (q ∙ in-front croom xs (omega arith))
 
 module _ (b : List ℕ) (troom troom′ : List ℕ) (croom croom′ : List ℤ) (a : Sheet) where
   pub whole-outcome : (n m : ℕ) (xroom xroom′ : List ℤ) (nroom nroom′ : List ℕ) → FormRead b n m xroom xroom′ nroom nroom′ → n * 3 ≤ length xroom → m * 3 ≤ length nroom → Delivered n m (take (n * 3) xroom′) (take (m * 3) nroom′) troom troom′ croom croom′ a → ReadSheet b troom troom′ croom croom′ a

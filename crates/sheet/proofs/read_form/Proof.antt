@@ -1,5 +1,6 @@
 -- `read_form` meets its contract.
 use mathlib.Core.Path.{subst}
+use lib.ListN.{drop}
 use Prim.Native.Nat.{_*_, _≤_}
 use borrow.Author.Tests.{not-true, not-false}
 use Rattle.sheet.specs.Form.{ReadFirst}
@@ -32,7 +33,7 @@ counts-in-requires c κs = search needs
 
 returns-3 : tie.Need-returns-3
 unfolding ReadForm ReadFirst
-returns-3 c = refuse-counts (c .before .before .before .before .before .before .before .before .before .args .bytes .now) (c .before .before .before .before .before .before .if1 .left) (c .before .before .before .first .given .0 .0) (c .before .before .before .first .given .0 .1 .0) (c .before .before .before .first .given .0 .1 .1 .0 .at) (subst (ReadFirst (c .before .before .before .before .before .before .before .before .before .args .bytes .now)) (c .before .before .before .first .given .1) (c .before .before .before .before .before .first-line .ensures)) (c .before .counts-in .ensures .when-false (not-true _ (c .if2 .taken)))
+returns-3 c = refuse-counts (c .before .before .before .before .before .before .before .before .before .args .bytes .now) (c .before .before .before .before .before .before .if1 .left) (c .before .before .before .first .given .0 .0) (c .before .before .before .first .given .0 .1 .0) (drop (c .before .before .before .first .given .0 .1 .1 .0 .at) (c .before .before .before .before .before .before .before .before .before .args .bytes .now)) (subst (ReadFirst (c .before .before .before .before .before .before .before .before .before .args .bytes .now)) (c .before .before .before .first .given .1) (c .before .before .before .before .before .first-line .ensures)) (c .before .counts-in .ensures .when-false (not-true _ (c .if2 .taken)))
 
 read-body-requires : tie.Need-read-body-requires
 read-body-requires c κs = let f = (c .before .before .before .counts-in .ensures .when-true (not-false _ (c .before .before .if2 .left))) in
@@ -50,7 +51,7 @@ same-length-2 c = search needs
 
 returns-4 : tie.Need-returns-4
 unfolding ReadForm ReadFirst
-returns-4 c = refuse-lines (c .before .before .before .before .before .before .before .before .before .before .before .before .before .before .before .before .args .bytes .now) (c .before .before .before .before .before .before .before .before .before .before .before .before .before .if1 .left) (c .before .before .before .before .before .before .before .before .before .before .first .given .0 .0) (c .before .before .before .before .before .before .before .before .before .before .first .given .0 .1 .0) (c .before .before .before .before .before .before .before .before .before .before .first .given .0 .1 .1 .0 .at) (subst (ReadFirst (c .before .before .before .before .before .before .before .before .before .before .before .before .before .before .before .before .args .bytes .now)) (c .before .before .before .before .before .before .before .before .before .before .first .given .1) (c .before .before .before .before .before .before .before .before .before .before .before .before .first-line .ensures)) (c .before .before .before .before .before .before .before .before .counts-in .ensures .when-true (not-false _ (c .before .before .before .before .before .before .before .if2 .left))) (c .before .before .before .before .read-body .ensures .when-false (not-true _ (c .if3 .taken)))
+returns-4 c = refuse-lines (c .before .before .before .before .before .before .before .before .before .before .before .before .before .before .before .before .args .bytes .now) (c .before .before .before .before .before .before .before .before .before .before .before .before .before .if1 .left) (c .before .before .before .before .before .before .before .before .before .before .first .given .0 .0) (c .before .before .before .before .before .before .before .before .before .before .first .given .0 .1 .0) (drop (c .before .before .before .before .before .before .before .before .before .before .first .given .0 .1 .1 .0 .at) (c .before .before .before .before .before .before .before .before .before .before .before .before .before .before .before .before .args .bytes .now)) (subst (ReadFirst (c .before .before .before .before .before .before .before .before .before .before .before .before .before .before .before .before .args .bytes .now)) (c .before .before .before .before .before .before .before .before .before .before .first .given .1) (c .before .before .before .before .before .before .before .before .before .before .before .before .first-line .ensures)) (c .before .before .before .before .before .before .before .before .counts-in .ensures .when-true (not-false _ (c .before .before .before .before .before .before .before .if2 .left))) (c .before .before .before .before .read-body .ensures .when-false (not-true _ (c .if3 .taken)))
 
 same-length-3 : tie.Need-same-length-3
 same-length-3 c = search needs
@@ -60,7 +61,7 @@ same-length-4 c = search needs
 
 returns-5 : tie.Need-returns-5
 unfolding ReadForm ReadFirst
-returns-5 c = form-read (c .before .before .before .before .before .before .before .before .before .before .before .before .before .before .before .before .args .bytes .now) (c .before .before .before .before .before .before .before .before .before .before .before .before .before .if1 .left) (c .before .before .before .before .before .before .before .before .before .before .first .given .0 .0) (c .before .before .before .before .before .before .before .before .before .before .first .given .0 .1 .0) (c .before .before .before .before .before .before .before .before .before .before .first .given .0 .1 .1 .0 .at) (subst (ReadFirst (c .before .before .before .before .before .before .before .before .before .before .before .before .before .before .before .before .args .bytes .now)) (c .before .before .before .before .before .before .before .before .before .before .first .given .1) (c .before .before .before .before .before .before .before .before .before .before .before .before .first-line .ensures)) (c .before .before .before .before .before .before .before .before .counts-in .ensures .when-true (not-false _ (c .before .before .before .before .before .before .before .if2 .left))) (c .before .before .before .before .before .before .before .before .before .before .before .before .before .before .before .before .args .xs .now) (c .before .before .before .before .read-body .last .1 .1 .1 .1 .0) (c .before .before .before .before .before .before .before .before .before .before .before .before .before .before .before .before .args .t .now) (c .before .before .before .before .read-body .last .1 .1 .1 .1 .1 .0) (c .before .before .before .before .read-body .ensures .when-true (not-false _ (c .if3 .left)))
+returns-5 c = form-read (c .before .before .before .before .before .before .before .before .before .before .before .before .before .before .before .before .args .bytes .now) (c .before .before .before .before .before .before .before .before .before .before .before .before .before .if1 .left) (c .before .before .before .before .before .before .before .before .before .before .first .given .0 .0) (c .before .before .before .before .before .before .before .before .before .before .first .given .0 .1 .0) (drop (c .before .before .before .before .before .before .before .before .before .before .first .given .0 .1 .1 .0 .at) (c .before .before .before .before .before .before .before .before .before .before .before .before .before .before .before .before .args .bytes .now)) (subst (ReadFirst (c .before .before .before .before .before .before .before .before .before .before .before .before .before .before .before .before .args .bytes .now)) (c .before .before .before .before .before .before .before .before .before .before .first .given .1) (c .before .before .before .before .before .before .before .before .before .before .before .before .first-line .ensures)) (c .before .before .before .before .before .before .before .before .counts-in .ensures .when-true (not-false _ (c .before .before .before .before .before .before .before .if2 .left))) (c .before .before .before .before .before .before .before .before .before .before .before .before .before .before .before .before .args .xs .now) (c .before .before .before .before .read-body .last .1 .1 .1 .1 .0) (c .before .before .before .before .before .before .before .before .before .before .before .before .before .before .before .before .args .t .now) (c .before .before .before .before .read-body .last .1 .1 .1 .1 .1 .0) (c .before .before .before .before .read-body .ensures .when-true (not-false _ (c .if3 .left)))
 
 pub read-form-spec : {M : Type 1} → statement M
 read-form-spec =

@@ -1,0 +1,97 @@
+-- What holds of sheets: one text for its skin, one skin for its text, every skin has a sheet that reads, and no second outcome.
+use mathlib.Core.Path.{_≡_, refl, sym, _∙_, ap, subst}
+use mathlib.Core.Logic.{inl, inr}
+use mathlib.Core.Bool.{true}
+use mathlib.Core.List.{List, [], _∷_, _++_, append-nil, map}
+use Prim.Native.Nat.{ℕ, zero, suc, _+_, _*_, _/_, _%_, _^_, _≤_, _<_}
+use native.Mathlib.Omega.{arith}
+use lib.IntN.{ℤ, pos, natAbs}
+use lib.ListN.{length, drop, length-map}
+use Rattle.surface.specs.Lists.{_∈_}
+use Rattle.surface.specs.Rows.{rows}
+use Rattle.surface.specs.Stage.{Skin}
+use Rattle.refusal.specs.First.{Clause, First}
+use Rattle.refusal.specs.declared.Refusal.{Refusal}
+use Rattle.refusal.specs.declared.Verdict.{Verdict}
+use Rattle.refusal.specs.declared.Verdict.the-variants.{Passes, Refused}
+use Rattle.refusal.proofs.Laws.{first-one}
+use Rattle.text.specs.Decimal.{decimal}
+use Rattle.text.proofs.Digits.{below-digits}
+use Rattle.lines.specs.Lines.{Short}
+use Rattle.lines.proofs.Cut.{lines-unique}
+use Rattle.sheet.specs.declared.Sheet.{Sheet}
+use Rattle.sheet.specs.declared.Sheet.the-variants as sheet
+use Rattle.sheet.specs.Limits.{most-digits, most-sheet-corners, most-sheet-rows}
+use Rattle.sheet.specs.Form.{C, R, sheet-text, corner-lines, row-lines, CountsIn, SheetOf, form-refusals}
+use Rattle.sheet.specs.Outcome.{NoRoom, skin-refusals, ReadSheet, bad-form, bad-skin, read}
+use Rattle.sheet.proofs.Formed.{same-first, its-line}
+use Rattle.sheet.proofs.Sizes.{sheet-size}
+
+-- ---- one text for its corners and rows
+
+-- a sheet is the only one for its table and corners
+pub only-sheet : {b b′ : List ℕ} {n m n′ m′ : ℕ} {xs : List ℤ} {t : List ℕ} → SheetOf b n m xs t → SheetOf b′ n′ m′ xs t → b ≡ b′
+only-sheet {n = n} {m} {n′} {m′} {xs} {t} s u =
+    let a = s .corners in let c = u .corners in let d = s .rows in let f = u .rows in
+    let e : n ≡ n′ = omega arith in
+    let g : m ≡ m′ = omega arith in
+    s .text ∙ (λ i. sheet-text (e i) (g i) xs t) ∙ sym (u .text)
+
+-- ---- one skin for its text
+
+pub record Same (n m n′ m′ : ℕ) (xs xs′ : List ℤ) (t t′ : List ℕ) : Type 0 where
+  pub corners : n ≡ n′
+  pub rows : m ≡ m′
+  pub coordinates : xs ≡ xs′
+  pub numbers : t ≡ t′
+
+pos-same : (t u : List ℕ) → map pos t ≡ map pos u → t ≡ u
+pos-same [] [] e = refl
+pos-same [] (y ∷ u) e = absurd (let z : _≡_ {A = ℕ} 0 1 = cc in omega arith)
+pos-same (x ∷ t) [] e = absurd (let z : _≡_ {A = ℕ} 0 1 = cc in omega arith)
+pos-same (x ∷ t) (y ∷ u) e = let a : x ≡ y = cc in let f : map pos t ≡ map pos u = cc in let b = pos-same t u f in λ i. a i ∷ b i
+
+-- a sheet has one table and one list of corners
+pub one-skin : {b : List ℕ} {n m n′ m′ : ℕ} {xs xs′ : List ℤ} {t t′ : List ℕ} → SheetOf b n m xs t → SheetOf b n′ m′ xs′ t′ → Same n m n′ m′ xs xs′ t t′
+one-skin {b} {n} {m} {n′} {m′} {xs} {xs′} {t} {t′} s u =
+    let f = same-first b n m n′ m′ (corner-lines n xs ++ row-lines m t) (corner-lines n′ xs′ ++ row-lines m′ t′) (its-line s) (its-line u) in
+    let p : length xs′ ≡ n * 3 = u .corners ∙ ap (λ (k : ℕ). k * 3) (sym (f .corners)) in
+    let q : length (map pos t′) ≡ m * 3 = length-map t′ pos ∙ u .rows ∙ ap (λ (k : ℕ). k * 3) (sym (f .rows)) in
+    let g = lines-unique C 3 n xs xs′ (row-lines m t) (row-lines m t′) (s .corners) p (f .after ∙ (λ i. corner-lines (sym (f .corners) i) xs′ ++ row-lines (sym (f .rows) i) t′)) in
+    let h = lines-unique R 3 m (map pos t) (map pos t′) [] [] (length-map t pos ∙ s .rows) q (append-nil (row-lines m t) ∙ g .1 ∙ sym (append-nil (row-lines m t′))) in
+    record { corners = f .corners; rows = f .rows; coordinates = g .0; numbers = pos-same t t′ (h .0) }
+
+-- ---- no second outcome
+
+refused-passes : {r : Refusal} → Refused r ≡ Passes → ⊥
+refused-passes e = let z : _≡_ {A = ℕ} 0 1 = cc in omega arith
+
+refusal-of : {r q : Refusal} → Refused r ≡ Refused q → r ≡ q
+refusal-of e = cc
+
+pub record SameOutcome (a a′ : Sheet) (troom troom′ : List ℕ) (croom croom′ : List ℤ) : Type 0 where
+  pub answer : a ≡ a′
+  pub table : troom ≡ troom′
+  pub corners : croom ≡ croom′
+
+module _ (b : List ℕ) (troom : List ℕ) (croom : List ℤ) where
+  -- the verdict on what a sheet holds, by another name of that
+  moved : {n m n′ m′ : ℕ} {xs xs′ : List ℤ} {t t′ : List ℕ} (v : Verdict) → Same n m n′ m′ xs xs′ t t′ → First (skin-refusals troom croom xs t) v → First (skin-refusals troom croom xs′ t′) v
+  moved {xs′ = xs′} {t = t} v s f = subst (λ k. First (skin-refusals troom croom xs′ k) v) (s .numbers) (subst (λ k. First (skin-refusals troom croom k t) v) (s .coordinates) f)
+
+  pub one-outcome : {a a′ : Sheet} {t₁ t₂ : List ℕ} {c₁ c₂ : List ℤ} → ReadSheet b troom t₁ croom c₁ a → ReadSheet b troom t₂ croom c₂ a′ → SameOutcome a a′ t₁ t₂ c₁ c₂
+  one-outcome (bad-form f e p q) (bad-form g d u v) = record { answer = e ∙ ap sheet.Refused (refusal-of (first-one (form-refusals b) f g)) ∙ sym d; table = p ∙ sym u; corners = q ∙ sym v }
+  one-outcome (bad-form f e p q) (bad-skin g s k d u v) = absurd (refused-passes (first-one (form-refusals b) f g))
+  one-outcome (bad-form f e p q) (read g s k w d u v) = absurd (refused-passes (first-one (form-refusals b) f g))
+  one-outcome (bad-skin g s k d u v) (bad-form f e p q) = absurd (refused-passes (first-one (form-refusals b) f g))
+  one-outcome (bad-skin {r = r} f s k e p q) (bad-skin {xs = xs′} {t = t′} g s′ k′ d u v) = record { answer = e ∙ ap sheet.Refused (refusal-of (first-one (skin-refusals troom croom xs′ t′) (moved (Refused r) (one-skin s s′) k) k′)) ∙ sym d; table = p ∙ sym u; corners = q ∙ sym v }
+  one-outcome (bad-skin {r = r} f s k e p q) (read {xs = xs′} {t = t′} g s′ k′ w d u v) = absurd (refused-passes (first-one (skin-refusals troom croom xs′ t′) (moved (Refused r) (one-skin s s′) k) k′))
+  one-outcome (read g s k w d u v) (bad-form f e p q) = absurd (refused-passes (first-one (form-refusals b) f g))
+  one-outcome (read f s k w d u v) (bad-skin {xs = xs′} {t = t′} g s′ k′ e p q) = absurd (refused-passes (first-one (skin-refusals troom croom xs′ t′) k′ (moved Passes (one-skin s s′) k)))
+  one-outcome (read f s k w d u v) (read g s′ k′ w′ e p q) =
+      let o = one-skin s s′ in
+      record {
+        answer = d ∙ (λ i. sheet.Read (o .corners i) (o .rows i)) ∙ sym e;
+        table = u ∙ (λ i. o .numbers i ++ drop (length (o .numbers i)) troom) ∙ sym p;
+        corners = v ∙ (λ i. o .coordinates i ++ drop (length (o .coordinates i)) croom) ∙ sym q;
+      }
