@@ -63,6 +63,12 @@ fn figures() {
         b"change from 8,000,000 to 2,000,000: ",
         change_of(8000000, 2000000),
     );
+    show(b"figure of 2,999,999: ", cubic_metres(2999999));
+    show(b"figure of 3,000,000: ", cubic_metres(3000000));
+    show(b"figure of -2,999,999: ", cubic_metres(-2999999));
+    show(b"figure of -3,000,000: ", cubic_metres(-3000000));
+    show(b"figure of 9,000,000: ", cubic_metres(9000000));
+    show(b"figure of -9,000,000: ", cubic_metres(-9000000));
 }
 
 // A line of a table and what the check of a first table says of it.
