@@ -1,3 +1,4 @@
 pub mod Skinned
 pub mod Starred
 pub mod Impostors
+pub mod Returns

@@ -15,10 +15,10 @@ use Rattle.computed.proofs.Passing.{passes, passes-stage}
 use Rattle.computed.proofs.Using.{uses-all, uses-sound}
 use Rattle.cases.specs.Skins.{T, T-corners, O, O-corners, M, M-corners}
 
-abbrev in-range? : List ℤ → Bool
+abbrev pub in-range? : List ℤ → Bool
 in-range? xs = every (λ z. leb (natAbs z) most-coordinate) xs
 
-skin-sound : (n : ℕ) (T : List Row) (xs : List ℤ) → length xs ≡ 3 * n → So (passes n T) → So (in-range? xs) → So (uses-all n T) → Skin n T xs
+pub skin-sound : (n : ℕ) (T : List Row) (xs : List ℤ) → length xs ≡ 3 * n → So (passes n T) → So (in-range? xs) → So (uses-all n T) → Skin n T xs
 skin-sound n T xs e p r u = record {
   stage = passes-stage n T p;
   corners = e;

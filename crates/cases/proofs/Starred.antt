@@ -48,6 +48,7 @@ use Rattle.thin.specs.declared.Thinning.the-variants.{Done, Refused}
 use Rattle.thin.specs.Order.{asked}
 use Rattle.thin.specs.Thin.{need, thin-lines, Thinned, ThinnedAs, refused, done}
 use Rattle.thin.proofs.Main.{thinned-one, thin-passes}
+use Rattle.thin.proofs.Judging.{under-usable}
 use Rattle.surface.proofs.Testing.{every}
 use Rattle.computed.proofs.Passing.{row-fits, rows-below, passes, passes-stage}
 use Rattle.computed.proofs.Running.{Passing, least, over, Steps, stays-at, goes-on, steps-taken, run-sound, run-same}
@@ -59,20 +60,17 @@ use Rattle.cases.proofs.Skinned.{T-skin, O-skin, M-skin}
 only : (o : Order) {xs : List ℤ} {t l : List ℕ} {a : Thinning} {t′ l′ : List ℕ} → Thinned o xs t l a t′ l′ → Holds (thins o xs t l a t′ l′)
 only o h = (h, λ b u m k. thinned-one k h)
 
-under-usable : {a : Asked} {b : Bound} → a ≡ Under b → ¬ (a ≡ NoUse)
-under-usable e k = let z : _≡_ {A = ℕ} 0 1 = cc in omega arith
-
 -- limits as computed tests
 abbrev any : ℕ → ℕ → Bool
 any a b = true
 
-abbrev within : ℕ → List ℤ → ℕ → ℕ → Bool
+abbrev pub within : ℕ → List ℤ → ℕ → ℕ → Bool
 within L xs a b = leb (squared-distance xs a b) (L * L)
 
 free : (xs : List ℤ) {S S′ : List Row} {l : List Record} → Run (Passing any) S l S′ → Run (Allowed Free xs) S l S′
 free xs r = run-same (λ a b k. tt) (λ a b k. tt) r
 
-limited : (L : ℕ) (xs : List ℤ) {S S′ : List Row} {l : List Record} → Run (Passing (within L xs)) S l S′ → Run (Allowed (Within L) xs) S l S′
+pub limited : (L : ℕ) (xs : List ℤ) {S S′ : List Row} {l : List Record} → Run (Passing (within L xs)) S l S′ → Run (Allowed (Within L) xs) S l S′
 limited L xs r = run-same (λ a b k. leb→le (squared-distance xs a b) (L * L) k) (λ a b k. le→leb (squared-distance xs a b) (L * L) k) r
 
 -- O's two records

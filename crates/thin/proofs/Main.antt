@@ -3,12 +3,15 @@ use mathlib.Core.Path.{_≡_, refl, sym, _∙_, ap}
 use mathlib.Core.Logic.{_⊎_, inl, inr}
 use mathlib.Core.List.{List, [], _∷_, _++_}
 use mathlib.Core.Bool.{true}
-use Prim.Native.Nat.{ℕ, _-_, _*_, _%_, _≤_, _<_}
+use Prim.Native.Nat.{ℕ, _+_, _-_, _*_, _%_, _≤_, _<_}
 use native.Mathlib.Omega.{arith}
 use lib.IntN.{ℤ, pos}
 use lib.ListN.{length, drop, replicate}
 use Rattle.surface.specs.Rows.{Row, rows, flat}
-use Rattle.surface.specs.Stage.{Skin}
+use Rattle.surface.specs.Lists.{Exactly}
+use Rattle.surface.specs.Table.{Used}
+use Rattle.surface.specs.Stage.{Stage, Skin}
+use Rattle.surface.specs.Euler.{Euler}
 use Rattle.surface.specs.Record.{Record}
 use Rattle.refusal.specs.declared.Refusal.{Refusal}
 use Rattle.refusal.specs.declared.Verdict.{Verdict}
@@ -22,8 +25,8 @@ use Rattle.faults.specs.Counts.{CountsFitAt, corners}
 use Rattle.faults.specs.Order.{lines-after-counts}
 use Rattle.faults.proofs.Opposites.{stage-rows, stage-corners}
 use Rattle.faults.proofs.Order.{after-2-at, skin-passes}
-use Rattle.run.specs.Run.{Run}
-use Rattle.run.proofs.Main.{run-one}
+use Rattle.run.specs.Run.{Run, Taken}
+use Rattle.run.proofs.Main.{run-one, taken-cut, taken-replayed, replayed-stage, replayed-euler, replayed-rows, replayed-corners}
 use Rattle.record.specs.Layout.{width, log-of}
 use Rattle.length.specs.declared.Order.{Order}
 use Rattle.least.specs.declared.Bound.{Bound}
@@ -100,6 +103,28 @@ pub thinned-run : {a : Asked} {xs : List ℤ} {t l : List ℕ} {k : ℕ} {t′ l
 thinned-run (refused f er et el) = done-refused er
 thinned-run (done {b = b} {log = log} {last = last} f eb r er et el) =
     record { b = b; log = log; last = last; under = eb; run = r; count = done-count er; table = et; logged = el }
+
+-- after each beginning of the log a stage stands, of the same Euler number, with 2 k fewer rows and k fewer corners used
+pub record KeptAfter (n : ℕ) (T : List Row) (l : List Record) (T₁ : List Row) : Type 0 where
+  pub stage : Stage n T₁
+  pub euler : (χ χ′ : ℤ) → Euler T χ → Euler T₁ χ′ → χ ≡ χ′
+  pub fewer-rows : length T ≡ length T₁ + 2 * length l
+  pub fewer-corners : (v v′ : ℕ) → Exactly (Used T) v → Exactly (Used T₁) v′ → v ≡ v′ + length l
+
+pub thinned-kept : {a : Asked} {xs : List ℤ} {t l : List ℕ} {k n : ℕ} {t′ l′ : List ℕ} → Stage n (rows t) → (w : RunOf a xs t l k t′ l′) (p q : List Record) → w .log ≡ p ++ q →
+    (T₁ : List Row) × Taken (Allowed (w .b) xs) (rows t) p T₁ × KeptAfter n (rows t) p T₁
+thinned-kept s w p q e =
+    let c = taken-cut p (rw e at (w .run .taken)) in
+    let r = taken-replayed (c .1) in (
+      c .0,
+      c .1,
+      record {
+        stage = replayed-stage s r;
+        euler = λ χ χ′ x y. replayed-euler s r x y;
+        fewer-rows = replayed-rows s r;
+        fewer-corners = λ v v′ x y. replayed-corners s r x y;
+      },
+    )
 
 -- the answer tells the first refusal that holds, and else 0 and how many records were written
 pub thin-told : {a : Asked} {xs : List ℤ} {t l : List ℕ} {r : Thinning} {t′ l′ : List ℕ} → ThinnedAs a xs t l r t′ l′ →
