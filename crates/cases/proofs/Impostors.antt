@@ -16,7 +16,7 @@ use Rattle.thin.specs.declared.Thinning.the-variants.{Done, Refused}
 use Rattle.thin.specs.Thin.{Thinned}
 use Rattle.cases.specs.Skins.{T, T-corners, O, O-corners, M, M-corners}
 use Rattle.cases.specs.Cases.{lent, cm-141, cm-142, O-one}
-use Rattle.cases.proofs.Starred.{case-T, case-M, case-O, case-141, case-142, weighs-one}
+use Rattle.cases.proofs.Starred.{case-T, case-M, case-O, case-141, case-142, weighs-O, weighs-one}
 
 done-refused : {X : Type 0} {k : ℕ} {r : Refusal} → Refused r ≡ Done k → X
 done-refused e = let z : _≡_ {A = ℕ} 0 1 = cc in absurd (omega arith)
@@ -71,3 +71,7 @@ limit-stops-all u m h = let e = done-count ((case-142 .1 (Done 0) u m h) .0) in 
 -- one that takes rounded changes off a rounded start: O shows 0 at stage one, where 1 is right
 pub rounded-start : ¬ VolumeReport O-corners O-one (told (Figure (pos 0)))
 rounded-start h = let e : Figure (pos 0) ≡ Figure (pos 1) = (weighs-one .2) (Figure (pos 0)) h in let z : _≡_ {A = ℕ} 0 1 = cc in omega arith
+
+-- one that rounds each row: every row of O has 1,000,000, which rounds to 0
+pub rounds-each-row : ¬ VolumeReport O-corners O (told (Figure (pos 0)))
+rounds-each-row h = let e : Figure (pos 0) ≡ Figure (pos 1) = (weighs-O .2) (Figure (pos 0)) h in let z : _≡_ {A = ℕ} 0 1 = cc in omega arith

@@ -176,7 +176,7 @@ weighs-T : Holds (weighs T-corners T (negℤ (pos 27000000)) (negℤ (pos 5)))
 unfolding rows sixfold determinant minor figure
 weighs-T = let w = weighed T (T-skin .corners) (T-skin .in-range) T-table refl in (refl, w .0, w .1)
 
-weighs-O : Holds (weighs O-corners O (pos 8000000) (pos 1))
+pub weighs-O : Holds (weighs O-corners O (pos 8000000) (pos 1))
 unfolding rows sixfold determinant minor figure
 weighs-O = let w = weighed O (O-skin .corners) (O-skin .in-range) O-table refl in (refl, w .0, w .1)
 

@@ -129,9 +129,9 @@ thinned-kept s w p q e =
 -- the answer tells the first refusal that holds, and else 0 and how many records were written
 pub thin-told : {a : Asked} {xs : List ℤ} {t l : List ℕ} {r : Thinning} {t′ l′ : List ℕ} → ThinnedAs a xs t l r t′ l′ →
     ((e : Refusal) × First (thin-lines a xs t (length l)) (verdict.Refused e) × (told r ≡ answers.refused e))
-    ⊎ (First (thin-lines a xs t (length l)) Passes × (k : ℕ) × (told r ≡ answers.done (pos k ∷ [])))
+    ⊎ (First (thin-lines a xs t (length l)) Passes × (k : ℕ) × (r ≡ Done k) × (told r ≡ answers.done (pos k ∷ [])))
 thin-told (refused {e = e} f er et el) = inl (e, f, ap told er)
-thin-told (done {log = log} f eb r er et el) = inr (f, length log, ap told er)
+thin-told (done {log = log} f eb r er et el) = inr (f, length log, er, ap told er)
 
 -- a refused thinning changes nothing
 pub refused-same : {a : Asked} {xs : List ℤ} {t l : List ℕ} {r : Refusal} {t′ l′ : List ℕ} → ThinnedAs a xs t l (Refused r) t′ l′ → (t′ ≡ t) × (l′ ≡ l)

@@ -1,0 +1,1 @@
+// The promises that join two calls. No function stands here.
