@@ -9,17 +9,17 @@ use Rattle.surface.specs.Rows.{Row, row, rows, flat}
 use Rattle.surface.specs.Grow.{put}
 use Rattle.surface.proofs.Flat.{rows-flat, flat-length, flat-rows, rows-length}
 use Rattle.surface.proofs.Put.{put-length}
-use Rattle.grow.specs.Room.{front, filled, MovedOn}
+use Rattle.grow.specs.Room.{standing, filled, MovedOn}
 
 -- as many rows stand in front as are told
-pub front-length : (m : ℕ) (room : List ℕ) → 3 * m ≤ length room → length (front m room) ≡ m
-front-length m room h = rows-length m (take (3 * m) room) (length-take-le (3 * m) room h)
+pub standing-length : (m : ℕ) (room : List ℕ) → 3 * m ≤ length room → length (standing m room) ≡ m
+standing-length m room h = rows-length m (take (3 * m) room) (length-take-le (3 * m) room h)
 
-pub front-flat : (m : ℕ) (room : List ℕ) → 3 * m ≤ length room → flat (front m room) ≡ take (3 * m) room
-front-flat m room h = flat-rows m (take (3 * m) room) (length-take-le (3 * m) room h)
+pub standing-flat : (m : ℕ) (room : List ℕ) → 3 * m ≤ length room → flat (standing m room) ≡ take (3 * m) room
+standing-flat m room h = flat-rows m (take (3 * m) room) (length-take-le (3 * m) room h)
 
-pub front-filled : (m : ℕ) (T : List Row) (room : List ℕ) → length T ≡ m → front m (filled T room) ≡ T
-front-filled m T room h = ap rows (take-at (flat T) (drop (3 * length T) room) (3 * m) (flat-length T ∙ ap (λ z. 3 * z) h)) ∙ rows-flat T
+pub standing-filled : (m : ℕ) (T : List Row) (room : List ℕ) → length T ≡ m → standing m (filled T room) ≡ T
+standing-filled m T room h = ap rows (take-at (flat T) (drop (3 * length T) room) (3 * m) (flat-length T ∙ ap (λ z. 3 * z) h)) ∙ rows-flat T
 
 pub filled-length : (T : List Row) (room : List ℕ) → 3 * length T ≤ length room → length (filled T room) ≡ length room
 filled-length T room h =
@@ -27,6 +27,10 @@ filled-length T room h =
     let f = flat-length T in
     let d = length-drop (3 * length T) room in
     omega arith
+
+-- a room is its rows and what lies past them
+pub filled-standing : (m : ℕ) (room : List ℕ) → 3 * m ≤ length room → filled (standing m room) room ≡ room
+filled-standing m room h = (λ i. standing-flat m room h i ++ drop (3 * standing-length m room h i) room) ∙ take-append-drop (3 * m) room
 
 -- what lies past the second rows lies past the first
 pub filled-again : (S T : List Row) (room : List ℕ) → length S ≤ length T → filled T (filled S room) ≡ filled T room
@@ -60,7 +64,7 @@ module _ (m i a b c : ℕ) (room room₁ : List ℕ) (h : i ≤ m) (fits : 3 * (
       ∙ take-take (3 * i) (3 * i + 3) room (omega arith)
       ∙ sym (take-take (3 * i) (3 * m) room (omega arith))
 
-  pub row-put : set (set (set room₁ (3 * i) a) (3 * i + 1) b) (3 * i + 2) c ≡ filled (put i (row a b c) (front m room)) room
+  pub row-put : set (set (set room₁ (3 * i) a) (3 * i + 1) b) (3 * i + 2) c ≡ filled (put i (row a b c) (standing m room)) room
   row-put =
       let one : 3 * i + 1 ≡ suc (3 * i) = omega arith in
       let two : 3 * i + 2 ≡ suc (suc (3 * i)) = omega arith in
@@ -69,18 +73,18 @@ module _ (m i a b c : ℕ) (room room₁ : List ℕ) (h : i ≤ m) (fits : 3 * (
       ∙ ap₂ (λ x z. x ++ (a ∷ b ∷ c ∷ []) ++ z) before (moved .after)
       ∙ shift
     where
-      rest : drop (3 * m + 3) room ≡ drop (3 * length (put i (row a b c) (front m room))) room
+      rest : drop (3 * m + 3) room ≡ drop (3 * length (put i (row a b c) (standing m room))) room
       rest =
-          let e = put-length i (row a b c) (front m room) in
-          let g = front-length m room (omega arith) in
-          let q : 3 * m + 3 ≡ 3 * length (put i (row a b c) (front m room)) = omega arith in
+          let e = put-length i (row a b c) (standing m room) in
+          let g = standing-length m room (omega arith) in
+          let q : 3 * m + 3 ≡ 3 * length (put i (row a b c) (standing m room)) = omega arith in
           ap (λ z. drop z room) q
 
-      shift : take (3 * i) f ++ (a ∷ b ∷ c ∷ []) ++ (drop (3 * i) f ++ drop (3 * m + 3) room) ≡ filled (put i (row a b c) (front m room)) room
+      shift : take (3 * i) f ++ (a ∷ b ∷ c ∷ []) ++ (drop (3 * i) f ++ drop (3 * m + 3) room) ≡ filled (put i (row a b c) (standing m room)) room
       shift =
-          let g = front-length m room (omega arith) in
+          let g = standing-length m room (omega arith) in
           ap (λ z. take (3 * i) f ++ (a ∷ b ∷ c ∷ []) ++ (drop (3 * i) f ++ z)) rest
-          ∙ append-assoc (take (3 * i) f) (a ∷ b ∷ c ∷ []) (drop (3 * i) f ++ drop (3 * length (put i (row a b c) (front m room))) room)
-          ∙ sym (append-assoc (take (3 * i) f) (a ∷ b ∷ c ∷ drop (3 * i) f) (drop (3 * length (put i (row a b c) (front m room))) room))
-          ∙ ap (λ z. z ++ drop (3 * length (put i (row a b c) (front m room))) room)
-          (ap (λ z. take (3 * i) z ++ (a ∷ b ∷ c ∷ drop (3 * i) z)) (sym (front-flat m room (omega arith))) ∙ sym (flat-put i a b c (front m room) (omega arith)))
+          ∙ append-assoc (take (3 * i) f) (a ∷ b ∷ c ∷ []) (drop (3 * i) f ++ drop (3 * length (put i (row a b c) (standing m room))) room)
+          ∙ sym (append-assoc (take (3 * i) f) (a ∷ b ∷ c ∷ drop (3 * i) f) (drop (3 * length (put i (row a b c) (standing m room))) room))
+          ∙ ap (λ z. z ++ drop (3 * length (put i (row a b c) (standing m room))) room)
+          (ap (λ z. take (3 * i) z ++ (a ∷ b ∷ c ∷ drop (3 * i) z)) (sym (standing-flat m room (omega arith))) ∙ sym (flat-put i a b c (standing m room) (omega arith)))

@@ -21,30 +21,30 @@ use Rattle.ends.specs.declared.Ends.the-variants.{At, Nothing}
 use Rattle.accept.specs.Noted.{Round}
 use Rattle.accept.specs.Test.{Answered}
 use Rattle.grow.specs.Walk.{Walkable, Renamed}
-use Rattle.grow.specs.Room.{front, filled, GrewBack}
-use Rattle.grow.proofs.Filling.{front-length, front-filled, filled-again}
+use Rattle.grow.specs.Room.{standing, filled, GrewBack}
+use Rattle.grow.proofs.Filling.{standing-length, standing-filled, filled-again}
 
 -- the earlier row put in, then the later
 pub both-put : (m : ℕ) (k : Record) (room room₁ room₂ : List ℕ) → 3 * m ≤ length room →
-    room₁ ≡ filled (put (k .place-1) (k .row-1) (front m room)) room → room₂ ≡ filled (put (k .place-2) (k .row-2) (front (m + 1) room₁)) room₁ →
-    room₂ ≡ filled (put-back (placed k) (front m room)) room
+    room₁ ≡ filled (put (k .place-1) (k .row-1) (standing m room)) room → room₂ ≡ filled (put (k .place-2) (k .row-2) (standing (m + 1) room₁)) room₁ →
+    room₂ ≡ filled (put-back (placed k) (standing m room)) room
 unfolding put-back
 both-put m k room room₁ room₂ h e f =
-    let T = put (k .place-1) (k .row-1) (front m room) in
-    let l : length T ≡ m + 1 = let p = put-length (k .place-1) (k .row-1) (front m room) in let q = front-length m room h in omega arith in
-    let g : front (m + 1) room₁ ≡ T = ap (front (m + 1)) e ∙ front-filled (m + 1) T room l in
+    let T = put (k .place-1) (k .row-1) (standing m room) in
+    let l : length T ≡ m + 1 = let p = put-length (k .place-1) (k .row-1) (standing m room) in let q = standing-length m room h in omega arith in
+    let g : standing (m + 1) room₁ ≡ T = ap (standing (m + 1)) e ∙ standing-filled (m + 1) T room l in
     let n = put-length (k .place-2) (k .row-2) T in
     f ∙ (λ i. filled (put (k .place-2) (k .row-2) (g i)) (e i)) ∙ filled-again T (put (k .place-2) (k .row-2) T) room (omega arith)
 
 module _ (n m : ℕ) (k : Record) (room : List ℕ) (w : StageTable n (take (3 * m) room)) (fits : 3 * (m + 2) ≤ length room) where
-  many : length (front m room) ≡ m
-  many = front-length m room (omega arith)
+  many : length (standing m room) ≡ m
+  many = standing-length m room (omega arith)
 
-  pub not-grown : Answered n (front m room) k Nothing → GrewBack n m k room false room
+  pub not-grown : Answered n (standing m room) k Nothing → GrewBack n m k room false room
   unfolding Answered GrewBack
-  not-grown a = (λ T g. a ((accepted-local n (front m room) (w .stage) k) .0 (T, g)), refl)
+  not-grown a = (λ T g. a ((accepted-local n (standing m room) (w .stage) k) .0 (T, g)), refl)
 
-  module _ (x y : Corner) (a : Answered n (front m room) k (At x y)) where
+  module _ (x y : Corner) (a : Answered n (standing m room) k (At x y)) where
     pub walkable : (at : List ℕ) → n ≤ length at → Round (take (3 * m) room) (k .kept) at → Walkable (take (3 * m) room) at (k .kept) (x .0) (y .0)
     unfolding Answered
     walkable at h r = record { corners = n; table = w; fits = h; round = r; at-x = re-edge refl (sym (a .1)) (a .0 .at-x); at-y = re-edge refl (sym (a .2)) (a .0 .at-y) }
@@ -58,15 +58,15 @@ module _ (n m : ℕ) (k : Record) (room : List ℕ) (w : StageTable n (take (3 *
     later-inside = let l = a .0 in let i = l .inside in let q = many in omega arith
 
     pub grown : (t : List ℕ) → length t ≡ length (take (3 * m) room) → Renamed (k .kept) (k .removed) (x .0) (y .0) (take (3 * m) room) t → (room₂ : List ℕ) →
-        room₂ ≡ filled (put-back (placed k) (front m (t ++ drop (3 * m) room))) (t ++ drop (3 * m) room) → GrewBack n m k room true room₂
+        room₂ ≡ filled (put-back (placed k) (standing m (t ++ drop (3 * m) room))) (t ++ drop (3 * m) room) → GrewBack n m k room true room₂
     unfolding Answered GrewBack
     grown t same r room₂ e = (T, accepted, e ∙ (λ i. filled (put-back (placed k) (in-front i)) (whole i)) ∙ filled-again (rows t) T room grows)
       where
         T : List Row
         T = put-back (placed k) (rows t)
 
-        accepted : Accepted n (front m room) k T
-        accepted = local-accepts n (front m room) k (w .stage) (a .0) T (record { middle = rows t; each = rw (sym (a .1), sym (a .2)) r; whole = refl })
+        accepted : Accepted n (standing m room) k T
+        accepted = local-accepts n (standing m room) k (w .stage) (a .0) T (record { middle = rows t; each = rw (sym (a .1), sym (a .2)) r; whole = refl })
 
         three : length t ≡ 3 * m
         three = same ∙ length-take-le (3 * m) room (omega arith)
@@ -77,8 +77,8 @@ module _ (n m : ℕ) (k : Record) (room : List ℕ) (w : StageTable n (take (3 *
         whole : t ++ drop (3 * m) room ≡ filled (rows t) room
         whole = sym (λ i. flat-rows m t three i ++ drop (3 * count i) room)
 
-        in-front : front m (t ++ drop (3 * m) room) ≡ rows t
-        in-front = ap (front m) whole ∙ front-filled m (rows t) room count
+        in-front : standing m (t ++ drop (3 * m) room) ≡ rows t
+        in-front = ap (standing m) whole ∙ standing-filled m (rows t) room count
 
         grows : length (rows t) ≤ length T
         grows = unfold put-back in

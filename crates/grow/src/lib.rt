@@ -12,7 +12,7 @@ ghost use Rattle.surface.specs.Record.{placed};
 ghost use Rattle.record.specs.Layout.{meant};
 ghost use Rattle.ends.specs.Rows.{row-of};
 ghost use Rattle.grow.specs.Walk.{Walkable, Renamed};
-ghost use Rattle.grow.specs.Room.{front, filled, MovedOn, GrewBack};
+ghost use Rattle.grow.specs.Room.{standing, filled, MovedOn, GrewBack};
 
 // The removed number goes on the rows round the kept corner, from y forward to x.
 fn rename(t: &mut [u32], at: &[usize], r: Record, x: Corner, y: Corner)
@@ -44,7 +44,7 @@ fn move_on(room: &mut [u32], i: usize, j: usize)
 fn put_row(room: &mut [u32], rows: usize, r: Leaving)
     requires { ⌜ r .place .0 ≤ rows ⌝ }
     requires { ⌜ 3 * (rows + 1) ≤ length (now room) ⌝ }
-    ensures { λ _. ⌜ now (room .exit) ≡ filled (put (r .place .0) (row-of r) (front rows (now (room .entry)))) (now (room .entry)) ⌝ }
+    ensures { λ _. ⌜ now (room .exit) ≡ filled (put (r .place .0) (row-of r) (standing rows (now (room .entry)))) (now (room .entry)) ⌝ }
 {
     let i = 3 * (r.place.0 as usize);
     move_on(room, i, 3 * rows);
@@ -58,7 +58,7 @@ fn put_rows(room: &mut [u32], rows: usize, r: Record)
     requires { ⌜ r .earlier .place .0 ≤ rows ⌝ }
     requires { ⌜ r .later .place .0 ≤ rows + 1 ⌝ }
     requires { ⌜ 3 * (rows + 2) ≤ length (now room) ⌝ }
-    ensures { λ _. ⌜ now (room .exit) ≡ filled (put-back (placed (meant r)) (front rows (now (room .entry)))) (now (room .entry)) ⌝ }
+    ensures { λ _. ⌜ now (room .exit) ≡ filled (put-back (placed (meant r)) (standing rows (now (room .entry)))) (now (room .entry)) ⌝ }
 {
     let earlier = r.earlier;
     let later = r.later;
