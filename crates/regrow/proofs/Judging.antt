@@ -1,5 +1,5 @@
--- The verdict on growing back, line by line, and what growing back then has to stand on.
-use mathlib.Core.Path.{_≡_, refl, sym, _∙_, ap}
+-- The verdict on growing back, line by line, and what then stands in the room.
+use mathlib.Core.Path.{_≡_, refl}
 use mathlib.Core.Logic.{inl, inr}
 use mathlib.Core.List.{List}
 use Prim.Native.Nat.{ℕ, _+_, _*_, _≤_, _<_, _%_}
@@ -13,19 +13,16 @@ use Rattle.refusal.specs.declared.Verdict.{Verdict}
 use Rattle.refusal.specs.declared.Verdict.the-variants.{Passes}
 use Rattle.refusal.specs.declared.Verdict.the-variants as verdict
 use Rattle.refusal.specs.First.{First}
-use Rattle.refusal.proofs.Laws.{first-one}
 use Rattle.faults.specs.Counts.{CountsFit}
 use Rattle.faults.specs.Order.{CheckedStage}
 use Rattle.faults.proofs.Order.{after-2}
-use Rattle.grow.specs.Room.{standing, filled}
+use Rattle.grow.specs.Room.{standing}
 use Rattle.grow.proofs.Filling.{standing-length}
-use Rattle.regrow.specs.declared.Regrown.{Regrown}
-use Rattle.regrow.specs.declared.Regrown.the-variants.{Refused}
-use Rattle.regrow.specs.Reached.{count, need, Ready, GrownIn}
-use Rattle.regrow.specs.Outcome.{GrowFits, grow-lines, Judged, GrownAs, refused, grown}
-use Rattle.regrow.proofs.One.{reached-one}
+use Rattle.regrow.specs.Reached.{need, Ready}
+use Rattle.regrow.specs.Outcome.{GrowFits, grow-lines, Judged}
 
-not-passed : {X : Type 0} {r : Refusal} → verdict.Refused r ≡ Passes → X
+-- a refusal passes nothing
+pub not-passed : {X : Type 0} {r : Refusal} → verdict.Refused r ≡ Passes → X
 not-passed e = let z : _≡_ {A = ℕ} 0 1 = cc in absurd (omega arith)
 
 module _ (n m : ℕ) (room log : List ℕ) where
@@ -43,12 +40,12 @@ module _ (n m : ℕ) (room log : List ℕ) where
       three : length (take (3 * m) room) ≡ 3 * m
       three = length-take-le (3 * m) room (omega arith)
 
-      counts : CountsFit n (take (3 * m) room)
-      counts = record { table = record { threes = let e = three in omega arith; count = rw (standing-length m room (omega arith)) (fits .rows) }; count = fits .corners }
+      pub counts-told : CountsFit n (take (3 * m) room)
+      counts-told = record { table = record { threes = let e = three in omega arith; count = rw (standing-length m room (omega arith)) (fits .rows) }; count = fits .corners }
 
       pub judge-on : {v : Verdict} → CheckedStage n (take (3 * m) room) v → Judged n m room log v
       judge-on {v} c = record {
-        holds = unfold grow-lines First in inr ((λ k. k fits), inr ((λ k. omega arith), after-2 n (take (3 * m) room) v counts (c .holds)));
+        holds = unfold grow-lines First in inr ((λ k. k fits), inr ((λ k. omega arith), after-2 n (take (3 * m) room) v counts-told (c .holds)));
         room-enough = λ e. h;
         stage = c .stage;
       }
@@ -59,13 +56,3 @@ module _ (n m : ℕ) (room log : List ℕ) where
       let e = length-take-le (3 * m) room (omega arith) in
       let k = standing-length m room (omega arith) in
       record { table = record { count = omega arith; stage = j .stage refl }; fits = h }
-
-refused-one : {r s : Refusal} → verdict.Refused r ≡ verdict.Refused s → r ≡ s
-refused-one e = cc
-
--- no second outcome satisfies the same words
-pub grown-one : {n m : ℕ} {room log : List ℕ} {a b : Regrown} {room₁ room₂ : List ℕ} → GrownAs n m room log a room₁ → GrownAs n m room log b room₂ → (a ≡ b) × (room₁ ≡ room₂)
-grown-one (refused f ea er) (refused g eb es) = (ea ∙ ap Refused (refused-one (first-one _ f g)) ∙ sym eb, er ∙ sym es)
-grown-one (refused f ea er) (grown g w) = not-passed (first-one _ f g)
-grown-one (grown f w) (refused g eb es) = not-passed (first-one _ g f)
-grown-one (grown f w) (grown g z) = let e = reached-one (w .reached) (z .reached) in (e .0, w .left ∙ ap (λ T. filled T _) (e .1) ∙ sym (z .left))

@@ -1,3 +1,4 @@
+pub mod Main
 pub mod Undoing
 pub mod One
 pub mod Judging

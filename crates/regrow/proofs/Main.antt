@@ -1,0 +1,67 @@
+-- Growing back has one outcome; and the log of steps, grown back from where they led, restores the table they began with.
+use mathlib.Core.Path.{_≡_, refl, sym, _∙_, ap}
+use mathlib.Core.List.{List}
+use Prim.Native.Nat.{ℕ, _*_, _≤_, _<_, _%_}
+use native.Mathlib.Omega.{arith}
+use lib.ListN.{length, take}
+use Rattle.surface.specs.Rows.{Row}
+use Rattle.surface.specs.Stage.{Stage}
+use Rattle.surface.specs.Record.{Record, Replayed}
+use Rattle.surface.proofs.Recorded.{replayed-grown}
+use Rattle.run.proofs.Main.{replayed-stage}
+use Rattle.refusal.specs.declared.Refusal.{Refusal}
+use Rattle.refusal.specs.declared.Verdict.the-variants.{Passes}
+use Rattle.refusal.specs.declared.Verdict.the-variants as verdict
+use Rattle.refusal.specs.First.{First}
+use Rattle.refusal.proofs.Laws.{first-one}
+use Rattle.verdicts.proofs.Laws.{first-before}
+use Rattle.faults.specs.Counts.{CountsFit}
+use Rattle.faults.proofs.Order.{after-2, stage-passes}
+use Rattle.record.specs.Layout.{records}
+use Rattle.record.proofs.Log.{first-length}
+use Rattle.grow.specs.Room.{standing, filled}
+use Rattle.regrow.specs.declared.Regrown.{Regrown}
+use Rattle.regrow.specs.declared.Regrown.the-variants.{Done, Stopped, Refused}
+use Rattle.regrow.specs.Reached.{Reached, all, stopped, count, need}
+use Rattle.regrow.specs.Outcome.{GrowFits, grow-lines, GrownAs, refused, grown}
+use Rattle.regrow.proofs.One.{reached-one}
+use Rattle.regrow.proofs.Judging.{not-passed, counts-told}
+
+refused-one : {r s : Refusal} → verdict.Refused r ≡ verdict.Refused s → r ≡ s
+refused-one e = cc
+
+-- no second outcome satisfies the same words
+pub grown-one : {n m : ℕ} {room log : List ℕ} {a b : Regrown} {room₁ room₂ : List ℕ} → GrownAs n m room log a room₁ → GrownAs n m room log b room₂ → (a ≡ b) × (room₁ ≡ room₂)
+grown-one (refused f ea er) (refused g eb es) = (ea ∙ ap Refused (refused-one (first-one _ f g)) ∙ sym eb, er ∙ sym es)
+grown-one (refused f ea er) (grown g w) = not-passed (first-one _ f g)
+grown-one (grown f w) (refused g eb es) = not-passed (first-one _ g f)
+grown-one {room = room} (grown f w) (grown g z) = let e = reached-one (w .reached) (z .reached) in (e .0, w .left ∙ ap (λ T. filled T room) (e .1) ∙ sym (z .left))
+
+-- a stage within its counts and with room passes
+pub grow-passes : (n m : ℕ) (room log : List ℕ) → GrowFits n m log → need m log ≤ length room → Stage n (standing m room) → First (grow-lines n m room log) Passes
+grow-passes n m room log fits h s = unfold grow-lines in
+    first-before _ _ _ (λ k. k fits) (first-before _ _ _ (λ k. omega arith) (after-2 n (take (3 * m) room) Passes c (stage-passes (take (3 * m) room) (c .table .threes) n s)))
+  where
+    c : CountsFit n (take (3 * m) room)
+    c = counts-told n m room log fits h
+
+-- the log of steps from T, grown back from where they led, is done whole and leaves T
+pub restores : {n m : ℕ} {room log : List ℕ} {a : Regrown} {room′ : List ℕ} {T : List Row} → GrowFits n m log → need m log ≤ length room → Stage n T → Replayed T (records log) (standing m room) →
+    GrownAs n m room log a room′ → (a ≡ Done (count log)) × (room′ ≡ filled T room)
+restores {n} {m} {room} {log} {T = T} fits h s r w =
+    grown-one w (grown (grow-passes n m room log fits h (replayed-stage s r)) (record { table = T; reached = all (replayed-grown s r) (ap Done (sym (first-length (count log) log))); left = refl }))
+
+refused-done : {X : Type 0} {k : ℕ} {r : Refusal} → Done k ≡ Refused r → X
+refused-done e = let z : _≡_ {A = ℕ} 0 1 = cc in absurd (omega arith)
+
+refused-stopped : {X : Type 0} {k : ℕ} {r : Refusal} → Stopped k ≡ Refused r → X
+refused-stopped e = let z : _≡_ {A = ℕ} 0 1 = cc in absurd (omega arith)
+
+reached-answers : {X : Type 0} {n : ℕ} {T′ T : List Row} {log : List Record} {r : Refusal} → Reached n T′ log (Refused r) T → X
+reached-answers (all g e) = refused-done (sym e)
+reached-answers (stopped l k m p g f e) = refused-stopped (sym e)
+
+-- what is refused by another number than 13 is unchanged
+pub refused-same : {n m : ℕ} {room log : List ℕ} {r : Refusal} {room′ : List ℕ} → GrownAs n m room log (Refused r) room′ → room′ ≡ room
+refused-same (refused f ea er) = er
+refused-same (grown f w) = reached-answers (w .reached)
