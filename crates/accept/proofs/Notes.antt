@@ -2,32 +2,17 @@
 use mathlib.Core.Path.{_≡_, refl, sym, _∙_, ap}
 use mathlib.Core.Logic.{_≢_}
 use mathlib.Core.List.{List}
-use Prim.Native.Nat.{ℕ, _+_, _-_, _*_, _≤_, _<_, _%_}
+use Prim.Native.Nat.{ℕ, _+_, _-_, _*_, _≤_, _<_}
 use native.Mathlib.Decide.{ℕ-discrete}
 use native.Mathlib.Omega.{arith}
 use lib.ListN.{length, getD, set, length-set}
 use lib.Seq.{getD-set-same, getD-set-other}
 use Rattle.surface.specs.Rows.{rows}
 use Rattle.surface.specs.Table.{Edge, Used}
-use Rattle.surface.specs.Stage.{StageTable}
 use Rattle.slots.specs.Slot.{next-slot, Whole, Under}
 use Rattle.slots.specs.Marks.{Blank}
 use Rattle.slots.proofs.Slots.{next-inside, follows-at, at-edge, at-used}
-use Rattle.slots.proofs.Staged as staged
 use Rattle.accept.specs.Noted.{Noted, NotedTo, Round, Near}
-
--- a stage's table is made of whole rows, and its numbers are below the corner count
-stage-threes : {n : ℕ} {t : List ℕ} → StageTable n t → length t % 3 ≡ 0
-stage-threes w = let e = w .count in omega arith
-
-pub stage-whole : {n : ℕ} {t : List ℕ} → StageTable n t → Whole t
-stage-whole {t = t} w = staged.stage-whole t (stage-threes w) (w .stage)
-
-pub stage-under : {n : ℕ} {t : List ℕ} → StageTable n t → Under t n
-stage-under {t = t} w = staged.stage-under t (stage-threes w) (w .stage)
-
-pub under-more : {t : List ℕ} {n m : ℕ} → n ≤ m → Under t n → Under t m
-under-more h u = record { under = λ e k. let l = u .under e k in omega arith }
 
 -- used: a slot holds it
 module _ (t : List ℕ) (w : Whole t) (v : ℕ) where

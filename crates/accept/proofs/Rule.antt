@@ -20,7 +20,9 @@ use Rattle.ends.specs.declared.Ends.the-variants.{At, Nothing}
 use Rattle.accept.specs.Noted.{Round, Near, TwoNear}
 use Rattle.ends.specs.Rows.{EndsAre}
 use Rattle.accept.specs.Test.{InBounds, Answered}
-use Rattle.accept.proofs.Notes.{stage-whole, stage-under, under-more, near-edge, edge-near}
+use Rattle.slots.proofs.Slots.{under-more}
+use Rattle.slots.proofs.Staged.{table-whole, table-under}
+use Rattle.accept.proofs.Notes.{near-edge, edge-near}
 
 module _ (n : ℕ) (T : List Row) (k : Record) (s : Stage n T) where
   pub local-bounds : Local n T k → InBounds n (length T) k
@@ -92,11 +94,11 @@ module _ (n : ℕ) (t : List ℕ) (k : Record) (w : StageTable n t) where
         m (record { differ = λ q. l .differ (h .0 ∙ q ∙ sym (h .1)); at-x = noted (re-edge refl (h .0) (l .at-x)); at-y = noted (re-edge refl (h .1) (l .at-y)) })
       where
         noted : {p : ℕ} → Edge (rows t) (k .kept) p → Near at p
-        noted g = edge-near t (stage-whole w) (k .kept) at (under-more under (stage-under w)) r g
+        noted g = edge-near t (table-whole w) (k .kept) at (under-more (table-under w) under) r g
 
     pub all-holds : InBounds n (length t / 3) k → ¬ Used (rows t) (k .removed) → TwoNear at (x .0) (y .0) → Answered n (rows t) k (At x y)
     unfolding Answered EndsAre local
     all-holds b u d = (local n (rows t) k (w .stage) e (rw rows-told at b) u (d .differ) (edge (d .at-x)) (edge (d .at-y)), refl, refl)
       where
         edge : {p : ℕ} → Near at p → Edge (rows t) (k .kept) p
-        edge g = near-edge t (stage-whole w) (k .kept) at (under-more under (stage-under w)) r g
+        edge g = near-edge t (table-whole w) (k .kept) at (under-more (table-under w) under) r g

@@ -14,19 +14,14 @@ use Rattle.volume.specs.Report.{VolumeReport}
 use Rattle.thin.specs.declared.Thinning.{Thinning}
 use Rattle.thin.specs.declared.Thinning.the-variants.{Done, Refused}
 use Rattle.thin.specs.Thin.{Thinned}
+use Rattle.thin.proofs.Main.{done-refused, done-count}
 use Rattle.cases.specs.Skins.{T, T-corners, O, O-corners, M, M-corners}
 use Rattle.cases.specs.Cases.{lent, cm-141, cm-142, O-one}
 use Rattle.cases.proofs.Starred.{case-T, case-M, case-O, case-141, case-142, weighs-O, weighs-one}
 
-done-refused : {X : Type 0} {k : ℕ} {r : Refusal} → Refused r ≡ Done k → X
-done-refused e = let z : _≡_ {A = ℕ} 0 1 = cc in absurd (omega arith)
-
-done-count : {k m : ℕ} → Done k ≡ Done m → k ≡ m
-done-count e = cc
-
 -- one that refuses everything
 pub refuses-all : (r : Refusal) (u m : List ℕ) → ¬ Thinned NoLimit T-corners T [] (Refused r) u m
-refuses-all r u m h = done-refused ((case-T .1 (Refused r) u m h) .0)
+refuses-all r u m h = done-refused (sym ((case-T .1 (Refused r) u m h) .0))
 
 -- one that answers with the tetrahedron for everything: its first row is not the one that O ends with
 pub tetrahedron-for-all : (b : Thinning) (u m : List ℕ) → getD u 1 0 ≡ getD T 1 0 → ¬ Thinned NoLimit O-corners O (lent 20) b u m

@@ -1,3 +1,1 @@
-pub mod Stepping
 pub mod Going
-pub mod Charts

@@ -10,18 +10,8 @@ use Rattle.surface.specs.Table.{Used}
 use Rattle.surface.specs.Stage.{StageTable}
 use Rattle.surface.specs.Record as surface
 use Rattle.run.specs.Run.{Run}
-use Rattle.record.specs.declared.Record.{Record}
 use Rattle.record.specs.Layout.{width, log-of}
-use Rattle.step.specs.Step.{Stepped}
-
--- the front of a lent table, r rows of it
-abbrev pub front : ℕ → List ℕ → List ℕ
-front r t = take (3 * r) t
-
--- the step of the edge from a up to b on the front of a lent table; what lies past it stays as it was
-pub record SteppedIn (t : List ℕ) (r a b : ℕ) (k : Record) (t′ : List ℕ) : Type 0 where
-  pub stepped : Stepped (front r t) a b k (front r t′)
-  pub past : drop (3 * r) t′ ≡ drop (3 * r) t
+use Rattle.step.specs.Front.{front}
 
 -- the front of t is a stage over n corners, and the log l, which has d records, has room for as many as may follow: one for each used
 -- corner but four

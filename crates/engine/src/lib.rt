@@ -1,27 +1,11 @@
 // The plain engine: the least edge found and contracted, until no edge qualifies.
 use least::Bound;
 use least::Found;
-use record::Corner;
-use record::Record;
-ghost use mathlib.Core.Path.{_≡_};
-ghost use Prim.Native.Nat.{_*_, _≤_};
-ghost use lib.ListN.{length};
 ghost use Rattle.surface.specs.Rows.{rows};
 ghost use Rattle.surface.specs.Stage.{StageTable};
-ghost use Rattle.step.specs.Step as step;
 ghost use Rattle.least.specs.Limited.{Allowed, Measurable};
 ghost use Rattle.least.specs.Search.{FoundLeast};
-ghost use Rattle.engine.specs.Engine.{front, SteppedIn, Ready, WentOn};
-
-// The step on the first rows of a lent table.
-fn step_in(table: &mut [u32], rows: usize, kept: Corner, removed: Corner) -> Record
-    requires { ⌜ 3 * rows ≤ length (now table) ⌝ }
-    requires { ⌜ step.Ready (front rows (now table)) (kept .0) (removed .0) ⌝ }
-    ensures { λ k. ⌜ SteppedIn (now (table .entry)) rows (kept .0) (removed .0) k (now (table .exit)) ⌝ }
-{
-    let end = 3 * rows;
-    step::contract(&mut table[..end], kept, removed)
-}
+ghost use Rattle.engine.specs.Engine.{Ready, WentOn};
 
 // The least edge of a stage that qualifies. The chains round its corners are built anew for each step.
 fn next_edge(t: &[u32], n: usize, xs: &[i32], bound: Bound) -> Found
@@ -57,7 +41,7 @@ pub fn go_on(
         match found {
             Found::Nothing => return k,
             Found::Edge(kept, removed) => {
-                let e = step_in(table, r, kept, removed);
+                let e = step::contract_front(table, r, kept, removed);
                 record::write_record(log, record::WIDTH * k, e);
                 r = r - 2;
                 k = k + 1;

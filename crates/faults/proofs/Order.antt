@@ -14,7 +14,7 @@ use Rattle.refusal.specs.declared.Refusal.the-variants.{CountsOutside, Coordina
 use Rattle.refusal.specs.declared.Verdict.{Verdict}
 use Rattle.refusal.specs.declared.Verdict.the-variants.{Passes, Refused}
 use Rattle.refusal.specs.First.{Clause, _when_, First}
-use Rattle.refusal.proofs.Laws.{first-one}
+use Rattle.refusal.proofs.Laws.{first-one, refused-passes}
 use Rattle.verdicts.specs.Lesser.{lesser-of, either, Rising}
 use Rattle.verdicts.proofs.Laws.{first-after, lesser-first}
 use Rattle.faults.specs.Counts.{RowsFit, CornersFit, TableFits, CountsFit, CountsFitAt, corners}
@@ -22,9 +22,6 @@ use Rattle.faults.specs.Words.{OutOfRange, NotBelow, Below, TwiceInRow, 
 use Rattle.faults.specs.Order.{only, row-lines, lines-after-counts, lines-at, lines, CheckedRows, CheckedAt, CheckedFirst, CheckedStageAt, CheckedStage}
 use Rattle.faults.proofs.Tells.{true-false}
 use Rattle.faults.proofs.Opposites.{in-or-out, below-or-not, twice-or-apart, twice-or-once, one-or-both-ways, unused-or-all, many-or-one-ring, parted-or-connected, stage-of, stage-rows, stage-corners, stage-closed, stage-ring, stage-connected, skin-corners, coordinates-length}
-
-refused-passes : {a : Refusal} → Refused a ≡ Passes → ⊥
-refused-passes e = let z : _≡_ {A = ℕ} 0 1 = cc in omega arith
 
 -- a line asked of first tables only: it is not given, or it is
 only-past : (first : Bool) (c : Clause) (l : List Clause) (v : Verdict) → (first ≡ true → ¬ (c .given)) → First l v → First (only first c l) v
@@ -40,7 +37,7 @@ only-here false c l e g = absurd (true-false e refl)
 -- 5 to 11
 module _ (first : Bool) (n : ℕ) (T : List Row) where
   refused : (a : Refusal) → First (row-lines first n T) (Refused a) → CheckedRows first n T (Refused a)
-  refused a f = record { holds = f; stage = λ e. absurd (refused-passes e); used = λ e. absurd (refused-passes e) }
+  refused a f = record { holds = f; stage = λ e. refused-passes e; used = λ e. refused-passes e }
 
   pub refuse-5 : NotBelow n T → CheckedRows first n T (Refused NumberNotBelow)
   unfolding First row-lines
@@ -102,7 +99,7 @@ module _ (first : Bool) (n : ℕ) (T : List Row) where
 -- a table with its coordinates: 2, 4 and the rest
 module _ (first : Bool) (xs : List ℤ) (t : List ℕ) where
   refused-at : (a : Refusal) → First (lines-at first xs t) (Refused a) → CheckedAt first xs t (Refused a)
-  refused-at a f = record { holds = f; fits = λ e. absurd (refused-passes e); stage = λ e. absurd (refused-passes e); in-range = λ e. absurd (refused-passes e); used = λ e. absurd (refused-passes e) }
+  refused-at a f = record { holds = f; fits = λ e. refused-passes e; stage = λ e. refused-passes e; in-range = λ e. refused-passes e; used = λ e. refused-passes e }
 
   pub refuse-2-at : (¬ CountsFitAt xs t) → CheckedAt first xs t (Refused CountsOutside)
   unfolding First lines-at
@@ -132,7 +129,7 @@ stage-at k = record { holds = k .holds; fits = k .fits; stage = k .stage; in-ran
 module _ (n : ℕ) (t : List ℕ) where
   pub refuse-2 : (¬ CountsFit n t) → CheckedStage n t (Refused CountsOutside)
   unfolding First lines
-  refuse-2 p = record { holds = inl (p, refl); fits = λ e. absurd (refused-passes e); stage = λ e. absurd (refused-passes e) }
+  refuse-2 p = record { holds = inl (p, refl); fits = λ e. refused-passes e; stage = λ e. refused-passes e }
 
   pub rows-told : (v : Verdict) → CountsFit n t → CheckedRows false n (rows t) v → CheckedStage n t v
   unfolding First lines

@@ -22,7 +22,9 @@ use Rattle.surface.proofs.Walked.{fan, fan-step}
 use Rattle.slots.specs.Slot.{next-slot}
 use Rattle.slots.proofs.Slots.{next-0, next-1, next-2, next-inside, next-round, at-follows, one-slot}
 use Rattle.accept.specs.Noted.{Noted, Near}
-use Rattle.accept.proofs.Notes.{stage-whole, stage-under, under-more, edge-near}
+use Rattle.slots.proofs.Slots.{under-more}
+use Rattle.slots.proofs.Staged.{table-whole, table-under}
+use Rattle.accept.proofs.Notes.{edge-near}
 use Rattle.grow.specs.Walk.{Walkable, Renamed}
 
 -- what has become of a number c of a row, with next after it: changed, if it is a and next is among P
@@ -85,14 +87,14 @@ module _ (t₀ at : List ℕ) (a b x y : ℕ) (w : Walkable t₀ at a x y) where
   s = w .table .stage
 
   threes : length t₀ % 3 ≡ 0
-  threes = stage-whole (w .table) .threes
+  threes = table-whole (w .table) .threes
 
   pub walk-start : Walking t₀ a b x y t₀ y
   walk-start = record { same = refl; here = w .at-y; on = stay refl; slots = λ e h. to-come (λ q k. k .on) refl }
 
   module _ (t : List ℕ) (p : ℕ) (k : Walking t₀ a b x y t p) where
     pub noted : Near at p
-    noted = edge-near t₀ (stage-whole (w .table)) a at (under-more (w .fits) (stage-under (w .table))) (w .round) (k .here)
+    noted = edge-near t₀ (table-whole (w .table)) a at (under-more (table-under (w .table)) (w .fits)) (w .round) (k .here)
 
     -- where p is noted
     abbrev pub slot : ℕ

@@ -13,6 +13,7 @@ use Rattle.refusal.specs.declared.Verdict.{Verdict}
 use Rattle.refusal.specs.declared.Verdict.the-variants.{Passes}
 use Rattle.refusal.specs.declared.Verdict.the-variants as verdict
 use Rattle.refusal.specs.First.{First}
+use Rattle.refusal.proofs.Laws.{refused-passes}
 use Rattle.faults.specs.Counts.{CountsFit}
 use Rattle.faults.specs.Order.{CheckedStage}
 use Rattle.faults.proofs.Order.{after-2}
@@ -21,13 +22,9 @@ use Rattle.grow.proofs.Filling.{standing-length}
 use Rattle.regrow.specs.Reached.{need, Ready}
 use Rattle.regrow.specs.Outcome.{GrowFits, grow-lines, Judged}
 
--- a refusal passes nothing
-pub not-passed : {X : Type 0} {r : Refusal} → verdict.Refused r ≡ Passes → X
-not-passed e = let z : _≡_ {A = ℕ} 0 1 = cc in absurd (omega arith)
-
 module _ (n m : ℕ) (room log : List ℕ) where
   no : {r : Refusal} → First (grow-lines n m room log) (verdict.Refused r) → Judged n m room log (verdict.Refused r)
-  no f = record { holds = f; room-enough = λ e. not-passed e; stage = λ e. not-passed e }
+  no f = record { holds = f; room-enough = λ e. refused-passes e; stage = λ e. refused-passes e }
 
   pub judge-2 : (¬ GrowFits n m log) → Judged n m room log (verdict.Refused CountsOutside)
   judge-2 e = no (unfold grow-lines First in inl (e, refl))

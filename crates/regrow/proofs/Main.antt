@@ -13,7 +13,7 @@ use Rattle.refusal.specs.declared.Refusal.{Refusal}
 use Rattle.refusal.specs.declared.Verdict.the-variants.{Passes}
 use Rattle.refusal.specs.declared.Verdict.the-variants as verdict
 use Rattle.refusal.specs.First.{First}
-use Rattle.refusal.proofs.Laws.{first-one}
+use Rattle.refusal.proofs.Laws.{first-one, refused-one, refused-passes}
 use Rattle.verdicts.proofs.Laws.{first-before}
 use Rattle.faults.specs.Counts.{CountsFit}
 use Rattle.faults.proofs.Order.{after-2, stage-passes}
@@ -25,16 +25,13 @@ use Rattle.regrow.specs.declared.Regrown.the-variants.{Done, Stopped, Re
 use Rattle.regrow.specs.Reached.{Reached, all, stopped, count, need}
 use Rattle.regrow.specs.Outcome.{GrowFits, grow-lines, GrownAs, refused, grown}
 use Rattle.regrow.proofs.One.{reached-one}
-use Rattle.regrow.proofs.Judging.{not-passed, counts-told}
-
-refused-one : {r s : Refusal} → verdict.Refused r ≡ verdict.Refused s → r ≡ s
-refused-one e = cc
+use Rattle.regrow.proofs.Judging.{counts-told}
 
 -- no second outcome satisfies the same words
 pub grown-one : {n m : ℕ} {room log : List ℕ} {a b : Regrown} {room₁ room₂ : List ℕ} → GrownAs n m room log a room₁ → GrownAs n m room log b room₂ → (a ≡ b) × (room₁ ≡ room₂)
 grown-one (refused f ea er) (refused g eb es) = (ea ∙ ap Refused (refused-one (first-one _ f g)) ∙ sym eb, er ∙ sym es)
-grown-one (refused f ea er) (grown g w) = not-passed (first-one _ f g)
-grown-one (grown f w) (refused g eb es) = not-passed (first-one _ g f)
+grown-one (refused f ea er) (grown g w) = refused-passes (first-one _ f g)
+grown-one (grown f w) (refused g eb es) = refused-passes (first-one _ g f)
 grown-one {room = room} (grown f w) (grown g z) = let e = reached-one (w .reached) (z .reached) in (e .0, w .left ∙ ap (λ T. filled T room) (e .1) ∙ sym (z .left))
 
 -- a stage within its counts and with room passes
@@ -51,15 +48,16 @@ pub restores : {n m : ℕ} {room log : List ℕ} {a : Regrown} {room′ : List �
 restores {n} {m} {room} {log} {T = T} fits h s r w =
     grown-one w (grown (grow-passes n m room log fits h (replayed-stage s r)) (record { table = T; reached = all (replayed-grown s r) (ap Done (sym (first-length (count log) log))); left = refl }))
 
-refused-done : {X : Type 0} {k : ℕ} {r : Refusal} → Done k ≡ Refused r → X
-refused-done e = let z : _≡_ {A = ℕ} 0 1 = cc in absurd (omega arith)
+-- no count is a refusal
+pub done-refused : {X : Type 0} {k : ℕ} {r : Refusal} → Done k ≡ Refused r → X
+done-refused e = let z : _≡_ {A = ℕ} 0 1 = cc in absurd (omega arith)
 
-refused-stopped : {X : Type 0} {k : ℕ} {r : Refusal} → Stopped k ≡ Refused r → X
-refused-stopped e = let z : _≡_ {A = ℕ} 0 1 = cc in absurd (omega arith)
+pub stopped-refused : {X : Type 0} {k : ℕ} {r : Refusal} → Stopped k ≡ Refused r → X
+stopped-refused e = let z : _≡_ {A = ℕ} 0 1 = cc in absurd (omega arith)
 
 reached-answers : {X : Type 0} {n : ℕ} {T′ T : List Row} {log : List Record} {r : Refusal} → Reached n T′ log (Refused r) T → X
-reached-answers (all g e) = refused-done (sym e)
-reached-answers (stopped l k m p g f e) = refused-stopped (sym e)
+reached-answers (all g e) = done-refused (sym e)
+reached-answers (stopped l k m p g f e) = stopped-refused (sym e)
 
 -- what is refused by another number than 13 is unchanged
 pub refused-same : {n m : ℕ} {room log : List ℕ} {r : Refusal} {room′ : List ℕ} → GrownAs n m room log (Refused r) room′ → room′ ≡ room

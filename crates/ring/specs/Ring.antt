@@ -3,7 +3,6 @@ use mathlib.Core.Path.{_≡_}
 use mathlib.Core.List.{List, [], _∷_}
 use Prim.Native.Nat.{ℕ, zero, suc, _+_, _*_, _/_, _%_, _≤_, _<_}
 use lib.ListN.{getD}
-use Rattle.surface.specs.Rows.{Row, row}
 use Rattle.ring.specs.declared.Trial.{Trial}
 use Rattle.ring.specs.declared.Trial.the-variants.{Number, Nothing}
 
@@ -11,11 +10,7 @@ use Rattle.ring.specs.declared.Trial.the-variants.{Number, Nothing}
 abbrev pub corner : ℕ → ℕ → ℕ
 corner r c = 8 * (r % 8) + c % 8
 
--- the two rows that corner (r, c) gives
-abbrev pub gives : ℕ → ℕ → List Row
-gives r c = row (corner r c) (corner (r + 1) c) (corner (r + 1) (c + 1)) ∷ row (corner r c) (corner (r + 1) (c + 1)) (corner r (c + 1)) ∷ []
-
--- their six numbers
+-- the six numbers of the two rows that corner (r, c) gives: ((r, c), (r + 1, c), (r + 1, c + 1)) and ((r, c), (r + 1, c + 1), (r, c + 1))
 abbrev pub six : ℕ → ℕ → List ℕ
 six r c = corner r c ∷ corner (r + 1) c ∷ corner (r + 1) (c + 1) ∷ corner r c ∷ corner (r + 1) (c + 1) ∷ corner r (c + 1) ∷ []
 

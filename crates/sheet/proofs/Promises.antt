@@ -14,7 +14,7 @@ use Rattle.refusal.specs.First.{Clause, First}
 use Rattle.refusal.specs.declared.Refusal.{Refusal}
 use Rattle.refusal.specs.declared.Verdict.{Verdict}
 use Rattle.refusal.specs.declared.Verdict.the-variants.{Passes, Refused}
-use Rattle.refusal.proofs.Laws.{first-one}
+use Rattle.refusal.proofs.Laws.{first-one, refused-one, refused-passes}
 use Rattle.text.specs.Decimal.{decimal}
 use Rattle.text.proofs.Digits.{below-digits}
 use Rattle.lines.specs.Lines.{Short}
@@ -63,12 +63,6 @@ one-skin {b} {n} {m} {n′} {m′} {xs} {xs′} {t} {t′} s u =
 
 -- ---- no second outcome
 
-refused-passes : {r : Refusal} → Refused r ≡ Passes → ⊥
-refused-passes e = let z : _≡_ {A = ℕ} 0 1 = cc in omega arith
-
-refusal-of : {r q : Refusal} → Refused r ≡ Refused q → r ≡ q
-refusal-of e = cc
-
 pub record SameOutcome (a a′ : Sheet) (troom troom′ : List ℕ) (croom croom′ : List ℤ) : Type 0 where
   pub answer : a ≡ a′
   pub table : troom ≡ troom′
@@ -80,14 +74,14 @@ module _ (b : List ℕ) (troom : List ℕ) (croom : List ℤ) where
   moved {xs′ = xs′} {t = t} v s f = subst (λ k. First (skin-refusals troom croom xs′ k) v) (s .numbers) (subst (λ k. First (skin-refusals troom croom k t) v) (s .coordinates) f)
 
   pub one-outcome : {a a′ : Sheet} {t₁ t₂ : List ℕ} {c₁ c₂ : List ℤ} → ReadSheet b troom t₁ croom c₁ a → ReadSheet b troom t₂ croom c₂ a′ → SameOutcome a a′ t₁ t₂ c₁ c₂
-  one-outcome (bad-form f e p q) (bad-form g d u v) = record { answer = e ∙ ap sheet.Refused (refusal-of (first-one (form-refusals b) f g)) ∙ sym d; table = p ∙ sym u; corners = q ∙ sym v }
-  one-outcome (bad-form f e p q) (bad-skin g s k d u v) = absurd (refused-passes (first-one (form-refusals b) f g))
-  one-outcome (bad-form f e p q) (read g s k w d u v) = absurd (refused-passes (first-one (form-refusals b) f g))
-  one-outcome (bad-skin g s k d u v) (bad-form f e p q) = absurd (refused-passes (first-one (form-refusals b) f g))
-  one-outcome (bad-skin {r = r} f s k e p q) (bad-skin {xs = xs′} {t = t′} g s′ k′ d u v) = record { answer = e ∙ ap sheet.Refused (refusal-of (first-one (skin-refusals troom croom xs′ t′) (moved (Refused r) (one-skin s s′) k) k′)) ∙ sym d; table = p ∙ sym u; corners = q ∙ sym v }
-  one-outcome (bad-skin {r = r} f s k e p q) (read {xs = xs′} {t = t′} g s′ k′ w d u v) = absurd (refused-passes (first-one (skin-refusals troom croom xs′ t′) (moved (Refused r) (one-skin s s′) k) k′))
-  one-outcome (read g s k w d u v) (bad-form f e p q) = absurd (refused-passes (first-one (form-refusals b) f g))
-  one-outcome (read f s k w d u v) (bad-skin {xs = xs′} {t = t′} g s′ k′ e p q) = absurd (refused-passes (first-one (skin-refusals troom croom xs′ t′) k′ (moved Passes (one-skin s s′) k)))
+  one-outcome (bad-form f e p q) (bad-form g d u v) = record { answer = e ∙ ap sheet.Refused (refused-one (first-one (form-refusals b) f g)) ∙ sym d; table = p ∙ sym u; corners = q ∙ sym v }
+  one-outcome (bad-form f e p q) (bad-skin g s k d u v) = refused-passes (first-one (form-refusals b) f g)
+  one-outcome (bad-form f e p q) (read g s k w d u v) = refused-passes (first-one (form-refusals b) f g)
+  one-outcome (bad-skin g s k d u v) (bad-form f e p q) = refused-passes (first-one (form-refusals b) f g)
+  one-outcome (bad-skin {r = r} f s k e p q) (bad-skin {xs = xs′} {t = t′} g s′ k′ d u v) = record { answer = e ∙ ap sheet.Refused (refused-one (first-one (skin-refusals troom croom xs′ t′) (moved (Refused r) (one-skin s s′) k) k′)) ∙ sym d; table = p ∙ sym u; corners = q ∙ sym v }
+  one-outcome (bad-skin {r = r} f s k e p q) (read {xs = xs′} {t = t′} g s′ k′ w d u v) = refused-passes (first-one (skin-refusals troom croom xs′ t′) (moved (Refused r) (one-skin s s′) k) k′)
+  one-outcome (read g s k w d u v) (bad-form f e p q) = refused-passes (first-one (form-refusals b) f g)
+  one-outcome (read f s k w d u v) (bad-skin {xs = xs′} {t = t′} g s′ k′ e p q) = refused-passes (first-one (skin-refusals troom croom xs′ t′) k′ (moved Passes (one-skin s s′) k))
   one-outcome (read f s k w d u v) (read g s′ k′ w′ e p q) =
       let o = one-skin s s′ in
       record {

@@ -6,7 +6,7 @@ use native.Mathlib.Omega.{arith}
 use lib.ListN.{length}
 use Rattle.surface.specs.Limits.{most-rows}
 use Rattle.surface.specs.Rows.{rows}
-use Rattle.surface.specs.Stage.{Stage}
+use Rattle.surface.specs.Stage.{Stage, StageTable}
 use Rattle.slots.specs.Slot.{Whole, Under}
 use Rattle.slots.proofs.Slots.{whole-rows, at-follows}
 
@@ -22,3 +22,14 @@ module _ (t : List ℕ) (threes : length t % 3 ≡ 0) where
 
   pub stage-some : {n : ℕ} → Stage n (rows t) → 0 < length t
   stage-some s = let e = whole-rows t threes in let m = s .least in omega arith
+
+-- a stage's table is made of whole rows, and its numbers are below the corner count
+module _ {n : ℕ} {t : List ℕ} (w : StageTable n t) where
+  threes-of : length t % 3 ≡ 0
+  threes-of = let e = w .count in omega arith
+
+  pub table-whole : Whole t
+  table-whole = stage-whole t threes-of (w .stage)
+
+  pub table-under : Under t n
+  table-under = stage-under t threes-of (w .stage)

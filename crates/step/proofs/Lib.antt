@@ -2,3 +2,4 @@ pub mod Moving
 pub mod Leave
 pub mod Zeros
 pub mod Stepping
+pub mod Front

@@ -22,7 +22,7 @@ use Rattle.record.specs.declared.Leaving.{Leaving}
 use Rattle.record.specs.declared.Record.{Record}
 use Rattle.record.specs.Layout.{meant}
 use Rattle.step.specs.Flat.{after}
-use Rattle.step.specs.Step.{Ready, row-at, SomeLeaves, NextLeaving, Stepped}
+use Rattle.step.specs.Step.{Ready, row-at, SomeLeaves, NextLeaving, Recorded, Stepped}
 use Rattle.step.proofs.Moving.{after-rows, after-threes}
 use Rattle.step.proofs.Leave.{leaving-two}
 
@@ -76,7 +76,6 @@ module _ (t : List ℕ) (a b : ℕ) (g : Ready t a b) where
     some-second = let h = before in record { place = two .j; from = let o = two .order in omega arith; inside = fits (two .inside); leaves = leaves-j }
 
     module _ (l : Leaving) (second : NextLeaving a b t (e .place .0 + 1) l) where
-      -- the record of the step
       record-is : leaving a b T ≡ at (e .place .0) (row (e .a .0) (e .b .0) (e .c .0)) ∷ at (l .place .0) (row (l .a .0) (l .b .0) (l .c .0)) ∷ []
       record-is =
           let hi = unfits (first .inside) in
@@ -87,39 +86,49 @@ module _ (t : List ℕ) (a b : ℕ) (g : Ready t a b) where
           leaving-two a b T (e .place .0) (l .place .0) zero-row two (omega arith) hj (rw ei (first .leaves)) (rw ej (second .leaves))
           ∙ (λ k. at (e .place .0) ((ei ∙ sym (first .stands)) k) ∷ at (l .place .0) ((ej ∙ sym (second .stands)) k) ∷ [])
 
-      pub step-done : (kept removed : Corner) → kept .0 ≡ a → removed .0 ≡ b → (j : ℕ) (t₁ t₂ : List ℕ) → j ≤ length t → length t₁ ≡ length t → take j t₁ ≡ after a b t →
-          t₂ ≡ take j t₁ ++ replicate (length t₁ - j) 0 → Stepped t a b (record { kept = kept; removed = removed; earlier = e; later = l }) t₂
-      step-done kept removed ek er j t₁ t₂ hj same moved cleared = record {
-        kept-is = ek;
-        removed-is = er;
-        replays = record {
-          lower = rw (ek, er) (g .rises);
-          meets = rw (ek, er) (g .meets);
-          leaves = rw (ek, er) (sym (after-rows a b t) ∙ ap rows (sym front));
-          record-is = rw (ek, er) record-is;
-        };
-        cleared = ap (drop (length t - 6)) cleared ∙ drop-at (take j t₁) (replicate (length t₁ - j) 0) (length t - 6) (len ∙ is-j) ∙ ap (λ m. replicate m 0) six;
-      }
-        where
-          len : length (take j t₁) ≡ j
-          len = length-take-le j t₁ (omega arith)
+      -- the record of the step
+      pub recorded : (kept removed : Corner) → kept .0 ≡ a → removed .0 ≡ b → Recorded t a b (record { kept = kept; removed = removed; earlier = e; later = l })
+      recorded kept removed ek er = record { kept-is = ek; removed-is = er; record-is = record-is }
 
-          is-j : j ≡ length t - 6
-          is-j =
-              let c = g .table .count in
-              let w : length T ≡ 2 + length (contract a b T) = two-fewer (g .corners) T (g .table .stage) a b (g .meets) in
-              let m = ap length moved in
-              let th = after-threes a b t in
-              let r : length (rows (after a b t)) ≡ length (contract a b T) = ap length (after-rows a b t) in
-              let q = len in
-              omega arith
+  module _ (k : Record) (w : Recorded t a b k) where
+    pub step-done : (j : ℕ) (t₁ t₂ : List ℕ) → j ≤ length t → length t₁ ≡ length t → take j t₁ ≡ after a b t → t₂ ≡ take j t₁ ++ replicate (length t₁ - j) 0 → Stepped t a b k t₂
+    step-done j t₁ t₂ hj same moved cleared = record {
+      kept-is = ek;
+      removed-is = er;
+      replays = record {
+        lower = rw (ek, er) (g .rises);
+        meets = rw (ek, er) (g .meets);
+        leaves = rw (ek, er) (sym (after-rows a b t) ∙ ap rows (sym front));
+        record-is = rw (ek, er) (w .record-is);
+      };
+      cleared = ap (drop (length t - 6)) cleared ∙ drop-at (take j t₁) (replicate (length t₁ - j) 0) (length t - 6) (len ∙ is-j) ∙ ap (λ m. replicate m 0) six;
+    }
+      where
+        ek : k .kept .0 ≡ a
+        ek = w .kept-is
 
-          six : length t₁ - j ≡ 6
-          six =
-              let c = g .table .count in
-              let h = g .table .stage .least in
-              let e = is-j in
-              omega arith
+        er : k .removed .0 ≡ b
+        er = w .removed-is
 
-          front : take (length t - 6) t₂ ≡ after a b t
-          front = ap (take (length t - 6)) cleared ∙ take-at (take j t₁) (replicate (length t₁ - j) 0) (length t - 6) (len ∙ is-j) ∙ moved
+        len : length (take j t₁) ≡ j
+        len = length-take-le j t₁ (omega arith)
+
+        is-j : j ≡ length t - 6
+        is-j =
+            let c = g .table .count in
+            let w : length T ≡ 2 + length (contract a b T) = two-fewer (g .corners) T (g .table .stage) a b (g .meets) in
+            let m = ap length moved in
+            let th = after-threes a b t in
+            let r : length (rows (after a b t)) ≡ length (contract a b T) = ap length (after-rows a b t) in
+            let q = len in
+            omega arith
+
+        six : length t₁ - j ≡ 6
+        six =
+            let c = g .table .count in
+            let h = g .table .stage .least in
+            let e = is-j in
+            omega arith
+
+        front : take (length t - 6) t₂ ≡ after a b t
+        front = ap (take (length t - 6)) cleared ∙ take-at (take j t₁) (replicate (length t₁ - j) 0) (length t - 6) (len ∙ is-j) ∙ moved

@@ -7,7 +7,7 @@ use Rattle.surface.specs.Rows.{Row, row, rows}
 use Rattle.surface.specs.Stage.{StageTable}
 use Rattle.surface.specs.Link.{Meets}
 use Rattle.surface.specs.Contract.{Stays}
-use Rattle.surface.specs.Record.{Replays}
+use Rattle.surface.specs.Record.{leaving, placed, Replays}
 use Rattle.record.specs.declared.Leaving.{Leaving}
 use Rattle.record.specs.declared.Record.{Record}
 use Rattle.record.specs.Layout.{meant}
@@ -37,6 +37,12 @@ pub record NextLeaving (a b : ℕ) (t : List ℕ) (i : ℕ) (r : Leaving) : Type
   pub stands : row (r .a .0) (r .b .0) (r .c .0) ≡ row-at t (r .place .0)
   pub leaves : ¬ Stays a b (row-at t (r .place .0))
   pub passed : (p : ℕ) → i ≤ p → p < r .place .0 → Stays a b (row-at t p)
+
+-- r is the record of contracting the edge from a up to b in t
+pub record Recorded (t : List ℕ) (a b : ℕ) (r : Record) : Type 0 where
+  pub kept-is : r .kept .0 ≡ a
+  pub removed-is : r .removed .0 ≡ b
+  pub record-is : leaving a b (rows t) ≡ placed (meant r)
 
 -- the step of the edge from a up to b, from t to t′ with the record r: its table in front, zeros for the two rows that left
 pub record Stepped (t : List ℕ) (a b : ℕ) (r : Record) (t′ : List ℕ) : Type 0 where

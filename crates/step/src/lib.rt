@@ -10,7 +10,8 @@ ghost use lib.ListN.{length, take, replicate};
 ghost use lib.Seq.{sets};
 ghost use Rattle.surface.specs.Limits.{most-rows};
 ghost use Rattle.step.specs.Flat.{has, swap, leaves, after, Moved};
-ghost use Rattle.step.specs.Step.{Ready, NextLeaving, SomeLeaves, Stepped};
+ghost use Rattle.step.specs.Step.{Ready, NextLeaving, SomeLeaves, Recorded, Stepped};
+ghost use Rattle.step.specs.Front.{front, SteppedFront};
 
 // Whether a row holds a number.
 fn holds(a: u32, x: u32, y: u32, z: u32) -> bool
@@ -81,8 +82,8 @@ fn move_up(t: &mut [u32], a: u32, b: u32) -> usize
     j
 }
 
-// Inner: zeros from place i to the end.
-pub fn clear(t: &mut [u32], i: usize)
+// Zeros from place i to the end.
+fn clear(t: &mut [u32], i: usize)
     requires { ⌜ i ≤ length (now t) ⌝ }
     ensures { λ _. ⌜ now (t .exit) ≡ take i (now (t .entry)) ++ replicate (length (now (t .entry)) - i) 0 ⌝ }
 {
@@ -112,19 +113,38 @@ fn next_leaving(t: &[u32], from: Place, a: u32, b: u32) -> Leaving
     }
 }
 
-// Inner: contracts the edge in place, and tells its record.
-pub fn contract(t: &mut [u32], kept: Corner, removed: Corner) -> Record
+// Inner: the record of contracting the edge; nothing is written.
+pub fn record_of(t: &[u32], kept: Corner, removed: Corner) -> Record
     requires { ⌜ Ready (now t) (kept .0) (removed .0) ⌝ }
-    ensures { λ r. ⌜ Stepped (now (t .entry)) (kept .0) (removed .0) r (now (t .exit)) ⌝ }
+    ensures { λ r. ⌜ Recorded (now (t .entry)) (kept .0) (removed .0) r ⌝ }
 {
     let earlier = next_leaving(t, Place(0), kept.0, removed.0);
     let later = next_leaving(t, Place(earlier.place.0 + 1), kept.0, removed.0);
-    let j = move_up(t, kept.0, removed.0);
-    clear(t, j);
     Record {
         kept: kept,
         removed: removed,
         earlier: earlier,
         later: later,
     }
+}
+
+// Contracts the edge in place, and tells its record.
+fn contract(t: &mut [u32], kept: Corner, removed: Corner) -> Record
+    requires { ⌜ Ready (now t) (kept .0) (removed .0) ⌝ }
+    ensures { λ r. ⌜ Stepped (now (t .entry)) (kept .0) (removed .0) r (now (t .exit)) ⌝ }
+{
+    let r = record_of(t, kept, removed);
+    let j = move_up(t, kept.0, removed.0);
+    clear(t, j);
+    r
+}
+
+// Inner: the step on the first rows of a lent table.
+pub fn contract_front(table: &mut [u32], rows: usize, kept: Corner, removed: Corner) -> Record
+    requires { ⌜ 3 * rows ≤ length (now table) ⌝ }
+    requires { ⌜ Ready (front rows (now table)) (kept .0) (removed .0) ⌝ }
+    ensures { λ k. ⌜ SteppedFront (now (table .entry)) rows (kept .0) (removed .0) k (now (table .exit)) ⌝ }
+{
+    let end = 3 * rows;
+    contract(&mut table[..end], kept, removed)
 }

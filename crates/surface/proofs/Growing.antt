@@ -173,7 +173,7 @@ leaving-in a b (z ∷ T) {r} m k = go (stays? a b z) (λ m. leaving-in a b T m k
     go (yes h) rec (inr m) = (suc ((rec m) .0), Memᴰ·map later ((rec m) .1))
     go (no h) rec (inr m) = (suc ((rec m) .0), List·Memᴰ·tail (Memᴰ·map later ((rec m) .1)))
 
-at-row : {i j : ℕ} {r z : Row} → at i r ≡ at j z → r ≡ z
+pub at-row : {i j : ℕ} {r z : Row} → at i r ≡ at j z → r ≡ z
 at-row e = cc
 
 pub leaving-out : (a b : ℕ) (T : List Row) {i : ℕ} {r : Row} → at i r ∈ leaving a b T → (r ∈ T) × (¬ Stays a b r)

@@ -22,11 +22,8 @@ use Rattle.surface.proofs.Linked.{opposite}
 use Rattle.surface.proofs.Counted.{used-old}
 use Rattle.surface.proofs.Accepting.{accepted-one}
 use Rattle.surface.proofs.Stepped.{contraction}
-use Rattle.surface.proofs.Growing.{grown, leaving-in}
+use Rattle.surface.proofs.Growing.{grown, leaving-in, at-row}
 use Rattle.surface.proofs.TwoPlaces.{Two, two-places}
-
-at-row : {i j : ℕ} {r z : Row} → at i r ≡ at j z → r ≡ z
-at-row e = cc
 
 -- a step that writes the record k
 module _ (n : ℕ) (T : List Row) (k : Record) (s : Stage n T) (m : Meets T (k .kept) (k .removed)) (is : leaving (k .kept) (k .removed) T ≡ placed k) where

@@ -11,6 +11,7 @@ use Rattle.refusal.specs.declared.Refusal.the-variants.{LimitUnusable, CountsOu
 use Rattle.refusal.specs.declared.Verdict.{Verdict}
 use Rattle.refusal.specs.declared.Verdict.the-variants.{Passes, Refused}
 use Rattle.refusal.specs.First.{First}
+use Rattle.refusal.proofs.Laws.{refused-passes}
 use Rattle.least.specs.declared.Bound.{Bound}
 use Rattle.faults.specs.Counts.{CountsFitAt}
 use Rattle.faults.specs.Order.{CheckedFirst}
@@ -19,12 +20,8 @@ use Rattle.thin.specs.declared.Asked.{Asked}
 use Rattle.thin.specs.declared.Asked.the-variants.{Under, NoUse}
 use Rattle.thin.specs.Thin.{need, thin-lines, Judged}
 
--- a refusal passes nothing
-not-passed : {X : Type 0} {r : Refusal} → Refused r ≡ Passes → X
-not-passed e = let z : _≡_ {A = ℕ} 0 1 = cc in absurd (omega arith)
-
 refused : {a : Asked} {xs : List ℤ} {t : List ℕ} {room : ℕ} {r : Refusal} → First (thin-lines a xs t room) (Refused r) → Judged a xs t room (Refused r)
-refused f = record { holds = f; fits = λ e. not-passed e; skin = λ e. not-passed e; usable = λ e. not-passed e; room-enough = λ e. not-passed e }
+refused f = record { holds = f; fits = λ e. refused-passes e; skin = λ e. refused-passes e; usable = λ e. refused-passes e; room-enough = λ e. refused-passes e }
 
 module _ (a : Asked) (xs : List ℤ) (t : List ℕ) (room : ℕ) where
   pub judge-1 : a ≡ NoUse → Judged a xs t room (Refused LimitUnusable)

@@ -19,7 +19,7 @@ use Rattle.refusal.specs.declared.Verdict.the-variants.{Passes}
 use Rattle.refusal.specs.declared.Verdict.the-variants as verdict
 use Rattle.refusal.specs.First.{First}
 use Rattle.refusal.specs.Told as answers
-use Rattle.refusal.proofs.Laws.{first-one}
+use Rattle.refusal.proofs.Laws.{first-one, refused-one, refused-passes}
 use Rattle.verdicts.proofs.Laws.{first-before}
 use Rattle.faults.specs.Counts.{CountsFitAt, corners}
 use Rattle.faults.specs.Order.{lines-after-counts}
@@ -42,17 +42,11 @@ use Rattle.thin.specs.Thin.{need, thin-lines, ThinnedAs, refused, done}
 under-one : {b c : Bound} → Under b ≡ Under c → b ≡ c
 under-one e = cc
 
-refused-one : {r s : Refusal} → verdict.Refused r ≡ verdict.Refused s → r ≡ s
-refused-one e = cc
-
-passes-refused : {X : Type 0} {r : Refusal} → Passes ≡ verdict.Refused r → X
-passes-refused e = let z : _≡_ {A = ℕ} 0 1 = cc in absurd (omega arith)
-
 -- no second outcome satisfies the same words
 pub thinned-one : {k : Asked} {xs : List ℤ} {t l : List ℕ} {a a₂ : Thinning} {t′ t₂ l′ l₂ : List ℕ} → ThinnedAs k xs t l a t′ l′ → ThinnedAs k xs t l a₂ t₂ l₂ → (a ≡ a₂) × (t′ ≡ t₂) × (l′ ≡ l₂)
 thinned-one (refused f ea et el) (refused f₂ ea₂ et₂ el₂) = (ea ∙ ap Refused (refused-one (first-one _ f f₂)) ∙ sym ea₂, et ∙ sym et₂, el ∙ sym el₂)
-thinned-one (refused f ea et el) (done f₂ _ _ _ _ _) = passes-refused (first-one _ f₂ f)
-thinned-one (done f _ _ _ _ _) (refused f₂ ea et el) = passes-refused (first-one _ f f₂)
+thinned-one (refused f ea et el) (done f₂ _ _ _ _ _) = refused-passes (first-one _ f f₂)
+thinned-one (done f _ _ _ _ _) (refused f₂ ea et el) = refused-passes (first-one _ f₂ f)
 thinned-one {xs = xs} {t = t} {l = l} (done {b = b} f eb r ea et el) (done {b = c} f₂ ec r₂ ea₂ et₂ el₂) =
     let e = under-one (sym eb ∙ ec) in
     let k = run-one (rw e at r) r₂ in
@@ -64,7 +58,7 @@ thinned-one {xs = xs} {t = t} {l = l} (done {b = b} f eb r ea et el) (done {b = 
     )
 
 -- what is refused is not done
-done-refused : {X : Type 0} {k : ℕ} {r : Refusal} → Done k ≡ Refused r → X
+pub done-refused : {X : Type 0} {k : ℕ} {r : Refusal} → Done k ≡ Refused r → X
 done-refused e = let z : _≡_ {A = ℕ} 0 1 = cc in absurd (omega arith)
 
 -- a skin with room and a usable limit or none passes
@@ -81,7 +75,7 @@ thin-passes {a} {xs} t {room} u threes s h = unfold thin-lines in
 -- with room and a usable limit or none, every skin is accepted
 pub accepted : {a : Asked} {xs : List ℤ} {t l : List ℕ} {r : Thinning} {t′ l′ : List ℕ} → ¬ (a ≡ NoUse) → length t % 3 ≡ 0 → Skin (corners xs) (rows t) xs → need xs ≤ length l →
     ThinnedAs a xs t l r t′ l′ → (k : ℕ) × (r ≡ Done k)
-accepted u threes s room (refused f er et el) = passes-refused (first-one _ (thin-passes _ u threes s room) f)
+accepted u threes s room (refused f er et el) = refused-passes (first-one _ f (thin-passes _ u threes s room))
 accepted u threes s room (done {log = log} f eb r er et el) = (length log, er)
 
 -- what was thinned: the run, each of whose records is the least edge that qualifies, and that ends where none does; its last stage stands in
@@ -96,7 +90,7 @@ pub record RunOf (a : Asked) (xs : List ℤ) (t l : List ℕ) (k : ℕ) (t′ l�
   pub table : t′ ≡ flat last ++ replicate (length t - length (flat last)) 0
   pub logged : l′ ≡ log-of log ++ drop (width * length log) l
 
-done-count : {k m : ℕ} → Done k ≡ Done m → k ≡ m
+pub done-count : {k m : ℕ} → Done k ≡ Done m → k ≡ m
 done-count e = cc
 
 pub thinned-run : {a : Asked} {xs : List ℤ} {t l : List ℕ} {k : ℕ} {t′ l′ : List ℕ} → ThinnedAs a xs t l (Done k) t′ l′ → RunOf a xs t l k t′ l′

@@ -11,6 +11,7 @@ use Rattle.refusal.specs.declared.Verdict.{Verdict}
 use Rattle.refusal.specs.declared.Verdict.the-variants.{Passes, Refused}
 use Rattle.refusal.specs.Number.{number}
 use Rattle.refusal.specs.First.{Clause, First}
+use Rattle.refusal.proofs.Laws.{refused-passes}
 use Rattle.verdicts.specs.Lesser.{lesser-of, either, Rising}
 
 -- a line that does not hold may go from the front
@@ -32,19 +33,16 @@ pub lesser-right : (a b : Refusal) → number b < number a → lesser-of (Refuse
 unfolding lesser-of
 lesser-right a b h = rw (lt-ltb (number b) (number a) h)
 
-refused-passes : {a : Refusal} {v : Verdict} → v ≡ Refused a → v ≡ Passes → ⊥
-refused-passes p q = let z : _≡_ {A = ℕ} 0 1 = cc in omega arith
-
 -- passing both is passing
 pub lesser-passes : (v w : Verdict) → lesser-of v w ≡ Passes → (v ≡ Passes) × (w ≡ Passes)
 unfolding lesser-of
 lesser-passes Passes w e = (refl, e)
-lesser-passes (Refused a) Passes e = absurd (refused-passes refl e)
+lesser-passes (Refused a) Passes e = refused-passes e
 lesser-passes (Refused a) (Refused b) e = go (decLt (number b) (number a))
   where
     go : Dec (number b < number a) → (Refused a ≡ Passes) × (Refused b ≡ Passes)
-    go (yes h) = absurd (refused-passes (lesser-right a b h) e)
-    go (no h) = absurd (refused-passes (lesser-left a b (omega arith)) e)
+    go (yes h) = refused-passes (sym (lesser-right a b h) ∙ e)
+    go (no h) = refused-passes (sym (lesser-left a b (omega arith)) ∙ e)
 
 -- v passes, or its number is above k
 data Above (k : ℕ) (v : Verdict) : Type 0 where

@@ -2,7 +2,8 @@
 use mathlib.Core.Path.{_≡_, refl, sym, _∙_, ap}
 use borrow.Author.Tests.{not-true, not-false}
 use Rattle.record.specs.Layout.{meant}
-use Rattle.accept.proofs.Notes.{stage-whole, stage-under, under-more}
+use Rattle.slots.proofs.Slots.{under-more}
+use Rattle.slots.proofs.Staged.{table-whole, table-under}
 use Rattle.accept.proofs.Rule.{out-of-bounds, removed-used, no-such-rows, not-two-near, all-holds}
 use native.Mathlib.Omega.{arith}
 use borrow.Author.Needs.{needs}
@@ -12,7 +13,7 @@ use Rattle.accept.proofs.accepts.Tie as tie
 note-round-requires : tie.Need-note-round-requires
 note-round-requires c κs =
     let pre = c .before .before .before .before .before .pre in
-    (stage-whole (pre .0), (under-more (pre .1 .0) (stage-under (pre .0)), pre .1 .1))
+    (table-whole (pre .0), (under-more (table-under (pre .0)) (pre .1 .0), pre .1 .1))
 
 in-bounds-requires : tie.Need-in-bounds-requires
 in-bounds-requires c κs = search needs

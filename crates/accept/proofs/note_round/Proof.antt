@@ -4,7 +4,7 @@ use Prim.Native.Nat.{ℕ, _-_, _≤_, _<_}
 use lib.ListN.{length, getD}
 use Rattle.slots.specs.Slot.{Under}
 use Rattle.accept.specs.Noted.{NotedTo}
-use Rattle.accept.proofs.Notes.{note-none, note-end, under-more}
+use Rattle.accept.proofs.Notes.{note-none, note-end}
 use native.Mathlib.Omega.{arith}
 use borrow.Author.Needs.{needs}
 use Rattle.accept.proofs.note_round.Statement.{statement}

@@ -4,8 +4,8 @@ use Prim.Native.Nat.{ℕ, _+_, _-_, _*_, _≤_}
 use lib.ListN.{length}
 use lib.Seq.{length-take-le}
 use Rattle.least.specs.Limited.{Allowed, Measurable}
-use Rattle.engine.specs.Engine.{front, Ready, WentOn}
-use Rattle.engine.proofs.Going.{Going, go-start, go-on, go-end, room-left, rows-four}
+use Rattle.step.proofs.Front.{rows-four}
+use Rattle.engine.proofs.Going.{Going, go-start, go-on, go-end, room-left}
 use native.Mathlib.Omega.{arith}
 use borrow.Author.Needs.{needs}
 use Rattle.engine.proofs.go_on.Statement.{statement}
@@ -27,10 +27,10 @@ slice-reshare-prefix-next-edge : tie.Need-slice-reshare-prefix-next-edge Inv-loo
 slice-reshare-prefix-next-edge c = search needs
 
 slice-aggregate-next-edge : tie.Need-slice-aggregate-next-edge Inv-loop μ-loop
-slice-aggregate-next-edge c = sym (length-take-le _ _ (c .before .loop .inv .inside))
+slice-aggregate-next-edge c = sym (length-take-le _ _ (c .before .loop .inv .fallen .inside))
 
 next-edge-requires : tie.Need-next-edge-requires Inv-loop μ-loop
-next-edge-requires c κs = (c .before .loop .inv .table, c .before .before .before .before .pre .1)
+next-edge-requires c κs = (c .before .loop .inv .fallen .table, c .before .before .before .before .pre .1)
 
 enum-told : tie.Need-enum-told Inv-loop μ-loop
 enum-told c = search needs
@@ -47,9 +47,9 @@ returns c = go-end (c .before .before .before .before .loop .table) (c .before .
 enum-known-found : tie.Need-enum-known-found Inv-loop μ-loop
 enum-known-found c = search needs
 
-step-in-requires : tie.Need-step-in-requires Inv-loop μ-loop
-step-in-requires c κs = let w = (rw (c .before .before .found .given .1) at (c .before .before .before .before .next-edge .ensures)) in
-    (c .before .before .before .before .before .before .loop .inv .inside, record { corners = c .before .before .before .before .before .before .before .before .before .args .n; table = c .before .before .before .before .before .before .loop .inv .table; rises = w .does .rises; meets = w .does .meets })
+contract-front-requires : tie.Need-contract-front-requires Inv-loop μ-loop
+contract-front-requires c κs = let w = (rw (c .before .before .found .given .1) at (c .before .before .before .before .next-edge .ensures)) in
+    (c .before .before .before .before .before .before .loop .inv .fallen .inside, record { corners = c .before .before .before .before .before .before .before .before .before .args .n; table = c .before .before .before .before .before .before .loop .inv .fallen .table; rises = w .does .rises; meets = w .does .meets })
 
 mul-write-record : tie.Need-mul-write-record Inv-loop μ-loop
 mul-write-record c = omega (arith, room-left (c .before .before .before .before .before .before .before .before .before .before .loop .table) (c .before .before .before .before .before .before .before .before .before .before .loop .log) (c .before .before .before .before .before .before .before .before .before .before .loop .r) (c .before .before .before .before .before .before .before .before .before .before .loop .k) (c .before .before .before .before .before .before .before .before .before .before .loop .inv) (rw (c .before .before .before .before .before .before .found .given .1) at (c .before .before .before .before .before .before .before .before .next-edge .ensures)), c .before .before .before .before .before .before .before .before .before .before .loop .inv .same-log, c .before .before .before .before .before .before .before .before .before .before .before .before .before .good .1 .1 .1 .1 .1 .0 .0)
@@ -58,16 +58,16 @@ write-record-requires : tie.Need-write-record-requires Inv-loop μ-loop
 write-record-requires c κs = room-left (c .before .before .before .before .before .before .before .before .before .before .loop .table) (c .before .before .before .before .before .before .before .before .before .before .loop .log) (c .before .before .before .before .before .before .before .before .before .before .loop .r) (c .before .before .before .before .before .before .before .before .before .before .loop .k) (c .before .before .before .before .before .before .before .before .before .before .loop .inv) (rw (c .before .before .before .before .before .before .found .given .1) at (c .before .before .before .before .before .before .before .before .next-edge .ensures))
 
 sub-r : tie.Need-sub-r Inv-loop μ-loop
-sub-r c = omega (arith, rows-four (c .before .before .before .before .before .before .before .before .before .before .before .before .before .loop .table) (c .before .before .before .before .before .before .before .before .before .before .before .before .before .loop .log) (c .before .before .before .before .before .before .before .before .before .before .before .before .before .loop .r) (c .before .before .before .before .before .before .before .before .before .before .before .before .before .loop .k) (c .before .before .before .before .before .before .before .before .before .before .before .before .before .loop .inv))
+sub-r c = omega (arith, rows-four (c .before .before .before .before .before .before .before .before .before .before .before .before .before .loop .table) (c .before .before .before .before .before .before .before .before .before .before .before .before .before .loop .r) (c .before .before .before .before .before .before .before .before .before .before .before .before .before .loop .inv .fallen))
 
 add-k : tie.Need-add-k Inv-loop μ-loop
 add-k c = omega (arith, room-left (c .before .before .before .before .before .before .before .before .before .before .before .before .before .loop .table) (c .before .before .before .before .before .before .before .before .before .before .before .before .before .loop .log) (c .before .before .before .before .before .before .before .before .before .before .before .before .before .loop .r) (c .before .before .before .before .before .before .before .before .before .before .before .before .before .loop .k) (c .before .before .before .before .before .before .before .before .before .before .before .before .before .loop .inv) (rw (c .before .before .before .before .before .before .before .before .before .found .given .1) at (c .before .before .before .before .before .before .before .before .before .before .before .next-edge .ensures)), c .before .before .before .before .before .before .before .before .before .before .before .before .before .loop .inv .same-log, c .before .before .before .before .before .before .before .before .before .before .before .before .before .before .before .before .good .1 .1 .1 .1 .1 .0 .0)
 
 loop-less : tie.Need-loop-less Inv-loop μ-loop
-loop-less c = omega (arith, rows-four (c .before .before .before .before .before .before .before .before .before .before .before .before .before .loop .table) (c .before .before .before .before .before .before .before .before .before .before .before .before .before .loop .log) (c .before .before .before .before .before .before .before .before .before .before .before .before .before .loop .r) (c .before .before .before .before .before .before .before .before .before .before .before .before .before .loop .k) (c .before .before .before .before .before .before .before .before .before .before .before .before .before .loop .inv))
+loop-less c = omega (arith, rows-four (c .before .before .before .before .before .before .before .before .before .before .before .before .before .loop .table) (c .before .before .before .before .before .before .before .before .before .before .before .before .before .loop .r) (c .before .before .before .before .before .before .before .before .before .before .before .before .before .loop .inv .fallen))
 
 loop-again : tie.Need-loop-again Inv-loop μ-loop
-loop-again c = go-on (c .before .before .before .before .before .before .before .before .before .before .before .before .before .loop .table) (c .before .before .before .before .before .before .before .before .before .before .before .before .before .loop .log) (c .before .before .before .before .before .before .before .before .before .before .before .before .before .loop .r) (c .before .before .before .before .before .before .before .before .before .before .before .before .before .loop .k) (c .before .before .before .before .before .before .before .before .before .before .before .before .before .loop .inv) _ _ _ (rw (c .before .before .before .before .before .before .before .before .before .found .given .1) at (c .before .before .before .before .before .before .before .before .before .before .before .next-edge .ensures)) (c .before .before .before .before .before .before .step-in .ensures) (c .before .before .before .before .before .table .given) (c .before .before .write-record .ensures)
+loop-again c = go-on (c .before .before .before .before .before .before .before .before .before .before .before .before .before .loop .table) (c .before .before .before .before .before .before .before .before .before .before .before .before .before .loop .log) (c .before .before .before .before .before .before .before .before .before .before .before .before .before .loop .r) (c .before .before .before .before .before .before .before .before .before .before .before .before .before .loop .k) (c .before .before .before .before .before .before .before .before .before .before .before .before .before .loop .inv) _ _ _ (rw (c .before .before .before .before .before .before .before .before .before .found .given .1) at (c .before .before .before .before .before .before .before .before .before .before .before .next-edge .ensures)) (c .before .before .before .before .before .before .contract-front .ensures) (c .before .before .before .before .before .table .given) (c .before .before .write-record .ensures)
 
 pub go-on-spec : {M : Type 1} → statement M
 go-on-spec =
@@ -85,7 +85,7 @@ go-on-spec =
     same-length-2
     returns
     enum-known-found
-    step-in-requires
+    contract-front-requires
     mul-write-record
     write-record-requires
     sub-r

@@ -1,7 +1,8 @@
 -- The chains are those of a stage, so the search may be asked.
 use Rattle.surface.specs.Limits.{most-corners}
 use Rattle.slots.proofs.Marks.{no-mark}
-use Rattle.engine.proofs.Charts.{table-under, table-slots}
+use Rattle.slots.proofs.Slots.{under-more}
+use Rattle.slots.proofs.Staged.{table-whole, table-under}
 use native.Mathlib.Omega.{arith}
 use borrow.Author.Needs.{needs}
 use Rattle.engine.proofs.next_edge.Statement.{statement}
@@ -14,7 +15,7 @@ slice-aggregate-chains-2 : tie.Need-slice-aggregate-chains-2
 slice-aggregate-chains-2 c = search needs
 
 chains-requires : tie.Need-chains-requires
-chains-requires c κs = (table-under (c .before .before .before .pre .0), (table-slots (c .before .before .before .pre .0), record { blank = λ k. no-mark most-corners k }))
+chains-requires c κs = (under-more (table-under (c .before .before .before .pre .0)) (c .before .before .before .pre .0 .stage .many), (table-whole (c .before .before .before .pre .0) .most, record { blank = λ k. no-mark most-corners k }))
 
 slice-aggregate-least-edge : tie.Need-slice-aggregate-least-edge
 slice-aggregate-least-edge c = search needs

@@ -5,7 +5,7 @@ use lib.ListN.{length, getD, set, length-set}
 use Rattle.surface.specs.Rows.{rows}
 use Rattle.surface.proofs.Walked.{fan}
 use Rattle.slots.specs.Slot.{next-slot}
-use Rattle.accept.proofs.Notes.{stage-whole}
+use Rattle.slots.proofs.Staged.{table-whole}
 use Rattle.grow.proofs.Walking.{Walking, walk-start, walk-more, walk-less, walk-end, noted, slot, slot-inside, beside-inside, after-inside, after-there}
 use native.Mathlib.Omega.{arith}
 use borrow.Author.Needs.{needs}
@@ -57,7 +57,7 @@ mul-t c =
     let args = c .before .before .before .before .before .before .args in
     let pre = c .before .before .before .before .before .before .pre in
     let loop = c .before .before .before .loop in
-    omega (arith, slot-inside (args .t .now) (args .at .now) (args .r .kept .0) (args .r .removed .0) (args .x .0) (args .y .0) (pre) (loop .t) (loop .p) (loop .inv), stage-whole (pre .table) .most)
+    omega (arith, slot-inside (args .t .now) (args .at .now) (args .r .kept .0) (args .r .removed .0) (args .x .0) (args .y .0) (pre) (loop .t) (loop .p) (loop .inv), table-whole (pre .table) .most)
 
 slice-write-t : tie.Need-slice-write-t Inv-loop μ-loop
 slice-write-t c =
@@ -71,7 +71,7 @@ next-requires c κs =
     let args = c .before .before .before .before .before .before .args in
     let pre = c .before .before .before .before .before .before .pre in
     let loop = c .before .before .before .loop in
-    omega (arith, slot-inside (args .t .now) (args .at .now) (args .r .kept .0) (args .r .removed .0) (args .x .0) (args .y .0) (pre) (loop .t) (loop .p) (loop .inv), stage-whole (pre .table) .most)
+    omega (arith, slot-inside (args .t .now) (args .at .now) (args .r .kept .0) (args .r .removed .0) (args .x .0) (args .y .0) (pre) (loop .t) (loop .p) (loop .inv), table-whole (pre .table) .most)
 
 next-requires-2 : tie.Need-next-requires-2 Inv-loop μ-loop
 next-requires-2 c κs =
@@ -79,7 +79,7 @@ next-requires-2 c κs =
     let args = c .before .before .before .before .before .before .before .args in
     let pre = c .before .before .before .before .before .before .before .pre in
     let loop = c .before .before .before .before .loop in
-    rw (next .ensures) (omega (arith, beside-inside (args .t .now) (args .at .now) (args .r .kept .0) (args .r .removed .0) (args .x .0) (args .y .0) (pre) (loop .t) (loop .p) (loop .inv), stage-whole (pre .table) .most))
+    rw (next .ensures) (omega (arith, beside-inside (args .t .now) (args .at .now) (args .r .kept .0) (args .r .removed .0) (args .x .0) (args .y .0) (pre) (loop .t) (loop .p) (loop .inv), table-whole (pre .table) .most))
 
 mul-p : tie.Need-mul-p Inv-loop μ-loop
 mul-p c =
@@ -88,7 +88,7 @@ mul-p c =
     let args = c .before .before .before .before .before .before .before .before .args in
     let pre = c .before .before .before .before .before .before .before .before .pre in
     let loop = c .before .before .before .before .before .loop in
-    omega (arith, next2 .ensures ∙ ap next-slot (next .ensures), after-inside (args .t .now) (args .at .now) (args .r .kept .0) (args .r .removed .0) (args .x .0) (args .y .0) (pre) (loop .t) (loop .p) (loop .inv), stage-whole (pre .table) .most)
+    omega (arith, next2 .ensures ∙ ap next-slot (next .ensures), after-inside (args .t .now) (args .at .now) (args .r .kept .0) (args .r .removed .0) (args .x .0) (args .y .0) (pre) (loop .t) (loop .p) (loop .inv), table-whole (pre .table) .most)
 
 slice-read-p : tie.Need-slice-read-p Inv-loop μ-loop
 slice-read-p c =

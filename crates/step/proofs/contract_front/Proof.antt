@@ -1,11 +1,11 @@
 -- The step on the front; what lies past it is not lent.
 use mathlib.Core.Path.{sym}
 use lib.Seq.{length-take-le}
-use Rattle.engine.proofs.Stepping.{step-in}
+use Rattle.step.proofs.Front.{step-in}
 use native.Mathlib.Omega.{arith}
 use borrow.Author.Needs.{needs}
-use Rattle.engine.proofs.step_in.Statement.{statement}
-use Rattle.engine.proofs.step_in.Tie as tie
+use Rattle.step.proofs.contract_front.Statement.{statement}
+use Rattle.step.proofs.contract_front.Tie as tie
 
 mul-end : tie.Need-mul-end
 mul-end c = search needs
@@ -25,8 +25,8 @@ same-length c = search needs
 returns : tie.Need-returns
 returns c = step-in (c .before .before .before .before .before .args .table .now) (c .before .before .before .before .before .args .rows) _ _ (c .before .before .contract .result) (c .before .before .contract .last .0) (c .before .before .before .before .before .pre .0) (c .before .table .given .0) (c .before .before .contract .ensures)
 
-pub step-in-spec : {M : Type 1} → statement M
-step-in-spec =
+pub contract-front-spec : {M : Type 1} → statement M
+contract-front-spec =
     tie.close
     (tie.spec
     mul-end

@@ -1,0 +1,99 @@
+-- `accepts` meets its contract, test by test.
+use mathlib.Core.Path.{_≡_, refl}
+use borrow.Author.Tests.{not-true, not-false}
+use Rattle.faults.proofs.Tells.{tells-false}
+use Rattle.replay.proofs.Accepting.{not-lower, not-below, accepted, same-earlier, same-later}
+use native.Mathlib.Omega.{arith}
+use borrow.Author.Needs.{needs}
+use Rattle.replay.proofs.accepts.Statement.{statement}
+use Rattle.replay.proofs.accepts.Tie as tie
+
+returns : tie.Need-returns
+returns c =
+    let args = c .before .before .before .args in
+    let if1 = c .if1 in
+    tells-false (not-lower (args .t .now) (args .r) (if1 .taken))
+
+cast-if2 : tie.Need-cast-if2
+cast-if2 c = search needs
+
+returns-2 : tie.Need-returns-2
+returns-2 c =
+    let args = c .before .before .before .before .before .args in
+    let pre = c .before .before .before .before .before .pre in
+    let if2 = c .if2 in
+    tells-false (not-below (args .t .now) (args .r) pre (if2 .taken))
+
+meets-requires : tie.Need-meets-requires
+meets-requires c κs =
+    let pre = c .before .before .before .before .before .pre in
+    let if1 = c .before .before .if1 in
+    let if2 = c .if2 in
+    (pre, (omega (arith, if1 .left, if2 .left), omega (arith, if2 .left)))
+
+returns-3 : tie.Need-returns-3
+returns-3 c =
+    let meets = c .before .meets in
+    let if3 = c .if3 in
+    tells-false (λ a. meets .ensures .when-false (not-true (meets .result) (if3 .taken)) (a .1 .meets))
+
+record-of-requires : tie.Need-record-of-requires
+record-of-requires c κs =
+    let args = c .before .before .before .before .before .before .before .args in
+    let pre = c .before .before .before .before .before .before .before .pre in
+    let if1 = c .before .before .before .before .if1 in
+    let meets = c .before .meets in
+    let if3 = c .if3 in
+    record { corners = args .n; table = pre; rises = omega (arith, if1 .left); meets = meets .ensures .when-true (not-false (meets .result) (if3 .left)) }
+
+same-leaving-requires : tie.Need-same-leaving-requires
+same-leaving-requires c κs = search needs
+
+returns-4 : tie.Need-returns-4
+returns-4 c =
+    let if1 = c .before .before .before .before .before .before .before .if1 in
+    let same-leaving = c .before .same-leaving in
+    let if4 = c .if4 in
+    let args = c .before .before .before .before .before .before .before .before .before .before .args in
+    let meets = c .before .before .before .before .meets in
+    let if3 = c .before .before .before .if3 in
+    let record-of = c .before .before .record-of in
+    let lower = if1 .left in
+    tells-false (λ a. same-leaving .ensures .when-false (not-true (same-leaving .result) (if4 .taken))
+    (same-earlier (args .t .now) (args .r) (omega arith) (meets .ensures .when-true (not-false (meets .result) (if3 .left))) (record-of .result) (record-of .ensures) a))
+
+same-leaving-requires-2 : tie.Need-same-leaving-requires-2
+same-leaving-requires-2 c κs = search needs
+
+returns-5 : tie.Need-returns-5
+returns-5 c =
+    let if1 = c .before .before .before .before .before .before .before .before .if1 in
+    let meets = c .before .before .before .before .before .meets in
+    let if3 = c .before .before .before .before .if3 in
+    let same-leaving = c .before .before .same-leaving in
+    let if4 = c .before .if4 in
+    let args = c .before .before .before .before .before .before .before .before .before .before .before .args in
+    let record-of = c .before .before .before .record-of in
+    let same-leaving2 = c .same-leaving2 in
+    let lower = if1 .left in
+    let may = meets .ensures .when-true (not-false (meets .result) (if3 .left)) in
+    let first = same-leaving .ensures .when-true (not-false (same-leaving .result) (if4 .left)) in
+    record {
+      when-true = λ e. accepted (args .t .now) (args .r) (omega arith) may (record-of .result) (record-of .ensures) first (same-leaving2 .ensures .when-true e);
+      when-false = λ e a. same-leaving2 .ensures .when-false e (same-later (args .t .now) (args .r) (omega arith) may (record-of .result) (record-of .ensures) a);
+    }
+
+pub accepts-spec : {M : Type 1} → statement M
+accepts-spec =
+    tie.close
+    (tie.spec
+    returns
+    cast-if2
+    returns-2
+    meets-requires
+    returns-3
+    record-of-requires
+    same-leaving-requires
+    returns-4
+    same-leaving-requires-2
+    returns-5)

@@ -1,0 +1,2 @@
+pub mod Redone
+pub mod Outcome
