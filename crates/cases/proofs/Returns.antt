@@ -58,7 +58,7 @@ six-log = 2 ∷ 3 ∷ 0 ∷ 2 ∷ 3 ∷ 1 ∷ 4 ∷ 3 ∷ 2 ∷ 5 ∷ 1 ∷ 5 �
 
 pub returns : Thinned cm-3 six-corners six (lent 20) (Done 2) six-last six-log
 unfolding edges rows flat log-of contract renumber replace stays? holds? ℕ-discrete leaving later limit-of reading capped ofBits squared-distance
-returns = done {b = Within 3} {log = r₁ ∷ r₂ ∷ []} {last = row 1 2 4 ∷ row 1 0 2 ∷ row 0 1 4 ∷ row 0 4 2 ∷ []} (thin-passes six (under-usable {b = Within 3} refl) refl six-skin (omega arith)) refl
+returns = done {b = Within 3} {log = r₁ ∷ r₂ ∷ []} {last = row 1 2 4 ∷ row 1 0 2 ∷ row 0 1 4 ∷ row 0 4 2 ∷ []} (thin-passes six (under-usable {b = Within 3} refl) refl six-skin (omega arith)) six-skin refl
     (limited 3 six-corners (run-sound (within 3 six-corners) (goes-on {k = r₁} tt refl (goes-on {k = r₂} tt refl (stays-at refl))) tt)) refl refl refl
 
 -- one that never returns to a lower corner does not keep 1 in its second record

@@ -85,11 +85,11 @@ O-end = row 0 3 4 ∷ row 5 3 0 ∷ row 5 4 3 ∷ row 5 0 4 ∷ []
 
 pub case-T : Holds (thins NoLimit T-corners T [] (Done 0) T [])
 unfolding edges rows flat log-of
-case-T = only NoLimit (done {b = Free} {log = []} {last = rows T} (thin-passes T (under-usable refl) refl T-skin (omega arith)) refl (free T-corners (run-sound any (stays-at refl) tt)) refl refl refl)
+case-T = only NoLimit (done {b = Free} {log = []} {last = rows T} (thin-passes T (under-usable refl) refl T-skin (omega arith)) T-skin refl (free T-corners (run-sound any (stays-at refl) tt)) refl refl refl)
 
 pub case-M : Holds (thins NoLimit M-corners M (lent 30) (Done 0) M (lent 30))
 unfolding edges rows flat log-of
-case-M = only NoLimit (done {b = Free} {log = []} {last = rows M} (thin-passes M (under-usable refl) refl M-skin (omega arith)) refl (free M-corners (run-sound any (stays-at refl) tt)) refl refl refl)
+case-M = only NoLimit (done {b = Free} {log = []} {last = rows M} (thin-passes M (under-usable refl) refl M-skin (omega arith)) M-skin refl (free M-corners (run-sound any (stays-at refl) tt)) refl refl refl)
 
 O-steps : (p : ℕ → ℕ → Bool) → So (least p 0 1 (rows O)) → So (least p 0 2 (contract 0 1 (rows O))) → Steps p (rows O) (k₁ ∷ k₂ ∷ []) O-end
 unfolding edges rows contract renumber replace stays? holds? ℕ-discrete leaving later
@@ -97,15 +97,15 @@ O-steps p h₁ h₂ = goes-on h₁ refl (goes-on h₂ refl (stays-at refl))
 
 pub case-O : Holds (thins NoLimit O-corners O (lent 20) (Done 2) O-last O-log)
 unfolding edges rows flat log-of contract renumber replace stays? holds? ℕ-discrete leaving later
-case-O = only NoLimit (done {b = Free} {log = k₁ ∷ k₂ ∷ []} {last = O-end} (thin-passes O (under-usable refl) refl O-skin (omega arith)) refl (free O-corners (run-sound any (O-steps any tt tt) tt)) refl refl refl)
+case-O = only NoLimit (done {b = Free} {log = k₁ ∷ k₂ ∷ []} {last = O-end} (thin-passes O (under-usable refl) refl O-skin (omega arith)) O-skin refl (free O-corners (run-sound any (O-steps any tt tt) tt)) refl refl refl)
 
 pub case-141 : Holds (thins cm-141 O-corners O (lent 20) (Done 0) O (lent 20))
 unfolding edges rows flat log-of limit-of reading capped ofBits squared-distance
-case-141 = only cm-141 (done {b = Within 141} {log = []} {last = rows O} (thin-passes O (under-usable {b = Within 141} refl) refl O-skin (omega arith)) refl (limited 141 O-corners (run-sound (within 141 O-corners) (stays-at refl) tt)) refl refl refl)
+case-141 = only cm-141 (done {b = Within 141} {log = []} {last = rows O} (thin-passes O (under-usable {b = Within 141} refl) refl O-skin (omega arith)) O-skin refl (limited 141 O-corners (run-sound (within 141 O-corners) (stays-at refl) tt)) refl refl refl)
 
 pub case-142 : Holds (thins cm-142 O-corners O (lent 20) (Done 2) O-last O-log)
 unfolding edges rows flat log-of contract renumber replace stays? holds? ℕ-discrete leaving later limit-of reading capped ofBits squared-distance
-case-142 = only cm-142 (done {b = Within 142} {log = k₁ ∷ k₂ ∷ []} {last = O-end} (thin-passes O (under-usable {b = Within 142} refl) refl O-skin (omega arith)) refl (limited 142 O-corners (run-sound (within 142 O-corners) (O-steps (within 142 O-corners) tt tt) tt)) refl refl refl)
+case-142 = only cm-142 (done {b = Within 142} {log = k₁ ∷ k₂ ∷ []} {last = O-end} (thin-passes O (under-usable {b = Within 142} refl) refl O-skin (omega arith)) O-skin refl (limited 142 O-corners (run-sound (within 142 O-corners) (O-steps (within 142 O-corners) tt tt) tt)) refl refl refl)
 
 -- T with a row turned over: the directed edge 0 to 2 is there twice
 turned-fit : So (every (row-fits 4) (rows T-turned))

@@ -1,1 +1,3 @@
+pub mod Logged
 pub mod Figures
+pub mod Back

@@ -1,10 +1,9 @@
 -- A step on the front of a lent table, and what many steps leave of it.
 use mathlib.Core.Path.{_≡_, refl, sym, _∙_, ap}
-use mathlib.Core.List.{List, [], _∷_, _++_, append-assoc}
-use Prim.Native.Nat.{ℕ, zero, suc, _+_, _-_, _*_, _≤_}
-use native.Mathlib.Nat.{zero-add, suc-add}
+use mathlib.Core.List.{List, _++_, append-assoc}
+use Prim.Native.Nat.{ℕ, _+_, _-_, _*_, _≤_}
 use native.Mathlib.Omega.{arith}
-use lib.ListN.{length, take, drop, replicate, take-append-drop}
+use lib.ListN.{length, take, drop, replicate, take-append-drop, replicate-append-replicate}
 use lib.Seq.{take-at, drop-at, take-take, length-take-le, drop-append-le}
 use Rattle.surface.specs.Rows.{Row, rows, flat}
 use Rattle.surface.specs.Stage.{Stage, StageTable}
@@ -20,10 +19,6 @@ pub step-in : (t : List ℕ) (r a b : ℕ) (k : Record) (p : List ℕ) → 3 * r
 step-in t r a b k p h same s =
     let n : length p ≡ 3 * r = same ∙ length-take-le (3 * r) t h in
     record { stepped = rw (take-at p (drop (3 * r) t) (3 * r) n) s; past = drop-at p (drop (3 * r) t) (3 * r) n }
-
-replicate-add : (m n : ℕ) → replicate {A = ℕ} m 0 ++ replicate n 0 ≡ replicate (m + n) 0
-replicate-add zero n = ap (λ k. replicate k 0) (sym (zero-add n))
-replicate-add (suc m) n = ap (λ l. 0 ∷ l) (replicate-add m n) ∙ ap (λ k. replicate k 0) (sym (suc-add m n))
 
 module _ {n : ℕ} {t₀ : List ℕ} {r₀ : ℕ} where
   -- before any step
@@ -71,7 +66,7 @@ module _ {n : ℕ} {t₀ : List ℕ} {r₀ : ℕ} where
           ∙ drop-append-le (3 * (r - 2)) (front r t′) (drop (3 * r) t′) (omega arith)
           ∙ (λ i. (ap (λ q. drop q (front r t′)) (sym short) ∙ w .stepped .cleared) i ++ (w .past ∙ g .rest) i)
           ∙ sym (append-assoc (replicate 6 0) (replicate (3 * (r₀ - r)) 0) (drop (3 * r₀) t₀))
-          ∙ ap (λ q. q ++ drop (3 * r₀) t₀) (replicate-add 6 (3 * (r₀ - r)) ∙ ap (λ q. replicate q 0) m)
+          ∙ ap (λ q. q ++ drop (3 * r₀) t₀) (replicate-append-replicate 6 (3 * (r₀ - r)) 0 ∙ ap (λ q. replicate q 0) m)
 
       -- one step more
       pub fallen-on : Fallen n t₀ r₀ t′ (r - 2)

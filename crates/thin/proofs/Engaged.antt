@@ -29,7 +29,8 @@ use Rattle.length.proofs.Laws.{limit-most}
 use Rattle.least.specs.declared.Bound.{Bound}
 use Rattle.least.specs.declared.Bound.the-variants.{Free, Within}
 use Rattle.least.specs.Limited.{Allowed, Measurable}
-use Rattle.engine.specs.Engine.{front, Ready, WentOn}
+use Rattle.step.specs.Front.{front}
+use Rattle.engine.specs.Engine.{Ready, WentOn}
 use Rattle.thin.specs.declared.Asked.{Asked}
 use Rattle.thin.specs.declared.Asked.the-variants.{Under, NoUse}
 use Rattle.thin.specs.declared.Thinning.{Thinning}
@@ -74,7 +75,7 @@ module _ (a : Asked) (xs : List ℤ) (t : List ℕ) (room : ℕ) (j : Judged a x
   -- the engine's outcome from 0 is the thinning's
   pub thin-done : (b : Bound) → a ≡ Under b → (l : List ℕ) → length l ≡ room → (k : ℕ) (t′ l′ : List ℕ) → WentOn (Allowed b xs) t (length t / 3) l 0 k t′ l′ → ThinnedAs a xs t l (Done k) t′ l′
   thin-done b e l h k t′ l′ w =
-      done (rw h (j .holds)) e (rw all at (w .run)) (ap Done count)
+      done (rw h (j .holds)) (j .skin refl) e (rw all at (w .run)) (ap Done count)
       (w .table ∙ (λ i. flat (w .last) ++ (replicate (whole i - length (flat (w .last))) 0 ++ rest i)) ∙ ap (λ q. flat (w .last) ++ q) (append-nil (replicate (length t - length (flat (w .last))) 0)))
       (w .logged ∙ ap (λ m. log-of (w .log) ++ drop (width * m) l) count)
     where

@@ -4,6 +4,7 @@ use mathlib.Core.Logic.{_⊎_, inl, inr}
 use mathlib.Core.List.{List, [], _∷_, _++_}
 use mathlib.Core.Bool.{true}
 use Prim.Native.Nat.{ℕ, _+_, _-_, _*_, _%_, _≤_, _<_}
+use native.Mathlib.Decide.{ℕ-discrete}
 use native.Mathlib.Omega.{arith}
 use lib.IntN.{ℤ, pos}
 use lib.ListN.{length, drop, replicate}
@@ -20,7 +21,7 @@ use Rattle.refusal.specs.declared.Verdict.the-variants as verdict
 use Rattle.refusal.specs.First.{First}
 use Rattle.refusal.specs.Told as answers
 use Rattle.refusal.proofs.Laws.{first-one, refused-one, refused-passes}
-use Rattle.verdicts.proofs.Laws.{first-before}
+use Rattle.verdicts.proofs.Laws.{first-before, passed}
 use Rattle.faults.specs.Counts.{CountsFitAt, corners}
 use Rattle.faults.specs.Order.{lines-after-counts}
 use Rattle.faults.proofs.Opposites.{stage-rows, stage-corners}
@@ -45,9 +46,9 @@ under-one e = cc
 -- no second outcome satisfies the same words
 pub thinned-one : {k : Asked} {xs : List ℤ} {t l : List ℕ} {a a₂ : Thinning} {t′ t₂ l′ l₂ : List ℕ} → ThinnedAs k xs t l a t′ l′ → ThinnedAs k xs t l a₂ t₂ l₂ → (a ≡ a₂) × (t′ ≡ t₂) × (l′ ≡ l₂)
 thinned-one (refused f ea et el) (refused f₂ ea₂ et₂ el₂) = (ea ∙ ap Refused (refused-one (first-one _ f f₂)) ∙ sym ea₂, et ∙ sym et₂, el ∙ sym el₂)
-thinned-one (refused f ea et el) (done f₂ _ _ _ _ _) = refused-passes (first-one _ f f₂)
-thinned-one (done f _ _ _ _ _) (refused f₂ ea et el) = refused-passes (first-one _ f₂ f)
-thinned-one {xs = xs} {t = t} {l = l} (done {b = b} f eb r ea et el) (done {b = c} f₂ ec r₂ ea₂ et₂ el₂) =
+thinned-one (refused f ea et el) (done f₂ _ _ _ _ _ _) = refused-passes (first-one _ f f₂)
+thinned-one (done f _ _ _ _ _ _) (refused f₂ ea et el) = refused-passes (first-one _ f₂ f)
+thinned-one {xs = xs} {t = t} {l = l} (done {b = b} f s eb r ea et el) (done {b = c} f₂ s₂ ec r₂ ea₂ et₂ el₂) =
     let e = under-one (sym eb ∙ ec) in
     let k = run-one (rw e at r) r₂ in
     let w = k .0 in
@@ -76,14 +77,25 @@ thin-passes {a} {xs} t {room} u threes s h = unfold thin-lines in
 pub accepted : {a : Asked} {xs : List ℤ} {t l : List ℕ} {r : Thinning} {t′ l′ : List ℕ} → ¬ (a ≡ NoUse) → length t % 3 ≡ 0 → Skin (corners xs) (rows t) xs → need xs ≤ length l →
     ThinnedAs a xs t l r t′ l′ → (k : ℕ) × (r ≡ Done k)
 accepted u threes s room (refused f er et el) = refused-passes (first-one _ f (thin-passes _ u threes s room))
-accepted u threes s room (done {log = log} f eb r er et el) = (length log, er)
+accepted u threes s room (done {log = log} f z eb r er et el) = (length log, er)
 
--- what was thinned: the run, each of whose records is the least edge that qualifies, and that ends where none does; its last stage stands in
+-- what passes is made of whole rows
+passes-whole : (a : Asked) (xs : List ℤ) (t : List ℕ) (room : ℕ) → First (thin-lines a xs t room) Passes → length t % 3 ≡ 0
+unfolding thin-lines
+passes-whole a xs t room f = go (passed _ _ (passed _ _ f .1) .0) (ℕ-discrete (length t % 3) 0)
+  where
+    go : ¬ ¬ CountsFitAt xs t → Dec (length t % 3 ≡ 0) → length t % 3 ≡ 0
+    go c (yes e) = e
+    go c (no n) = absurd (c (λ k. n (k .table .threes)))
+
+-- what was thinned: a skin, and the run, each of whose records is the least edge that qualifies, and that ends where none does; its last stage stands in
 -- the table, its records in the log
 pub record RunOf (a : Asked) (xs : List ℤ) (t l : List ℕ) (k : ℕ) (t′ l′ : List ℕ) : Type 0 where
   pub b : Bound
   pub log : List Record
   pub last : List Row
+  pub whole : length t % 3 ≡ 0
+  pub skin : Skin (corners xs) (rows t) xs
   pub under : a ≡ Under b
   pub run : Run (Allowed b xs) (rows t) log last
   pub count : k ≡ length log
@@ -95,8 +107,8 @@ done-count e = cc
 
 pub thinned-run : {a : Asked} {xs : List ℤ} {t l : List ℕ} {k : ℕ} {t′ l′ : List ℕ} → ThinnedAs a xs t l (Done k) t′ l′ → RunOf a xs t l k t′ l′
 thinned-run (refused f er et el) = done-refused er
-thinned-run (done {b = b} {log = log} {last = last} f eb r er et el) =
-    record { b = b; log = log; last = last; under = eb; run = r; count = done-count er; table = et; logged = el }
+thinned-run {a} {xs} {t} {l} (done {b = b} {log = log} {last = last} f s eb r er et el) =
+    record { b = b; log = log; last = last; whole = passes-whole a xs t (length l) f; skin = s; under = eb; run = r; count = done-count er; table = et; logged = el }
 
 -- after each beginning of the log a stage stands, of the same Euler number, with 2 k fewer rows and k fewer corners used
 pub record KeptAfter (n : ℕ) (T : List Row) (l : List Record) (T₁ : List Row) : Type 0 where
@@ -105,9 +117,10 @@ pub record KeptAfter (n : ℕ) (T : List Row) (l : List Record) (T₁ : List Row
   pub fewer-rows : length T ≡ length T₁ + 2 * length l
   pub fewer-corners : (v v′ : ℕ) → Exactly (Used T) v → Exactly (Used T₁) v′ → v ≡ v′ + length l
 
-pub thinned-kept : {a : Asked} {xs : List ℤ} {t l : List ℕ} {k n : ℕ} {t′ l′ : List ℕ} → Stage n (rows t) → (w : RunOf a xs t l k t′ l′) (p q : List Record) → w .log ≡ p ++ q →
-    (T₁ : List Row) × Taken (Allowed (w .b) xs) (rows t) p T₁ × KeptAfter n (rows t) p T₁
-thinned-kept s w p q e =
+pub thinned-kept : {a : Asked} {xs : List ℤ} {t l : List ℕ} {k : ℕ} {t′ l′ : List ℕ} (w : RunOf a xs t l k t′ l′) (p q : List Record) → w .log ≡ p ++ q →
+    (T₁ : List Row) × Taken (Allowed (w .b) xs) (rows t) p T₁ × KeptAfter (corners xs) (rows t) p T₁
+thinned-kept w p q e =
+    let s = w .skin .stage in
     let c = taken-cut p (rw e at (w .run .taken)) in
     let r = taken-replayed (c .1) in (
       c .0,
@@ -125,9 +138,9 @@ pub thin-told : {a : Asked} {xs : List ℤ} {t l : List ℕ} {r : Thinning} {t�
     ((e : Refusal) × First (thin-lines a xs t (length l)) (verdict.Refused e) × (told r ≡ answers.refused e))
     ⊎ (First (thin-lines a xs t (length l)) Passes × (k : ℕ) × (r ≡ Done k) × (told r ≡ answers.done (pos k ∷ [])))
 thin-told (refused {e = e} f er et el) = inl (e, f, ap told er)
-thin-told (done {log = log} f eb r er et el) = inr (f, length log, er, ap told er)
+thin-told (done {log = log} f s eb r er et el) = inr (f, length log, er, ap told er)
 
 -- a refused thinning changes nothing
 pub refused-same : {a : Asked} {xs : List ℤ} {t l : List ℕ} {r : Refusal} {t′ l′ : List ℕ} → ThinnedAs a xs t l (Refused r) t′ l′ → (t′ ≡ t) × (l′ ≡ l)
 refused-same (refused f er et el) = (et, el)
-refused-same (done f eb r er et el) = done-refused (sym er)
+refused-same (done f s eb r er et el) = done-refused (sym er)

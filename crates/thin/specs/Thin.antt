@@ -60,8 +60,8 @@ pub record Judged (a : Asked) (xs : List ℤ) (t : List ℕ) (room : ℕ) (v : V
 pub data ThinnedAs (a : Asked) (xs : List ℤ) (t l : List ℕ) (r : Thinning) (t′ l′ : List ℕ) : Type 0 where
   -- thinning refused leaves table and log untouched
   refused : {e : Refusal} → First (thin-lines a xs t (length l)) (verdict.Refused e) → r ≡ Refused e → t′ ≡ t → l′ ≡ l → ThinnedAs a xs t l r t′ l′
-  -- done, it leaves the last stage in front, zeros in the rest of the first table's length, and the log past its records untouched
-  done : {b : Bound} {log : List Record} {last : List Row} → First (thin-lines a xs t (length l)) Passes → a ≡ Under b →
+  -- done, the table was a skin, and it leaves the last stage in front, zeros in the rest of the first table's length, and the log past its records untouched
+  done : {b : Bound} {log : List Record} {last : List Row} → First (thin-lines a xs t (length l)) Passes → Skin (corners xs) (rows t) xs → a ≡ Under b →
       Run (Allowed b xs) (rows t) log last → r ≡ Done (length log) → t′ ≡ flat last ++ replicate (length t - length (flat last)) 0 →
       l′ ≡ log-of log ++ drop (width * length log) l → ThinnedAs a xs t l r t′ l′
 

@@ -25,6 +25,12 @@ pub first-before : (c : Clause) (l : List Clause) (v : Verdict) → (¬ (c .give
 unfolding First
 first-before c l v n f = inr (n, f)
 
+-- what passes has no line that holds
+pub passed : (c : Clause) (l : List Clause) → First (c ∷ l) Passes → (¬ (c .given)) × First l Passes
+unfolding First
+passed c l (inl p) = refused-passes (sym (p .1))
+passed c l (inr p) = p
+
 pub lesser-left : (a b : Refusal) → number a ≤ number b → lesser-of (Refused a) (Refused b) ≡ Refused a
 unfolding lesser-of
 lesser-left a b h = rw (le-ltb (number b) (number a) h)

@@ -1,0 +1,156 @@
+-- Demand 2 of the log that thinning leaves: grown back it restores the first table, number for number, and replayed it gives the last stage.
+use mathlib.Core.Path.{_≡_, refl, sym, _∙_, ap}
+use mathlib.Core.List.{List, [], _∷_, _++_, append-assoc, append-nil}
+use Prim.Native.Nat.{ℕ, zero, suc, _+_, _-_, _*_, _/_, _%_, _≤_}
+use native.Mathlib.Nat.{mul-div-cancel-left}
+use native.Mathlib.Omega.{arith}
+use lib.IntN.{ℤ}
+use lib.ListN.{length, take, drop, replicate, length-append, length-replicate}
+use lib.Seq.{take-at, drop-at, drop-append-add}
+use Rattle.surface.specs.Rows.{Row, rows, flat}
+use Rattle.surface.specs.Stage.{Stage}
+use Rattle.surface.specs.Record.{Record, Replayed}
+use Rattle.surface.proofs.Flat.{rows-flat, flat-rows, flat-length}
+use Rattle.faults.specs.Counts.{corners}
+use Rattle.faults.proofs.Opposites.{stage-rows, stage-corners}
+use Rattle.slots.proofs.Slots.{whole-rows}
+use Rattle.run.specs.Run.{Taken, none-yet}
+use Rattle.run.proofs.Main.{taken-cut, taken-replayed, replayed-stage, replayed-rows}
+use Rattle.record.specs.Layout.{width, log-of, records}
+use Rattle.record.proofs.Log.{log-length, records-log}
+use Rattle.length.specs.declared.Order.{Order}
+use Rattle.least.specs.Limited.{Allowed}
+use Rattle.thin.specs.declared.Asked.{Asked}
+use Rattle.thin.specs.declared.Thinning.the-variants as thinning
+use Rattle.thin.specs.Thin.{Thinned}
+use Rattle.thin.proofs.Main.{RunOf, thinned-run}
+use Rattle.grow.specs.Room.{standing, filled}
+use Rattle.regrow.specs.declared.Regrown.{Regrown}
+use Rattle.regrow.specs.declared.Regrown.the-variants.{Done}
+use Rattle.regrow.specs.Reached.{count, need}
+use Rattle.regrow.specs.Outcome.{GrowFits, GrownAs}
+use Rattle.regrow.proofs.Main.{restores}
+use Rattle.replay.specs.Outcome.{ReplayFits, ReplayedAs}
+use Rattle.replay.proofs.One.{replayed-one}
+use Rattle.replay.proofs.Main.{replays-whole}
+use Rattle.promises.proofs.Logged.{front-log, rest-log}
+
+-- a table of the rows T in front, and zeros in the rest of the first table's length
+abbrev left-of : List ℕ → List Row → List ℕ
+left-of t T = flat T ++ replicate (length t - length (flat T)) 0
+
+drop-zeros : (m n : ℕ) → drop m (replicate {A = ℕ} n 0) ≡ replicate (n - m) 0
+drop-zeros zero n = let e : n ≡ n - 0 = omega arith in ap (λ k. replicate k 0) e
+drop-zeros (suc m) zero = let e : 0 ≡ 0 - suc m = omega arith in ap (λ k. replicate k 0) e
+drop-zeros (suc m) (suc n) = let e : n - m ≡ suc n - suc m = omega arith in drop-zeros m n ∙ ap (λ k. replicate k 0) e
+
+module _ {d : Asked} {xs : List ℤ} {t l : List ℕ} {k : ℕ} {t′ l′ : List ℕ} (w : RunOf d xs t l k t′ l′) where
+  first : Stage (corners xs) (rows t)
+  first = w .skin .stage
+
+  many : 3 * length (rows t) ≡ length t
+  many = whole-rows t (w .whole)
+
+  module _ (p q : List Record) (e : w .log ≡ p ++ q) {T₁ : List Row} (h : Taken (Allowed (w .b) xs) (rows t) p T₁) where
+    begun : Replayed (rows t) p T₁
+    begun = taken-replayed h
+
+    there : Stage (corners xs) T₁
+    there = replayed-stage first begun
+
+    -- the rest of the log leads on to the last stage
+    on : Replayed T₁ q (w .last)
+    on = let c = taken-cut p (rw e at (w .run .taken)) in rw (replayed-one (taken-replayed (c .1)) begun) at (taken-replayed (c .2))
+
+    last-stage : Stage (corners xs) (w .last)
+    last-stage = replayed-stage there on
+
+    rows-left : length (rows t) - 2 * k ≡ length (w .last)
+    rows-left =
+        let a = replayed-rows first begun in
+        let b = replayed-rows there on in
+        let c = w .count ∙ ap length e ∙ length-append p q in
+        omega arith
+
+    records-many : (m : List Record) → count (log-of m) ≡ length m
+    records-many m = ap (λ z. z / width) (log-length m) ∙ mul-div-cancel-left (length m) {n = width} (omega arith)
+
+    fits : GrowFits (corners xs) (length (w .last)) (log-of q)
+    fits = record {
+      rows = stage-rows last-stage;
+      corners = stage-corners last-stage;
+      tens = let z = log-length q in omega arith;
+      most = let a = records-many q in let b = replayed-rows there on in let c = there .most in omega arith;
+    }
+
+    room : need (length (w .last)) (log-of q) ≤ length t′
+    room =
+        let a = records-many q in
+        let b = replayed-rows there on in
+        let c = replayed-rows first begun in
+        let f = ap length (w .table) ∙ length-append (flat (w .last)) (replicate (length t - length (flat (w .last))) 0) in
+        let z = length-replicate {A = ℕ} (length t - length (flat (w .last))) 0 in
+        let l = flat-length (w .last) in
+        omega (arith, many)
+
+    stands : standing (length (w .last)) t′ ≡ w .last
+    stands =
+        let m = length (w .last) in
+        ap (standing m) (w .table) ∙ ap rows (take-at (flat (w .last)) (replicate (length t - length (flat (w .last))) 0) (3 * m) (flat-length (w .last))) ∙ rows-flat (w .last)
+
+    filled-left : filled T₁ t′ ≡ left-of t T₁
+    filled-left =
+        let L = flat (w .last) in
+        let a = flat-length T₁ in
+        let b = flat-length (w .last) in
+        let c = replayed-rows there on in
+        let e : 3 * length T₁ ≡ length L + (3 * length T₁ - length L) = omega arith in
+        let f : length t - length L - (3 * length T₁ - length L) ≡ length t - length (flat T₁) = omega arith in
+        ap (λ z. flat T₁ ++ z)
+        (ap (drop (3 * length T₁)) (w .table)
+        ∙ ap (λ z. drop z (left-of t (w .last))) e
+        ∙ drop-append-add L (replicate (length t - length L) 0) (3 * length T₁ - length L)
+        ∙ drop-zeros (3 * length T₁ - length L) (length t - length L)
+        ∙ ap (λ z. replicate z 0) f)
+
+    -- the log from record i on, i being how many p are, grown back where thinning left its table: the table before record i
+    pub restored-from : {a : Regrown} {r : List ℕ} → GrownAs (corners xs) (length (rows t) - 2 * k) t′ (drop (width * length p) (take (width * k) l′)) a r →
+        (a ≡ Done (length q)) × (r ≡ left-of t T₁)
+    restored-from g =
+        let o = restores fits room there (rw (records-log q, stands) on) (rw (rows-left, rest-log w p q e) at g) in
+        (o .0 ∙ ap Done (records-many q), o .1 ∙ filled-left)
+
+    -- a beginning of the log replayed on the first table: the stage it leads to
+    pub replayed-to : {a : Regrown} {r : List ℕ} → ReplayedAs (corners xs) t (take (width * length p) l′) a r → (a ≡ Done (length p)) × (r ≡ left-of t T₁)
+    replayed-to g =
+        let o = replays-whole {T′ = T₁} forth first (rw (records-log p) begun) (rw (front-log w p q e) at g) in
+        (o .0 ∙ ap Done (records-many p), o .1)
+      where
+        forth : ReplayFits (corners xs) t (log-of p)
+        forth = record {
+          counts = record { table = record { threes = w .whole; count = stage-rows first }; count = stage-corners first };
+          tens = let z = log-length p in omega arith;
+          least = let a = records-many p in let b = replayed-rows first begun in let c = there .least in omega arith;
+        }
+
+-- growing back the whole log of any accepted thinning restores the first table, number for number
+pub restored : (o : Order) {xs : List ℤ} {t l : List ℕ} {k : ℕ} {t′ l′ : List ℕ} → Thinned o xs t l (thinning.Done k) t′ l′ → {a : Regrown} {r : List ℕ} →
+    GrownAs (corners xs) (length (rows t) - 2 * k) t′ (take (width * k) l′) a r → (a ≡ Done k) × (r ≡ t)
+restored o {t = t} z g =
+    let w = thinned-run z in
+    let o = restored-from w [] (w .log) refl (none-yet refl) g in
+    (o .0 ∙ ap Done (sym (w .count)), o .1 ∙ whole (w .whole))
+  where
+    whole : length t % 3 ≡ 0 → left-of t (rows t) ≡ t
+    whole h =
+        let f : flat (rows t) ≡ t = flat-rows (length (rows t)) t (sym (whole-rows t h)) in
+        let e : length t - length (flat (rows t)) ≡ 0 = ap (λ (z : List ℕ). length t - length z) f ∙ omega arith in
+        ap (λ z. flat (rows t) ++ replicate z 0) e ∙ append-nil (flat (rows t)) ∙ f
+
+-- replaying its log on the first table does every record, and leaves what thinning left
+pub replayed : (o : Order) {xs : List ℤ} {t l : List ℕ} {k : ℕ} {t′ l′ : List ℕ} → Thinned o xs t l (thinning.Done k) t′ l′ → {a : Regrown} {r : List ℕ} →
+    ReplayedAs (corners xs) t (take (width * k) l′) a r → (a ≡ Done k) × (r ≡ t′)
+replayed o z g =
+    let w = thinned-run z in
+    let o = replayed-to w (w .log) [] (sym (append-nil (w .log))) (w .run .taken) (rw (w .count) at g) in
+    (o .0 ∙ ap Done (sym (w .count)), o .1 ∙ sym (w .table))

@@ -1,0 +1,27 @@
+-- The records of the log that thinning leaves, as they stand in front of the lent one.
+use mathlib.Core.Path.{_≡_, refl, sym, _∙_, ap}
+use mathlib.Core.List.{List, _++_, append-assoc}
+use Prim.Native.Nat.{ℕ, _*_}
+use lib.IntN.{ℤ}
+use lib.ListN.{length, take, drop}
+use lib.Seq.{take-at, drop-at}
+use Rattle.surface.specs.Record.{Record}
+use Rattle.record.specs.Layout.{width, log-of}
+use Rattle.record.proofs.Log.{log-length, log-append}
+use Rattle.thin.specs.declared.Asked.{Asked}
+use Rattle.thin.proofs.Main.{RunOf}
+
+module _ {a : Asked} {xs : List ℤ} {t l : List ℕ} {k : ℕ} {t′ l′ : List ℕ} (w : RunOf a xs t l k t′ l′) (p q : List Record) (e : w .log ≡ p ++ q) where
+  -- the first ones
+  pub front-log : take (width * length p) l′ ≡ log-of p
+  front-log =
+      let rest = drop (width * length (w .log)) l in
+      ap (take (width * length p)) (w .logged ∙ ap (λ m. log-of m ++ rest) e ∙ ap (λ m. m ++ rest) (log-append p q) ∙ append-assoc (log-of p) (log-of q) rest)
+      ∙ take-at (log-of p) (log-of q ++ rest) (width * length p) (log-length p)
+
+  whole-log : take (width * k) l′ ≡ log-of (w .log)
+  whole-log = ap (take (width * k)) (w .logged) ∙ take-at (log-of (w .log)) (drop (width * length (w .log)) l) (width * k) (log-length (w .log) ∙ ap (λ m. width * m) (sym (w .count)))
+
+  -- and those after them
+  pub rest-log : drop (width * length p) (take (width * k) l′) ≡ log-of q
+  rest-log = ap (drop (width * length p)) (whole-log ∙ ap log-of e ∙ log-append p q) ∙ drop-at (log-of p) (log-of q) (width * length p) (log-length p)
