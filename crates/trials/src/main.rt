@@ -6,9 +6,63 @@ use length::Order;
 use length::Reading;
 use length::read_limit;
 use refusal::Verdict;
+use regrow::Regrown;
 use ring::Trial;
 use thin::Thinning;
 use volume::Measured;
+
+// The octahedron, and what thinning it leaves: its last rows, and its two records.
+const O: [u32; 24] = [
+    0,
+    1,
+    2,
+    0,
+    2,
+    3,
+    0,
+    3,
+    4,
+    0,
+    4,
+    1,
+    5,
+    2,
+    1,
+    5,
+    3,
+    2,
+    5,
+    4,
+    3,
+    5,
+    1,
+    4,
+];
+
+const O_CORNERS: [i32; 18] = [
+    0,
+    0,
+    100,
+    100,
+    0,
+    0,
+    0,
+    100,
+    0,
+    -100,
+    0,
+    0,
+    0,
+    -100,
+    0,
+    0,
+    0,
+    -100,
+];
+
+const O_END: [u32; 12] = [0, 3, 4, 5, 3, 0, 5, 4, 3, 5, 0, 4];
+
+const O_LOG: [u32; 20] = [0, 1, 0, 0, 1, 2, 3, 0, 4, 1, 0, 2, 0, 0, 2, 3, 2, 5, 2, 0];
 
 // A line of a name and a whole number.
 fn show(name: &[u8], value: i64) {
@@ -89,52 +143,8 @@ fn show_check(name: &[u8], t: &[u32], xs: &[i32]) {
 
 // The octahedron, without its last row, and with fewer rows than a skin has.
 fn octahedra() {
-    let t = [
-        0u32,
-        1,
-        2,
-        0,
-        2,
-        3,
-        0,
-        3,
-        4,
-        0,
-        4,
-        1,
-        5,
-        2,
-        1,
-        5,
-        3,
-        2,
-        5,
-        4,
-        3,
-        5,
-        1,
-        4,
-    ];
-    let xs = [
-        0i32,
-        0,
-        100,
-        100,
-        0,
-        0,
-        0,
-        100,
-        0,
-        -100,
-        0,
-        0,
-        0,
-        -100,
-        0,
-        0,
-        0,
-        -100,
-    ];
+    let t = O;
+    let xs = O_CORNERS;
     show_check(b"O: ", &t, &xs);
     show_check(b"O without its last row: ", &t[..21], &xs);
     show_check(b"O's first three rows: ", &t[..9], &xs);
@@ -240,6 +250,18 @@ fn wide(x: u32) -> u64 {
     x as u64
 }
 
+// The first list into the front of the second, as far as there is room.
+fn copy(from: &[u32], to: &mut [u32]) {
+    let mut i: usize = 0;
+    while i < from.len() {
+        if to.len() <= i {
+            return;
+        }
+        to[i] = from[i];
+        i += 1;
+    }
+}
+
 // A line of a thinning's answer.
 fn show_thinning(name: &[u8], r: Thinning) {
     io::write_all(1, name);
@@ -258,52 +280,8 @@ fn show_thinning(name: &[u8], r: Thinning) {
 
 // The octahedron thinned: its rows and records as in 01's sheet.
 fn thin_octahedron() {
-    let mut t = [
-        0u32,
-        1,
-        2,
-        0,
-        2,
-        3,
-        0,
-        3,
-        4,
-        0,
-        4,
-        1,
-        5,
-        2,
-        1,
-        5,
-        3,
-        2,
-        5,
-        4,
-        3,
-        5,
-        1,
-        4,
-    ];
-    let xs = [
-        0i32,
-        0,
-        100,
-        100,
-        0,
-        0,
-        0,
-        100,
-        0,
-        -100,
-        0,
-        0,
-        0,
-        -100,
-        0,
-        0,
-        0,
-        -100,
-    ];
+    let mut t = O;
+    let xs = O_CORNERS;
     let mut log = [7u32; 21];
     let r = thin::thin(&mut t, &xs, Order::NoLimit, &mut log);
     show_thinning(b"O thinned: ", r);
@@ -312,6 +290,147 @@ fn thin_octahedron() {
     let mut short = [7u32; 19];
     let again = thin::thin(&mut t, &xs, Order::NoLimit, &mut short);
     show_thinning(b"with room for 19 numbers: ", again);
+}
+
+// A line of the answer of growing back or of replay.
+fn show_regrown(name: &[u8], a: Regrown) {
+    io::write_all(1, name);
+    match a {
+        Regrown::Done(k) => {
+            io::print_decimal(1, k as u64);
+            io::write_all(1, b" records done\n");
+        }
+        Regrown::Stopped(k) => {
+            io::write_all(1, b"refused 13 after ");
+            io::print_decimal(1, k as u64);
+            io::write_all(1, b" records\n");
+        }
+        Regrown::Refused(e) => {
+            io::write_all(1, b"refused ");
+            io::print_decimal(1, refusal::number_of(e) as u64);
+            io::write_all(1, b"\n");
+        }
+    }
+}
+
+// The octahedron's last rows in a room with two numbers to spare, and a log grown back there.
+fn grow_octahedron(name: &[u8], log: &[u32]) {
+    let mut room = [9u32; 26];
+    copy(&O_END, &mut room);
+    show_regrown(name, regrow::grow_back(&mut room, 4, 6, log));
+    show_numbers(b"the room then:", &room);
+}
+
+// A log replayed on the octahedron.
+fn replay_octahedron(name: &[u8], log: &[u32]) {
+    let mut t = O;
+    show_regrown(name, replay::replay(&mut t, 6, log));
+    show_numbers(b"the table then:", &t);
+}
+
+// The octahedron's log with ten numbers in place of its first record.
+fn spoiled(name: &[u8], first: [u32; 10]) {
+    let mut log = O_LOG;
+    copy(&first, &mut log);
+    grow_octahedron(name, &log);
+}
+
+// Growing back and replay: 01's octahedron, and records that fail.
+fn logs() {
+    grow_octahedron(b"O grown back from its two records: ", &O_LOG);
+    replay_octahedron(b"O's two records replayed: ", &O_LOG);
+    let turned = [
+        0u32,
+        1,
+        0,
+        1,
+        2,
+        0,
+        3,
+        0,
+        4,
+        1,
+        0,
+        2,
+        0,
+        0,
+        2,
+        3,
+        2,
+        5,
+        2,
+        0,
+    ];
+    grow_octahedron(b"with a row turned: ", &turned);
+    replay_octahedron(b"replayed: ", &turned);
+    spoiled(b"removed is used: ", [0u32, 2, 0, 0, 1, 2, 3, 0, 4, 2]);
+    spoiled(b"places equal: ", [0u32, 1, 3, 0, 1, 2, 3, 0, 4, 1]);
+    spoiled(
+        b"a place one past the grown table: ",
+        [0u32, 1, 0, 0, 1, 2, 8, 0, 4, 1],
+    );
+}
+
+// T with one record, M with five and with six.
+fn too_many_records() {
+    let mut t = [0u32, 1, 2, 0, 2, 3, 0, 3, 1, 1, 3, 2];
+    show_regrown(
+        b"T with one record: ",
+        replay::replay(&mut t, 4, &O_LOG[..10]),
+    );
+    let mut m = [
+        0u32,
+        1,
+        3,
+        0,
+        3,
+        2,
+        1,
+        2,
+        4,
+        1,
+        4,
+        3,
+        2,
+        3,
+        5,
+        2,
+        5,
+        4,
+        3,
+        4,
+        6,
+        3,
+        6,
+        5,
+        4,
+        5,
+        0,
+        4,
+        0,
+        6,
+        5,
+        6,
+        1,
+        5,
+        1,
+        0,
+        6,
+        0,
+        2,
+        6,
+        2,
+        1,
+    ];
+    let mut log = [0u32; 60];
+    let first = [0u32, 1, 0, 0, 1, 3, 11, 5, 1, 0];
+    copy(&first, &mut log);
+    show_regrown(
+        b"M with five records: ",
+        replay::replay(&mut m, 7, &log[..50]),
+    );
+    show_regrown(b"M with six records: ", replay::replay(&mut m, 7, &log));
+    show_numbers(b"M then:", &m);
 }
 
 // The trial ring's numbers into a lent table.
@@ -457,6 +576,8 @@ fn main() {
     far_corners();
     pairs();
     thin_octahedron();
+    logs();
+    too_many_records();
     thin_ring();
     largest_sums();
 }
