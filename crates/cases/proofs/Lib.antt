@@ -2,3 +2,4 @@ pub mod Skinned
 pub mod Starred
 pub mod Impostors
 pub mod Returns
+pub mod Backward

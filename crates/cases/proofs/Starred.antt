@@ -15,7 +15,7 @@ use Rattle.surface.specs.Rows.{Row, row, rows, flat}
 use Rattle.surface.specs.Table.{edges}
 use Rattle.surface.specs.Stage.{Skin, StageTable, InRange}
 use Rattle.surface.specs.Contract.{contract, renumber, replace, stays?, holds?}
-use Rattle.surface.specs.Record.{at, later, leaving, Record}
+use Rattle.surface.specs.Record.{at, later, leaving, Record, Replayed}
 use Rattle.refusal.specs.First.{First}
 use Rattle.refusal.specs.declared.Verdict.the-variants as verdict
 use Rattle.refusal.specs.declared.Refusal.the-variants.{EdgeTwice}
@@ -77,7 +77,7 @@ limited L xs r = run-same (λ a b k. leb→le (squared-distance xs a b) (L * L) 
 abbrev k₁ : Record
 k₁ = record { kept = 0; removed = 1; place-1 = 0; row-1 = row 0 1 2; place-2 = 3; row-2 = row 0 4 1 }
 
-abbrev k₂ : Record
+abbrev pub k₂ : Record
 k₂ = record { kept = 0; removed = 2; place-1 = 0; row-1 = row 0 2 3; place-2 = 2; row-2 = row 5 2 0 }
 
 abbrev O-end : List Row
@@ -155,11 +155,11 @@ O-table : StageTable 6 O
 unfolding rows
 O-table = record { count = refl; stage = O-skin .stage }
 
-O-one-table : StageTable 6 O-one
+pub O-one-table : StageTable 6 O-one
 unfolding rows edges
 O-one-table = record { count = refl; stage = passes-stage 6 (rows O-one) tt }
 
-O-two-table : StageTable 6 O-two
+pub O-two-table : StageTable 6 O-two
 unfolding rows edges
 O-two-table = record { count = refl; stage = passes-stage 6 (rows O-two) tt }
 
@@ -204,6 +204,10 @@ changes-both = changed O O-two (O-skin .corners) (O-skin .in-range) O-table O-tw
 leads-one : Holds (leads O (take 10 O-log) O-one)
 unfolding edges rows contract renumber replace stays? holds? ℕ-discrete leaving later first-records
 leads-one = taken-replayed (steps-taken any (goes-on {k = k₁} tt refl (stays-at refl)))
+
+pub second-step : Replayed (rows O-one) (k₂ ∷ []) (rows O-two)
+unfolding edges rows contract renumber replace stays? holds? ℕ-discrete leaving later
+second-step = taken-replayed (steps-taken any (goes-on {k = k₂} tt refl (stays-at refl)))
 
 leads-two : Holds (leads O O-log O-two)
 unfolding edges rows contract renumber replace stays? holds? ℕ-discrete leaving later first-records

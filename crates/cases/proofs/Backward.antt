@@ -1,0 +1,82 @@
+-- Slips of growing back and of replay: what each would leave of O is not allowed by the words of the contract.
+use mathlib.Core.Path.{_≡_, refl, sym, _∙_, ap}
+use mathlib.Core.Logic.{_≢_}
+use mathlib.Core.List.{List, [], _∷_, _++_}
+use Prim.Native.Nat.{ℕ}
+use native.Mathlib.Omega.{arith}
+use lib.ListN.{getD, replicate, drop}
+use Rattle.surface.specs.Rows.{rows, flat, row}
+use Rattle.surface.specs.Table.{Used}
+use Rattle.surface.specs.Record.{Record, Replayed, one-step}
+use Rattle.surface.proofs.Recorded.{replayed-grown}
+use Rattle.record.specs.Layout.{first-records}
+use Rattle.length.specs.declared.Order.the-variants.{NoLimit}
+use Rattle.regrow.specs.declared.Regrown.{Regrown}
+use Rattle.regrow.specs.declared.Regrown.the-variants.{Done, Stopped}
+use Rattle.regrow.specs.Reached.{stopped}
+use Rattle.regrow.specs.Outcome.{GrownAs, grown}
+use Rattle.regrow.proofs.Main.{grow-passes, grown-one}
+use Rattle.replay.specs.Outcome.{ReplayedAs}
+use Rattle.promises.proofs.Back.{restored, replayed}
+use Rattle.cases.specs.Skins.{O, O-corners}
+use Rattle.cases.specs.Cases.{O-last, O-log, O-one, O-two}
+use Rattle.cases.proofs.Starred.{case-O, k₂, second-step, O-one-table, O-two-table}
+
+done-count : {k m : ℕ} → Done k ≡ Done m → k ≡ m
+done-count e = cc
+
+stopped-count : {k m : ℕ} → Stopped k ≡ Stopped m → k ≡ m
+stopped-count e = cc
+
+-- a replay that writes no zeros behind the stage reached
+pub replay-no-zeros : (a : Regrown) (r : List ℕ) → getD r 12 0 ≡ getD O 12 0 → ¬ ReplayedAs 6 O O-log a r
+replay-no-zeros a r e h = let k = ap (λ l. getD l 12 0) ((replayed NoLimit (case-O .0) h) .1) in let f : _≡_ {A = ℕ} 5 0 = sym e ∙ k in omega arith
+
+-- a count of records that is off by one, forward and back
+pub replay-miscounts : (k : ℕ) (r : List ℕ) → k ≢ 2 → ¬ ReplayedAs 6 O O-log (Done k) r
+replay-miscounts k r n h = n (done-count ((replayed NoLimit (case-O .0) h) .0))
+
+pub grow-miscounts : (k : ℕ) (r : List ℕ) → k ≢ 2 → ¬ GrownAs 6 4 O-last O-log (Done k) r
+unfolding rows
+grow-miscounts k r n h = n (done-count ((restored NoLimit (case-O .0) h) .0))
+
+-- rows put back the wrong way round: the first row of O is not there
+pub grow-later-first : (a : Regrown) (r : List ℕ) → getD r 1 0 ≢ 1 → ¬ GrownAs 6 4 O-last O-log a r
+unfolding rows
+grow-later-first a r n h = n (ap (λ l. getD l 1 0) ((restored NoLimit (case-O .0) h) .1))
+
+-- O's log with a first record whose removed number is used, and its last rows in a room with nines past them
+abbrev bad : Record
+bad = record { kept = 0; removed = 2; place-1 = 0; row-1 = row 0 1 2; place-2 = 3; row-2 = row 0 4 2 }
+
+abbrev pub spoiled : List ℕ
+spoiled = 0 ∷ 2 ∷ 0 ∷ 0 ∷ 1 ∷ 2 ∷ 3 ∷ 0 ∷ 4 ∷ 2 ∷ drop 10 O-log
+
+abbrev pub nines : List ℕ
+nines = O-two ++ replicate 14 9
+
+used-two : Used (rows O-one) 2
+used-two = go second-step
+  where
+    go : Replayed (rows O-one) (k₂ ∷ []) (rows O-two) → Used (rows O-one) 2
+    go (one-step r t) = (0, O-one-table .stage .both (r .meets .edge))
+
+-- the second record is grown back, the first is not: one done, and past O-one's rows the nines
+stops : GrownAs 6 4 nines spoiled (Stopped 1) (O-one ++ replicate 8 9)
+unfolding rows flat first-records
+stops =
+    grown
+    (grow-passes 6 4 nines spoiled (record { rows = record { least = omega arith; most = omega arith }; corners = record { few = omega arith; many = omega arith }; tens = refl; most = omega arith }) (omega arith) (O-two-table .stage))
+    (record {
+      table = rows O-one;
+      reached = stopped [] bad (k₂ ∷ []) refl (replayed-grown (O-one-table .stage) second-step) (λ T a. a .unused used-two) refl;
+      left = refl;
+    })
+
+-- 13 that leaves scribbles past the rows reached
+pub grow-scribbles : (a : Regrown) (r : List ℕ) → getD r 18 0 ≢ 9 → ¬ GrownAs 6 4 nines spoiled a r
+grow-scribbles a r n h = n (ap (λ l. getD l 18 0) ((grown-one h stops) .1))
+
+-- 13 that counts the failing record too
+pub grow-counts-failing : (r : List ℕ) → ¬ GrownAs 6 4 nines spoiled (Stopped 2) r
+grow-counts-failing r h = let e = stopped-count ((grown-one h stops) .0) in omega arith
