@@ -1,8 +1,10 @@
 -- Growing back has one outcome; and the log of steps, grown back from where they led, restores the table they began with.
 use mathlib.Core.Path.{_≡_, refl, sym, _∙_, ap}
-use mathlib.Core.List.{List}
+use mathlib.Core.Logic.{_⊎_, inl, inr}
+use mathlib.Core.List.{List, [], _∷_}
 use Prim.Native.Nat.{ℕ, _*_, _≤_, _<_, _%_}
 use native.Mathlib.Omega.{arith}
+use lib.IntN.{pos}
 use lib.ListN.{length, take}
 use Rattle.surface.specs.Rows.{Row}
 use Rattle.surface.specs.Stage.{Stage}
@@ -13,6 +15,7 @@ use Rattle.refusal.specs.declared.Refusal.{Refusal}
 use Rattle.refusal.specs.declared.Verdict.the-variants.{Passes}
 use Rattle.refusal.specs.declared.Verdict.the-variants as verdict
 use Rattle.refusal.specs.First.{First}
+use Rattle.refusal.specs.Told as answers
 use Rattle.refusal.proofs.Laws.{first-one, refused-one, refused-passes}
 use Rattle.verdicts.proofs.Laws.{first-before}
 use Rattle.faults.specs.Counts.{CountsFit}
@@ -22,6 +25,7 @@ use Rattle.record.proofs.Log.{first-length}
 use Rattle.grow.specs.Room.{standing, filled}
 use Rattle.regrow.specs.declared.Regrown.{Regrown}
 use Rattle.regrow.specs.declared.Regrown.the-variants.{Done, Stopped, Refused}
+use Rattle.regrow.specs.Answer.{told, fails-after}
 use Rattle.regrow.specs.Reached.{Reached, all, stopped, count, need}
 use Rattle.regrow.specs.Outcome.{GrowFits, grow-lines, GrownAs, refused, grown}
 use Rattle.regrow.proofs.One.{reached-one}
@@ -63,3 +67,14 @@ reached-answers (stopped l k m p g f e) = stopped-refused (sym e)
 pub refused-same : {n m : ℕ} {room log : List ℕ} {r : Refusal} {room′ : List ℕ} → GrownAs n m room log (Refused r) room′ → room′ ≡ room
 refused-same (refused f ea er) = er
 refused-same (grown f w) = reached-answers (w .reached)
+
+reached-told : {n : ℕ} {T′ T : List Row} {log : List Record} {a : Regrown} → Reached n T′ log a T → (told a ≡ answers.done (pos (length log) ∷ [])) ⊎ ((k : ℕ) × (told a ≡ fails-after k))
+reached-told (all g e) = inl (ap told e)
+reached-told (stopped l k m p g f e) = inr (length m, ap told e)
+
+-- the answer tells the first refusal that holds; else 0 and how many records there are, or 13 and how many were done
+pub grown-told : {n m : ℕ} {room log : List ℕ} {a : Regrown} {room′ : List ℕ} → GrownAs n m room log a room′ →
+    ((e : Refusal) × First (grow-lines n m room log) (verdict.Refused e) × (told a ≡ answers.refused e))
+    ⊎ (First (grow-lines n m room log) Passes × ((told a ≡ answers.done (pos (length (records log)) ∷ [])) ⊎ ((k : ℕ) × (told a ≡ fails-after k))))
+grown-told (refused {e = e} f ea er) = inl (e, f, ap told ea)
+grown-told (grown f w) = inr (f, reached-told (w .reached))

@@ -1,14 +1,18 @@
 -- Replay has one outcome; and a log that leads from a stage to another is done whole, and leaves the other.
 use mathlib.Core.Path.{_≡_, refl, sym, _∙_, ap}
-use mathlib.Core.List.{List, _++_}
+use mathlib.Core.Logic.{_⊎_, inl, inr}
+use mathlib.Core.List.{List, [], _∷_, _++_}
 use Prim.Native.Nat.{ℕ, _-_}
+use lib.IntN.{pos}
 use lib.ListN.{length, replicate}
 use Rattle.surface.specs.Rows.{Row, rows, flat}
 use Rattle.surface.specs.Stage.{Stage}
 use Rattle.surface.specs.Record.{Record, Replayed}
 use Rattle.refusal.specs.declared.Refusal.{Refusal}
 use Rattle.refusal.specs.declared.Verdict.the-variants.{Passes}
+use Rattle.refusal.specs.declared.Verdict.the-variants as verdict
 use Rattle.refusal.specs.First.{First}
+use Rattle.refusal.specs.Told as answers
 use Rattle.refusal.proofs.Laws.{first-one, refused-one, refused-passes}
 use Rattle.verdicts.proofs.Laws.{first-before}
 use Rattle.faults.proofs.Order.{after-2, stage-passes}
@@ -16,6 +20,7 @@ use Rattle.record.specs.Layout.{records}
 use Rattle.record.proofs.Log.{first-length}
 use Rattle.regrow.specs.declared.Regrown.{Regrown}
 use Rattle.regrow.specs.declared.Regrown.the-variants.{Done, Refused}
+use Rattle.regrow.specs.Answer.{told, fails-after}
 use Rattle.regrow.specs.Reached.{count}
 use Rattle.regrow.proofs.Main.{done-refused, stopped-refused}
 use Rattle.replay.specs.Redone.{Redone, all, stopped}
@@ -50,3 +55,14 @@ redone-answers (stopped l k m p g f e) = stopped-refused (sym e)
 pub refused-same : {n : ℕ} {t log : List ℕ} {r : Refusal} {t′ : List ℕ} → ReplayedAs n t log (Refused r) t′ → t′ ≡ t
 refused-same (refused f ea er) = er
 refused-same (replayed f w) = redone-answers (w .redone)
+
+redone-told : {T T′ : List Row} {log : List Record} {a : Regrown} → Redone T log a T′ → (told a ≡ answers.done (pos (length log) ∷ [])) ⊎ ((k : ℕ) × (told a ≡ fails-after k))
+redone-told (all g e) = inl (ap told e)
+redone-told (stopped m k l p g f e) = inr (length m, ap told e)
+
+-- the answer tells the first refusal that holds; else 0 and how many records there are, or 13 and how many were done
+pub replay-told : {n : ℕ} {t log : List ℕ} {a : Regrown} {t′ : List ℕ} → ReplayedAs n t log a t′ →
+    ((e : Refusal) × First (replay-lines n t log) (verdict.Refused e) × (told a ≡ answers.refused e))
+    ⊎ (First (replay-lines n t log) Passes × ((told a ≡ answers.done (pos (length (records log)) ∷ [])) ⊎ ((k : ℕ) × (told a ≡ fails-after k))))
+replay-told (refused {e = e} f ea er) = inl (e, f, ap told ea)
+replay-told (replayed f w) = inr (f, redone-told (w .redone))

@@ -1,13 +1,17 @@
 -- The table that follows the rule, by place and by row.
 use mathlib.Core.Path.{_≡_, refl, sym, _∙_, ap}
+use mathlib.Core.Logic.{_⊎_, inl, inr}
 use mathlib.Core.List.{List, [], _∷_}
-use Prim.Native.Nat.{ℕ, zero, suc, _+_, _*_, _/_, _%_, _<_}
+use Prim.Native.Nat.{ℕ, zero, suc, _+_, _*_, _/_, _%_, _≤_, _<_}
 use native.Mathlib.Omega.{arith}
+use lib.IntN.{pos}
 use lib.ListN.{length, getD}
 use Rattle.surface.specs.Rows.{Row, row, rows}
 use Rattle.surface.proofs.Flat.{rows-at, rows-length}
 use Rattle.ring.specs.declared.Trial.{Trial}
 use Rattle.ring.specs.declared.Trial.the-variants.{Number, Nothing}
+use Rattle.refusal.specs.Told.{done}
+use Rattle.ring.specs.Answer.{told}
 use Rattle.ring.specs.Ring.{corner, six, size, number-at, numbers-from, ring, Tells}
 
 numbers-at : (n k i : ℕ) → i < n → getD (numbers-from k n) i 0 ≡ number-at (k + i)
@@ -56,3 +60,8 @@ trial-one k (Number v) (Number w) p q = ap Number (p .1 ∙ sym (q .1))
 trial-one k (Number v) Nothing p q = let h = p .0 in absurd (omega arith)
 trial-one k Nothing (Number w) p q = let h = q .0 in absurd (omega arith)
 trial-one k Nothing Nothing p q = refl
+
+-- the answer tells the number, or past the end nothing
+pub trial-told : (k : ℕ) (r : Trial) → Tells k r → ((k < size) × (told r ≡ done (pos (number-at k) ∷ []))) ⊎ ((size ≤ k) × (told r ≡ done []))
+trial-told k (Number v) p = inl (p .0, ap (λ z. done (pos z ∷ [])) (p .1))
+trial-told k Nothing p = inr (p, refl)

@@ -1,6 +1,6 @@
 -- What holds of sheets: one text for its skin, one skin for its text, every skin has a sheet that reads, and no second outcome.
 use mathlib.Core.Path.{_≡_, refl, sym, _∙_, ap, subst}
-use mathlib.Core.Logic.{inl, inr}
+use mathlib.Core.Logic.{_⊎_, inl, inr}
 use mathlib.Core.Bool.{true}
 use mathlib.Core.List.{List, [], _∷_, _++_, append-nil, map}
 use Prim.Native.Nat.{ℕ, zero, suc, _+_, _*_, _/_, _%_, _^_, _≤_, _<_}
@@ -11,6 +11,7 @@ use Rattle.surface.specs.Lists.{_∈_}
 use Rattle.surface.specs.Rows.{rows}
 use Rattle.surface.specs.Stage.{Skin}
 use Rattle.refusal.specs.First.{Clause, First}
+use Rattle.refusal.specs.Told as answers
 use Rattle.refusal.specs.declared.Refusal.{Refusal}
 use Rattle.refusal.specs.declared.Verdict.{Verdict}
 use Rattle.refusal.specs.declared.Verdict.the-variants.{Passes, Refused}
@@ -21,6 +22,7 @@ use Rattle.lines.specs.Lines.{Short}
 use Rattle.lines.proofs.Cut.{lines-unique}
 use Rattle.sheet.specs.declared.Sheet.{Sheet}
 use Rattle.sheet.specs.declared.Sheet.the-variants as sheet
+use Rattle.sheet.specs.Answer.{told}
 use Rattle.sheet.specs.Limits.{most-digits, most-sheet-corners, most-sheet-rows}
 use Rattle.sheet.specs.Form.{C, R, sheet-text, corner-lines, row-lines, CountsIn, SheetOf, form-refusals}
 use Rattle.sheet.specs.Outcome.{NoRoom, skin-refusals, ReadSheet, bad-form, bad-skin, read}
@@ -89,3 +91,10 @@ module _ (b : List ℕ) (troom : List ℕ) (croom : List ℤ) where
         table = u ∙ (λ i. o .numbers i ++ drop (length (o .numbers i)) troom) ∙ sym p;
         corners = v ∙ (λ i. o .coordinates i ++ drop (length (o .coordinates i)) croom) ∙ sym q;
       }
+
+-- the answer tells a refusal's number, or 0 and the counts of the skin that the sheet holds
+pub sheet-told : {b troom troom′ : List ℕ} {croom croom′ : List ℤ} {a : Sheet} → ReadSheet b troom troom′ croom croom′ a →
+    ((r : Refusal) × (told a ≡ answers.refused r)) ⊎ ((n m : ℕ) × (xs : List ℤ) × (t : List ℕ) × SheetOf b n m xs t × (told a ≡ answers.done (pos n ∷ pos m ∷ [])))
+sheet-told (bad-form {r = r} f e p q) = inl (r, ap told e)
+sheet-told (bad-skin {r = r} f s k e p q) = inl (r, ap told e)
+sheet-told (read {n = n} {m = m} {xs = xs} {t = t} f s k w e p q) = inr (n, m, xs, t, s, ap told e)
