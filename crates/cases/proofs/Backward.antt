@@ -4,6 +4,7 @@ use mathlib.Core.Logic.{_≢_}
 use mathlib.Core.List.{List, [], _∷_, _++_}
 use Prim.Native.Nat.{ℕ}
 use native.Mathlib.Omega.{arith}
+use lib.IntN.{pos}
 use lib.ListN.{getD, replicate, drop}
 use Rattle.surface.specs.Rows.{rows, flat, row}
 use Rattle.surface.specs.Table.{Used}
@@ -11,8 +12,10 @@ use Rattle.surface.specs.Record.{Record, Replayed, one-step}
 use Rattle.surface.proofs.Recorded.{replayed-grown}
 use Rattle.record.specs.Layout.{first-records}
 use Rattle.length.specs.declared.Order.the-variants.{NoLimit}
+use Rattle.refusal.specs.Told.{Told}
 use Rattle.regrow.specs.declared.Regrown.{Regrown}
 use Rattle.regrow.specs.declared.Regrown.the-variants.{Done, Stopped}
+use Rattle.regrow.specs.Answer.{told}
 use Rattle.regrow.specs.Reached.{stopped}
 use Rattle.regrow.specs.Outcome.{GrownAs, grown}
 use Rattle.regrow.proofs.Main.{grow-passes, grown-one}
@@ -22,8 +25,8 @@ use Rattle.cases.specs.Skins.{O, O-corners}
 use Rattle.cases.specs.Cases.{O-last, O-log, O-one, O-two}
 use Rattle.cases.proofs.Starred.{case-O, k₂, second-step, O-one-table, O-two-table}
 
-done-count : {k m : ℕ} → Done k ≡ Done m → k ≡ m
-done-count e = cc
+told-count : {k m : ℕ} → told (Done k) ≡ told (Done m) → k ≡ m
+told-count {k} {m} e = let f : pos k ∷ [] ≡ pos m ∷ [] = ap (λ (v : Told). v .values) e in cc
 
 stopped-count : {k m : ℕ} → Stopped k ≡ Stopped m → k ≡ m
 stopped-count e = cc
@@ -34,11 +37,11 @@ replay-no-zeros a r e h = let k = ap (λ l. getD l 12 0) ((replayed NoLimit (cas
 
 -- a count of records that is off by one, forward and back
 pub replay-miscounts : (k : ℕ) (r : List ℕ) → k ≢ 2 → ¬ ReplayedAs 6 O O-log (Done k) r
-replay-miscounts k r n h = n (done-count ((replayed NoLimit (case-O .0) h) .0))
+replay-miscounts k r n h = n (told-count ((replayed NoLimit (case-O .0) h) .0))
 
 pub grow-miscounts : (k : ℕ) (r : List ℕ) → k ≢ 2 → ¬ GrownAs 6 4 O-last O-log (Done k) r
 unfolding rows
-grow-miscounts k r n h = n (done-count ((restored NoLimit (case-O .0) h) .0))
+grow-miscounts k r n h = n (told-count ((restored NoLimit (case-O .0) h) .0))
 
 -- rows put back the wrong way round: the first row of O is not there
 pub grow-later-first : (a : Regrown) (r : List ℕ) → getD r 1 0 ≢ 1 → ¬ GrownAs 6 4 O-last O-log a r

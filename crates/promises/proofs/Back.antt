@@ -4,13 +4,14 @@ use mathlib.Core.List.{List, [], _∷_, _++_, append-assoc, append-nil}
 use Prim.Native.Nat.{ℕ, zero, suc, _+_, _-_, _*_, _/_, _%_, _≤_}
 use native.Mathlib.Nat.{mul-div-cancel-left}
 use native.Mathlib.Omega.{arith}
-use lib.IntN.{ℤ}
+use lib.IntN.{ℤ, pos}
 use lib.ListN.{length, take, drop, replicate, length-append, length-replicate}
 use lib.Seq.{take-at, drop-at, drop-append-add}
 use Rattle.surface.specs.Rows.{Row, rows, flat}
 use Rattle.surface.specs.Stage.{Stage}
 use Rattle.surface.specs.Record.{Record, Replayed}
 use Rattle.surface.proofs.Flat.{rows-flat, flat-rows, flat-length}
+use Rattle.refusal.specs.Told as answers
 use Rattle.faults.specs.Counts.{corners}
 use Rattle.faults.proofs.Opposites.{stage-rows, stage-corners}
 use Rattle.slots.proofs.Slots.{whole-rows}
@@ -27,6 +28,7 @@ use Rattle.thin.proofs.Main.{RunOf, thinned-run}
 use Rattle.grow.specs.Room.{standing, filled}
 use Rattle.regrow.specs.declared.Regrown.{Regrown}
 use Rattle.regrow.specs.declared.Regrown.the-variants.{Done}
+use Rattle.regrow.specs.Answer.{told}
 use Rattle.regrow.specs.Reached.{count, need}
 use Rattle.regrow.specs.Outcome.{GrowFits, GrownAs}
 use Rattle.regrow.proofs.Main.{restores}
@@ -83,8 +85,8 @@ module _ {d : Asked} {xs : List ℤ} {t l : List ℕ} {k : ℕ} {t′ l′ : Lis
       most = let a = records-many q in let b = replayed-rows there on in let c = there .most in omega arith;
     }
 
-    room : need (length (w .last)) (log-of q) ≤ length t′
-    room =
+    enough : need (length (w .last)) (log-of q) ≤ length t′
+    enough =
         let a = records-many q in
         let b = replayed-rows there on in
         let c = replayed-rows first begun in
@@ -113,18 +115,25 @@ module _ {d : Asked} {xs : List ℤ} {t l : List ℕ} {k : ℕ} {t′ l′ : Lis
         ∙ drop-zeros (3 * length T₁ - length L) (length t - length L)
         ∙ ap (λ z. replicate z 0) f)
 
-    -- the log from record i on, i being how many p are, grown back where thinning left its table: the table before record i
+    -- the log from record i on, i being how many p are, grown back in any room in which the last stage stands: the rows before record i
+    pub restored-in : {room : List ℕ} → standing (length (rows t) - 2 * k) room ≡ standing (length (rows t) - 2 * k) t′ → need (length (rows t) - 2 * k) (log-of q) ≤ length room →
+        {a : Regrown} {r : List ℕ} → GrownAs (corners xs) (length (rows t) - 2 * k) room (drop (width * length p) (take (width * k) l′)) a r →
+        (told a ≡ answers.done (pos (length q) ∷ [])) × (r ≡ filled T₁ room)
+    restored-in {room} same h g =
+        let s : standing (length (w .last)) room ≡ w .last = rw rows-left at same ∙ stands in
+        let o = restores fits (rw rows-left at h) there (rw (records-log q, s) on) (rw (rows-left, rest-log w p q e) at g) in
+        (ap told (o .0 ∙ ap Done (records-many q)), o .1)
+
+    -- where thinning left its table: the table before record i
     pub restored-from : {a : Regrown} {r : List ℕ} → GrownAs (corners xs) (length (rows t) - 2 * k) t′ (drop (width * length p) (take (width * k) l′)) a r →
-        (a ≡ Done (length q)) × (r ≡ left-of t T₁)
-    restored-from g =
-        let o = restores fits room there (rw (records-log q, stands) on) (rw (rows-left, rest-log w p q e) at g) in
-        (o .0 ∙ ap Done (records-many q), o .1 ∙ filled-left)
+        (told a ≡ answers.done (pos (length q) ∷ [])) × (r ≡ left-of t T₁)
+    restored-from g = let o = restored-in refl (rw rows-left enough) g in (o .0, o .1 ∙ filled-left)
 
     -- a beginning of the log replayed on the first table: the stage it leads to
-    pub replayed-to : {a : Regrown} {r : List ℕ} → ReplayedAs (corners xs) t (take (width * length p) l′) a r → (a ≡ Done (length p)) × (r ≡ left-of t T₁)
+    pub replayed-to : {a : Regrown} {r : List ℕ} → ReplayedAs (corners xs) t (take (width * length p) l′) a r → (told a ≡ answers.done (pos (length p) ∷ [])) × (r ≡ left-of t T₁)
     replayed-to g =
         let o = replays-whole {T′ = T₁} forth first (rw (records-log p) begun) (rw (front-log w p q e) at g) in
-        (o .0 ∙ ap Done (records-many p), o .1)
+        (ap told (o .0 ∙ ap Done (records-many p)), o .1)
       where
         forth : ReplayFits (corners xs) t (log-of p)
         forth = record {
@@ -135,11 +144,11 @@ module _ {d : Asked} {xs : List ℤ} {t l : List ℕ} {k : ℕ} {t′ l′ : Lis
 
 -- growing back the whole log of any accepted thinning restores the first table, number for number
 pub restored : (o : Order) {xs : List ℤ} {t l : List ℕ} {k : ℕ} {t′ l′ : List ℕ} → Thinned o xs t l (thinning.Done k) t′ l′ → {a : Regrown} {r : List ℕ} →
-    GrownAs (corners xs) (length (rows t) - 2 * k) t′ (take (width * k) l′) a r → (a ≡ Done k) × (r ≡ t)
+    GrownAs (corners xs) (length (rows t) - 2 * k) t′ (take (width * k) l′) a r → (told a ≡ answers.done (pos k ∷ [])) × (r ≡ t)
 restored o {t = t} z g =
     let w = thinned-run z in
     let o = restored-from w [] (w .log) refl (none-yet refl) g in
-    (o .0 ∙ ap Done (sym (w .count)), o .1 ∙ whole (w .whole))
+    (o .0 ∙ ap (λ m. answers.done (pos m ∷ [])) (sym (w .count)), o .1 ∙ whole (w .whole))
   where
     whole : length t % 3 ≡ 0 → left-of t (rows t) ≡ t
     whole h =
@@ -149,8 +158,8 @@ restored o {t = t} z g =
 
 -- replaying its log on the first table does every record, and leaves what thinning left
 pub replayed : (o : Order) {xs : List ℤ} {t l : List ℕ} {k : ℕ} {t′ l′ : List ℕ} → Thinned o xs t l (thinning.Done k) t′ l′ → {a : Regrown} {r : List ℕ} →
-    ReplayedAs (corners xs) t (take (width * k) l′) a r → (a ≡ Done k) × (r ≡ t′)
+    ReplayedAs (corners xs) t (take (width * k) l′) a r → (told a ≡ answers.done (pos k ∷ [])) × (r ≡ t′)
 replayed o z g =
     let w = thinned-run z in
     let o = replayed-to w (w .log) [] (sym (append-nil (w .log))) (w .run .taken) (rw (w .count) at g) in
-    (o .0 ∙ ap Done (sym (w .count)), o .1 ∙ sym (w .table))
+    (o .0 ∙ ap (λ m. answers.done (pos m ∷ [])) (sym (w .count)), o .1 ∙ sym (w .table))

@@ -1,7 +1,7 @@
 -- Growing back has one outcome; and the log of steps, grown back from where they led, restores the table they began with.
 use mathlib.Core.Path.{_≡_, refl, sym, _∙_, ap}
 use mathlib.Core.Logic.{_⊎_, inl, inr}
-use mathlib.Core.List.{List, [], _∷_}
+use mathlib.Core.List.{List, [], _∷_, _++_}
 use Prim.Native.Nat.{ℕ, _*_, _≤_, _<_, _%_}
 use native.Mathlib.Omega.{arith}
 use lib.IntN.{pos}
@@ -68,13 +68,17 @@ pub refused-same : {n m : ℕ} {room log : List ℕ} {r : Refusal} {room′ : Li
 refused-same (refused f ea er) = er
 refused-same (grown f w) = reached-answers (w .reached)
 
-reached-told : {n : ℕ} {T′ T : List Row} {log : List Record} {a : Regrown} → Reached n T′ log a T → (told a ≡ answers.done (pos (length log) ∷ [])) ⊎ ((k : ℕ) × (told a ≡ fails-after k))
+-- what 13 tells: the records after the one that fails are done
+abbrev Failing : List Record → answers.Told → Type 0
+Failing log v = (left : List Record) × (k : Record) × (done : List Record) × (log ≡ left ++ k ∷ done) × (v ≡ fails-after (length done))
+
+reached-told : {n : ℕ} {T′ T : List Row} {log : List Record} {a : Regrown} → Reached n T′ log a T → (told a ≡ answers.done (pos (length log) ∷ [])) ⊎ Failing log (told a)
 reached-told (all g e) = inl (ap told e)
-reached-told (stopped l k m p g f e) = inr (length m, ap told e)
+reached-told (stopped l k m p g f e) = inr (l, k, m, p, ap told e)
 
 -- the answer tells the first refusal that holds; else 0 and how many records there are, or 13 and how many were done
 pub grown-told : {n m : ℕ} {room log : List ℕ} {a : Regrown} {room′ : List ℕ} → GrownAs n m room log a room′ →
     ((e : Refusal) × First (grow-lines n m room log) (verdict.Refused e) × (told a ≡ answers.refused e))
-    ⊎ (First (grow-lines n m room log) Passes × ((told a ≡ answers.done (pos (length (records log)) ∷ [])) ⊎ ((k : ℕ) × (told a ≡ fails-after k))))
+    ⊎ (First (grow-lines n m room log) Passes × ((told a ≡ answers.done (pos (length (records log)) ∷ [])) ⊎ Failing (records log) (told a)))
 grown-told (refused {e = e} f ea er) = inl (e, f, ap told ea)
 grown-told (grown f w) = inr (f, reached-told (w .reached))

@@ -56,13 +56,17 @@ pub refused-same : {n : ℕ} {t log : List ℕ} {r : Refusal} {t′ : List ℕ} 
 refused-same (refused f ea er) = er
 refused-same (replayed f w) = redone-answers (w .redone)
 
-redone-told : {T T′ : List Row} {log : List Record} {a : Regrown} → Redone T log a T′ → (told a ≡ answers.done (pos (length log) ∷ [])) ⊎ ((k : ℕ) × (told a ≡ fails-after k))
+-- what 13 tells: the records before the one that fails are done
+abbrev Failing : List Record → answers.Told → Type 0
+Failing log v = (done : List Record) × (k : Record) × (left : List Record) × (log ≡ done ++ k ∷ left) × (v ≡ fails-after (length done))
+
+redone-told : {T T′ : List Row} {log : List Record} {a : Regrown} → Redone T log a T′ → (told a ≡ answers.done (pos (length log) ∷ [])) ⊎ Failing log (told a)
 redone-told (all g e) = inl (ap told e)
-redone-told (stopped m k l p g f e) = inr (length m, ap told e)
+redone-told (stopped m k l p g f e) = inr (m, k, l, p, ap told e)
 
 -- the answer tells the first refusal that holds; else 0 and how many records there are, or 13 and how many were done
 pub replay-told : {n : ℕ} {t log : List ℕ} {a : Regrown} {t′ : List ℕ} → ReplayedAs n t log a t′ →
     ((e : Refusal) × First (replay-lines n t log) (verdict.Refused e) × (told a ≡ answers.refused e))
-    ⊎ (First (replay-lines n t log) Passes × ((told a ≡ answers.done (pos (length (records log)) ∷ [])) ⊎ ((k : ℕ) × (told a ≡ fails-after k))))
+    ⊎ (First (replay-lines n t log) Passes × ((told a ≡ answers.done (pos (length (records log)) ∷ [])) ⊎ Failing (records log) (told a)))
 replay-told (refused {e = e} f ea er) = inl (e, f, ap told ea)
 replay-told (replayed f w) = inr (f, redone-told (w .redone))
