@@ -12,11 +12,11 @@ use Rattle.lines.proofs.Cut.{short-left, short-right}
 use Rattle.sheet.specs.Limits.{most-sheet-bytes, most-digits}
 use Rattle.sheet.specs.Form.{SKIN, C, R, first-line, corner-lines, row-lines, CountsIn, SheetOf}
 
-signed-size : (z : ℤ) → length (signed z) ≤ 1 + length (decimal (natAbs z))
+pub signed-size : (z : ℤ) → length (signed z) ≤ 1 + length (decimal (natAbs z))
 signed-size (pos n) = omega arith
 signed-size (negsuc n) = omega arith
 
-fields-size : (zs : List ℤ) → Short most-digits zs → length (fields zs) ≤ length zs * 8
+pub fields-size : (zs : List ℤ) → Short most-digits zs → length (fields zs) ≤ length zs * 8
 fields-size [] a = omega arith
 fields-size (z ∷ zs) a = let h = a .0 in omega (arith, length-append (signed z) (fields zs), signed-size z, fields-size zs (a .1))
 

@@ -1,0 +1,6 @@
+pub mod Writing
+pub mod Widening
+pub mod Telling
+pub mod Gathering
+pub mod Running
+pub mod Sheets

@@ -1,0 +1,4 @@
+pub mod Text
+pub mod Outcome
+pub mod Answer
+pub mod Inner

@@ -1,0 +1,59 @@
+-- The desk's whole outcome: what it has to say of any bytes, and every byte of the lent text.
+use mathlib.Core.Path.{_≡_}
+use mathlib.Core.Bool.{true}
+use mathlib.Core.List.{List, _++_}
+use Prim.Native.Nat.{ℕ, _≤_, _<_}
+use lib.IntN.{ℤ}
+use lib.ListN.{length, drop}
+use Rattle.surface.specs.Rows.{Row, rows}
+use Rattle.surface.specs.Stage.{Skin}
+use Rattle.surface.specs.Record.{Record}
+use Rattle.refusal.specs.First.{First}
+use Rattle.refusal.specs.declared.Refusal.{Refusal}
+use Rattle.refusal.specs.declared.Refusal.the-variants.{RoomShort}
+use Rattle.refusal.specs.declared.Verdict.the-variants as verdict
+use Rattle.faults.specs.Order.{lines-after-counts}
+use Rattle.run.specs.Run.{Run}
+use Rattle.least.specs.declared.Bound.the-variants.{Free}
+use Rattle.least.specs.Limited.{Allowed}
+use Rattle.sheet.specs.Form.{SheetOf, form-refusals}
+use Rattle.reply.specs.declared.Answer.{Answer}
+use Rattle.reply.specs.declared.Answer.the-variants.{Written, Refused}
+use Rattle.reply.specs.Text.{no-text, ok-text}
+
+-- the sheet b is refused: for its form, or for what it holds, 4 to 11. No room is lent for what it holds, so 3 is not asked
+pub data NoSkin (b : List ℕ) (r : Refusal) : Type 0 where
+  bad-form : First (form-refusals b) (verdict.Refused r) → NoSkin b r
+  bad-skin : {n m : ℕ} {xs : List ℤ} {t : List ℕ} → First (form-refusals b) verdict.Passes → SheetOf b n m xs t → First (lines-after-counts true xs t) (verdict.Refused r) → NoSkin b r
+
+-- the sheet b is that of a skin, with the coordinates xs and the table t: nothing stands against it
+pub record SkinOf (b : List ℕ) (xs : List ℤ) (t : List ℕ) : Type 0 where
+  pub n : ℕ
+  pub m : ℕ
+  pub form : First (form-refusals b) verdict.Passes
+  pub sheet : SheetOf b n m xs t
+  pub passes : First (lines-after-counts true xs t) verdict.Passes
+  pub skin : Skin n (rows t) xs
+
+-- txt tells the run without limit from the table t over the coordinates xs
+pub record Tells (xs : List ℤ) (t txt : List ℕ) : Type 0 where
+  pub log : List Record
+  pub last : List Row
+  pub run : Run (Allowed Free xs) (rows t) log last
+  pub text : txt ≡ ok-text xs (rows t) log last
+
+-- what the desk has to say of the bytes b
+pub data Answers (b txt : List ℕ) : Type 0 where
+  no : {r : Refusal} → NoSkin b r → txt ≡ no-text r → Answers b txt
+  ok : {xs : List ℤ} {t : List ℕ} → SkinOf b xs t → Tells xs t txt → Answers b txt
+
+-- txt in front of the lent text, the rest as it was; "room is short exactly when what is to be written does not fit"
+pub data Put (txt text : List ℕ) (a : Answer) (text′ : List ℕ) : Type 0 where
+  fits : length txt ≤ length text → a ≡ Written (length txt) → text′ ≡ txt ++ drop (length txt) text → Put txt text a text′
+  short : length text < length txt → a ≡ Refused RoomShort → text′ ≡ text → Put txt text a text′
+
+-- the answer a to the bytes b with the lent text, and what then stands there
+pub record Replied (b text : List ℕ) (a : Answer) (text′ : List ℕ) : Type 0 where
+  pub txt : List ℕ
+  pub answers : Answers b txt
+  pub put : Put txt text a text′

@@ -1,0 +1,39 @@
+-- What the desk writes: "one line, NO and the number", or the lines OK, R and K. Lines and their numbers are those of a sheet.
+use mathlib.Core.List.{List, [], _∷_, _++_, map}
+use Prim.Native.Nat.{ℕ}
+use lib.IntN.{ℤ, pos}
+use lib.ListN.{length}
+use Rattle.surface.specs.Rows.{Row, flat}
+use Rattle.surface.specs.Record.{Record}
+use Rattle.refusal.specs.declared.Refusal.{Refusal}
+use Rattle.refusal.specs.Number.{number}
+use Rattle.record.specs.Layout.{width, log-of}
+use Rattle.lines.specs.Lines.{line, lines}
+use Rattle.figure.specs.Sum.{sixfold}
+use Rattle.figure.specs.Rounding.{figure}
+use Rattle.sheet.specs.Form.{row-lines}
+
+-- the words of the lines: OK, NO, K
+abbrev pub OK : List ℕ
+OK = 79 ∷ 75 ∷ []
+
+abbrev pub NO : List ℕ
+NO = 78 ∷ 79 ∷ []
+
+abbrev pub K : List ℕ
+K = 75 ∷ []
+
+-- per record `K` and ten numbers
+abbrev pub record-lines : ℕ → List ℕ → List ℕ
+record-lines k log = lines K width k (map pos log)
+
+-- `NO` and the number
+unfoldable pub no-text : Refusal → List ℕ
+no-text r = line NO (pos (number r) ∷ [])
+
+-- "The first line has rows left, records, first and last volume": here of the run from T with the records log to the stage last, over the
+-- coordinates xs. Then each row of the last stage, and each record.
+unfoldable pub ok-text : List ℤ → List Row → List Record → List Row → List ℕ
+ok-text xs T log last =
+    line OK (pos (length last) ∷ pos (length log) ∷ figure (sixfold xs T) ∷ figure (sixfold xs last) ∷ [])
+    ++ (row-lines (length last) (flat last) ++ record-lines (length log) (log-of log))

@@ -1,0 +1,199 @@
+// The desk's answer to a sheet: read, thinned without limit, and told as text.
+use length::Order;
+use refusal::Refusal;
+use sheet::Sheet;
+use thin::Thinning;
+ghost use mathlib.Core.Path.{_≡_};
+ghost use mathlib.Core.List.{map};
+ghost use Prim.Native.Nat.{_+_, _*_, _≤_};
+ghost use lib.IntN.{pos};
+ghost use lib.ListN.{length};
+ghost use lib.Seq.{sets};
+ghost use Rattle.surface.specs.Rows.{rows};
+ghost use Rattle.text.specs.Reading.{Written};
+ghost use Rattle.lines.specs.Lines.{fields, line, lines};
+ghost use Rattle.figure.specs.Sum.{sixfold, WithCoordinates};
+ghost use Rattle.figure.specs.Rounding.{figure};
+ghost use Rattle.reply.specs.Outcome.{Put, Replied};
+ghost use Rattle.reply.specs.Inner.{most-told, Numbered, text-of, CanTell, run-text, SheetSkin, RunPut};
+
+// Numbers of a sheet's rows, of its corners, and of the log that its thinning may need.
+const NUMBERS: usize = sheet::MOST_ROWS * 3;
+
+const COORDINATES: usize = sheet::MOST_CORNERS * 3;
+
+const LOG: usize = (sheet::MOST_CORNERS - surface::LEAST_CORNERS) * record::WIDTH;
+
+// Numbers of the first line: rows left, records, first and last volume.
+const HEAD: usize = 4;
+
+// All numbers that can be told.
+const TOLD: usize = HEAD + NUMBERS + LOG;
+
+// How many bytes were written, or that the text is short.
+pub enum Answer {
+    Written(usize),
+    Refused(Refusal),
+}
+
+// How many bytes the numbers take as fields.
+fn fields_length(zs: &[i64]) -> usize
+    requires { ⌜ length (now zs) ≤ most-told ⌝ }
+    ensures { λ r. ⌜ (r ≡ length (fields (now (zs .entry)))) × (r ≤ 21 * length (now (zs .entry))) ⌝ }
+{
+    let mut n: usize = 0;
+    let mut i: usize = 0;
+    while i < zs.len() {
+        n += 1 + text::signed_length(zs[i]);
+        i += 1;
+    }
+    n
+}
+
+// Puts bytes at a place; answers the place after them. The other writers do the same with what they write.
+fn write_bytes(out: &mut [u8], at: usize, w: &[u8]) -> usize
+    requires { ⌜ at + length (now w) ≤ length (now out) ⌝ }
+    ensures { λ r. ⌜ Written (now (out .entry)) at (now (w .entry)) r (now (out .exit)) ⌝ }
+{
+    let mut k = at;
+    let mut i: usize = 0;
+    while i < w.len() {
+        out[k] = w[i];
+        k += 1;
+        i += 1;
+    }
+    k
+}
+
+// Each number after one tab.
+fn write_fields(out: &mut [u8], at: usize, zs: &[i64]) -> usize
+    requires { ⌜ at + length (fields (now zs)) ≤ length (now out) ⌝ }
+    ensures { λ r. ⌜ Written (now (out .entry)) at (fields (now (zs .entry))) r (now (out .exit)) ⌝ }
+{
+    let mut k = at;
+    let mut i: usize = 0;
+    while i < zs.len() {
+        out[k] = b'\t';
+        k = text::write_signed(out, k + 1, zs[i]);
+        i += 1;
+    }
+    k
+}
+
+// A line of a word and its numbers.
+fn write_line(out: &mut [u8], at: usize, w: &[u8], zs: &[i64]) -> usize
+    requires { ⌜ at + length (line (now w) (now zs)) ≤ length (now out) ⌝ }
+    ensures { λ r. ⌜ Written (now (out .entry)) at (line (now (w .entry)) (now (zs .entry))) r (now (out .exit)) ⌝ }
+{
+    let word = write_bytes(out, at, w);
+    let numbers = write_fields(out, word, zs);
+    write_bytes(out, numbers, b"\n")
+}
+
+// So many lines of a word, each with width numbers.
+fn write_lines(out: &mut [u8], at: usize, w: &[u8], zs: &[i64], width: usize, count: usize) -> usize
+    requires { ⌜ (count * width ≤ length (now zs)) × (at + length (lines (now w) width count (now zs)) ≤ length (now out)) ⌝ }
+    ensures { λ r. ⌜ Written (now (out .entry)) at (lines (now (w .entry)) width count (now (zs .entry))) r (now (out .exit)) ⌝ }
+{
+    let mut k = at;
+    let mut from: usize = 0;
+    let mut i: usize = 0;
+    while i < count {
+        let to = from + width;
+        k = write_line(out, k, w, &zs[from..to]);
+        from = to;
+        i += 1;
+    }
+    k
+}
+
+// Tells a first line of a word and head numbers, then rows and records; measured first, so that nothing is written where it does not fit.
+fn tell(w: &[u8], zs: &[i64], head: usize, rows: usize, records: usize, out: &mut [u8]) -> Answer
+    requires { ⌜ Numbered (now w) (now zs) head rows records ⌝ }
+    ensures { λ a. ⌜ Put (text-of (now (w .entry)) (now (zs .entry)) head rows records) (now (out .entry)) a (now (out .exit)) ⌝ }
+{
+    if out.len() < w.len() + 1 + 2 * (rows + records) + fields_length(zs) {
+        return Answer::Refused(Refusal::RoomShort);
+    }
+    let table = head + rows * 3;
+    let first = write_line(out, 0, w, &zs[..head]);
+    let second = write_lines(out, first, b"R", &zs[head..], 3, rows);
+    let third = write_lines(out, second, b"K", &zs[table..], record::WIDTH, records);
+    Answer::Written(third)
+}
+
+// Numbers of a table or a log put among those to be told.
+fn widen(ns: &[u32], zs: &mut [i64], start: usize)
+    requires { ⌜ start + length (now ns) ≤ length (now zs) ⌝ }
+    ensures { λ _. ⌜ now (zs .exit) ≡ sets (now (zs .entry)) start (map pos (now (ns .entry))) ⌝ }
+{
+    let mut i: usize = 0;
+    while i < ns.len() {
+        zs[start + i] = ns[i] as i64;
+        i += 1;
+    }
+}
+
+// Tells a last stage, its log and the two figures.
+fn tell_run(last: &[u32], log: &[u32], before: i64, after: i64, out: &mut [u8]) -> Answer
+    requires { ⌜ CanTell (now last) (now log) ⌝ }
+    ensures { λ a. ⌜ Put (run-text (now (last .entry)) (now (log .entry)) before after) (now (out .entry)) a (now (out .exit)) ⌝ }
+{
+    let rows = last.len() / 3;
+    let records = log.len() / record::WIDTH;
+    let mut zs = [0i64; TOLD];
+    zs[0] = rows as i64;
+    zs[1] = records as i64;
+    zs[2] = before;
+    zs[3] = after;
+    widen(last, &mut zs, HEAD);
+    let table = HEAD + last.len();
+    widen(log, &mut zs, table);
+    let all = table + log.len();
+    tell(b"OK", &zs[..all], HEAD, rows, records, out)
+}
+
+// The figure of a stage that is known to be one.
+fn metres(t: &[u32], xs: &[i32]) -> i64
+    requires { ⌜ WithCoordinates (rows (now t)) (now xs) ⌝ }
+    ensures { λ r. ⌜ r ≡ figure (sixfold (now (xs .entry)) (rows (now (t .entry)))) ⌝ }
+{
+    figure::cubic_metres(figure::sixfold_sum(t, xs))
+}
+
+// The answer to a skin. Its thinning is never refused: no limit is unusable, the log is long enough, and a skin passes.
+fn thinned(table: &mut [u32], corners: &[i32], out: &mut [u8]) -> Answer
+    requires { ⌜ SheetSkin (now corners) (now table) ⌝ }
+    ensures { λ a. ⌜ RunPut (now (corners .entry)) (now (table .entry)) (now (out .entry)) a (now (out .exit)) ⌝ }
+{
+    let before = metres(table, corners);
+    let mut log = [0u32; LOG];
+    let done = thin::thin(table, corners, Order::NoLimit, &mut log);
+    let Thinning::Done(k) = done else {
+        return Answer::Refused(Refusal::RoomShort);
+    };
+    let left = table.len() - k * 6;
+    let after = metres(&table[..left], corners);
+    let logged = k * record::WIDTH;
+    tell_run(&table[..left], &log[..logged], before, after, out)
+}
+
+// The desk's whole answer to any bytes.
+pub fn reply(sheet: &[u8], out: &mut [u8]) -> Answer
+    ensures { λ a. ⌜ Replied (now (sheet .entry)) (now (out .entry)) a (now (out .exit)) ⌝ }
+{
+    let mut table = [0u32; NUMBERS];
+    let mut corners = [0i32; COORDINATES];
+    let read = sheet::read_sheet(sheet, &mut table, &mut corners);
+    match read {
+        Sheet::Refused(r) => {
+            let number = [refusal::number_of(r) as i64];
+            tell(b"NO", &number, 1, 0, 0, out)
+        }
+        Sheet::Read(n, m) => {
+            let numbers = m * 3;
+            let coordinates = n * 3;
+            thinned(&mut table[..numbers], &corners[..coordinates], out)
+        }
+    }
+}
