@@ -4,3 +4,5 @@ pub mod Telling
 pub mod Gathering
 pub mod Running
 pub mod Sheets
+pub mod Most
+pub mod Main

@@ -1,13 +1,13 @@
 -- The thinning of a sheet's skin: never refused, and what it leaves is told.
 use mathlib.Core.Path.{_≡_, refl, sym, _∙_, ap, subst}
 use mathlib.Core.List.{List, [], _∷_, _++_}
-use Prim.Native.Nat.{ℕ, _+_, _-_, _*_, _/_, _%_, _≤_, _<_}
+use Prim.Native.Nat.{ℕ, _+_, _-_, _*_, _/_, _≤_}
 use native.Mathlib.Omega.{arith}
 use lib.IntN.{ℤ, pos}
 use lib.ListN.{length, length-append, take, drop, replicate, length-replicate, length-drop}
 use lib.Seq.{take-at}
 use Rattle.surface.specs.Rows.{Row, rows, flat}
-use Rattle.surface.specs.Stage.{Stage, Skin}
+use Rattle.surface.specs.Stage.{Stage}
 use Rattle.surface.specs.Record.{Record}
 use Rattle.surface.proofs.Flat.{rows-flat, flat-length, rows-length}
 use Rattle.refusal.specs.declared.Refusal.{Refusal}
@@ -32,7 +32,7 @@ use Rattle.sheet.specs.Form.{row-lines}
 use Rattle.reply.specs.declared.Answer.{Answer}
 use Rattle.reply.specs.Text.{OK, ok-text, record-lines}
 use Rattle.reply.specs.Outcome.{Put}
-use Rattle.reply.specs.Inner.{most-numbers, most-logged, CanTell, run-text, SheetSkin, RunPut}
+use Rattle.reply.specs.Inner.{most-logged, CanTell, run-text, SheetSkin, RunPut}
 
 -- the text of a last stage and its log is that of the run
 run-told : (xs : List ℤ) (T : List Row) (log : List Record) (last : List Row) → run-text (flat last) (log-of log) (figure (sixfold xs T)) (figure (sixfold xs last)) ≡ ok-text xs T log last

@@ -3,14 +3,11 @@ use mathlib.Core.Path.{_≡_, refl, sym, _∙_, ap, subst}
 use mathlib.Core.Logic.{inl, inr}
 use mathlib.Core.Bool.{true}
 use mathlib.Core.List.{List, [], _∷_, _++_, append-nil}
-use Prim.Native.Nat.{ℕ, _+_, _*_, _/_, _%_, _^_, _≤_, _<_}
+use Prim.Native.Nat.{ℕ, _*_, _≤_, _<_}
 use native.Mathlib.Omega.{arith}
 use lib.IntN.{ℤ, pos}
 use lib.ListN.{length, take, drop, replicate, length-replicate}
 use lib.Seq.{take-at}
-use mir.Syntax.{w64}
-use mir.Val.{SFits, toZ, ofZ}
-use mir.ValLaws.{toZ-ofZ}
 use Rattle.surface.specs.Limits.{least-rows, least-corners}
 use Rattle.surface.specs.Rows.{rows}
 use Rattle.surface.specs.Stage.{Skin}
@@ -25,14 +22,14 @@ use Rattle.faults.specs.Order.{lines-after-counts}
 use Rattle.sheet.specs.declared.Sheet.{Sheet}
 use Rattle.sheet.specs.declared.Sheet.the-variants.{Read, Refused}
 use Rattle.sheet.specs.Limits.{most-sheet-rows, most-sheet-corners}
-use Rattle.sheet.specs.Form.{CountsIn, CountsOut, SheetOf, form-refusals}
+use Rattle.sheet.specs.Form.{CountsIn, SheetOf, form-refusals}
 use Rattle.sheet.specs.Outcome.{NoRoom, table-short, corners-short, skin-refusals, ReadSheet, read}
 use Rattle.sheet.specs.Outcome as sheets
 use Rattle.sheet.proofs.Formed.{its-line}
 use Rattle.lines.specs.Lines.{line}
 use Rattle.reply.specs.declared.Answer.{Answer}
 use Rattle.reply.specs.Text.{NO, no-text}
-use Rattle.reply.specs.Outcome.{NoSkin, bad-form, bad-skin, SkinOf, Answers, no, ok, Put, Replied}
+use Rattle.reply.specs.Outcome.{NoSkin, bad-form, bad-skin, SkinOf, no, ok, Put, Replied}
 use Rattle.reply.specs.Inner.{most-numbers, Numbered, text-of, SheetSkin, RunPut}
 
 passes-refused : {X : Type 0} {r : Refusal} → Passes ≡ verdict.Refused r → X
@@ -51,7 +48,7 @@ not-over : (a b : ℕ) → ¬ (b < a) → a ≤ b
 not-over a b h = omega arith
 
 -- a sheet in its form has its counts within the limits
-counts-within : {b : List ℕ} {n m : ℕ} {xs : List ℤ} {t : List ℕ} → First (form-refusals b) Passes → SheetOf b n m xs t → CountsIn n m
+pub counts-within : {b : List ℕ} {n m : ℕ} {xs : List ℤ} {t : List ℕ} → First (form-refusals b) Passes → SheetOf b n m xs t → CountsIn n m
 unfolding form-refusals
 counts-within {b} {n} {m} f s =
     let no-out = passed _ _ (passed _ _ (passed _ _ f .1) .1) .0 in

@@ -1,12 +1,11 @@
 -- How long the lines are, and that one after the other they are the text.
-use mathlib.Core.Path.{_≡_, refl, sym, _∙_, ap, subst}
+use mathlib.Core.Path.{_≡_, refl, sym, _∙_, ap}
 use mathlib.Core.List.{List, [], _∷_, _++_, append-nil}
-use Prim.Native.Nat.{ℕ, zero, suc, _+_, _-_, _*_, _≤_, _<_}
+use Prim.Native.Nat.{ℕ, zero, suc, _+_, _-_, _*_, _≤_}
 use native.Mathlib.Omega.{arith}
 use lib.IntN.{ℤ}
 use lib.ListN.{length, length-append, take, drop, length-drop, take-append-drop}
-use lib.Seq.{sets, take-add, take-all, drop-drop}
-use Rattle.refusal.specs.declared.Refusal.the-variants.{RoomShort}
+use lib.Seq.{take-add, take-all, drop-drop}
 use Rattle.text.specs.Reading.{Written}
 use Rattle.record.specs.Layout.{width}
 use Rattle.lines.specs.Lines.{newline, fields, line, lines}
@@ -15,11 +14,11 @@ use Rattle.sheet.specs.Form.{R}
 use Rattle.sheet.proofs.Casts.{in-front}
 use Rattle.reply.specs.declared.Answer.the-variants as answer
 use Rattle.reply.specs.Text.{K}
-use Rattle.reply.specs.Outcome.{Put, fits, short}
+use Rattle.reply.specs.Outcome.{Put, fits}
 use Rattle.reply.specs.Inner.{Numbered, text-of}
 use Rattle.reply.proofs.Writing.{Onward, onward-start, onward, onward-end, onward-fits, onward-front}
 
-line-length : (w : List ℕ) (zs : List ℤ) → length (line w zs) ≡ length w + 1 + length (fields zs)
+pub line-length : (w : List ℕ) (zs : List ℤ) → length (line w zs) ≡ length w + 1 + length (fields zs)
 line-length w zs = omega (arith, length-append w (fields zs ++ (newline ∷ [])), length-append (fields zs) (newline ∷ []))
 
 -- the fields of two lists of numbers, one after the other

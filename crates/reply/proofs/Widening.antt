@@ -1,14 +1,14 @@
 -- Numbers of a table or a log, put one by one among the signed ones.
-use mathlib.Core.Path.{_≡_, refl, sym, _∙_, ap, subst}
-use mathlib.Core.List.{List, [], _∷_, map}
-use Prim.Native.Nat.{ℕ, zero, suc, _+_, _^_, _≤_, _<_}
+use mathlib.Core.Path.{_≡_, refl, sym, _∙_, ap}
+use mathlib.Core.List.{List, map}
+use Prim.Native.Nat.{ℕ, suc, _+_, _≤_, _<_}
 use native.Mathlib.Omega.{arith}
 use native.Mathlib.Numerals.{add-one}
 use lib.IntN.{ℤ, pos}
 use lib.ListN.{length, drop, getD, set, length-set}
 use lib.Seq.{sets, drop-cons}
 use mir.Syntax.{w32, w64}
-use mir.Val.{Fits, SFits, toZ, ofZ}
+use mir.Val.{Fits, SFits, toZ}
 use mir.ValLaws.{toZ-ofZ}
 use Rattle.reply.proofs.Writing.{all-written}
 

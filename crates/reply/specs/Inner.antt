@@ -1,6 +1,6 @@
 -- What the inner functions ask and give.
 use mathlib.Core.Path.{_≡_}
-use mathlib.Core.List.{List, [], _∷_, _++_, map}
+use mathlib.Core.List.{List, [], _∷_, _++_}
 use Prim.Native.Nat.{ℕ, _+_, _-_, _*_, _/_, _%_, _≤_}
 use lib.IntN.{ℤ, pos}
 use lib.ListN.{length, take, drop}

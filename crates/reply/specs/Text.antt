@@ -23,6 +23,10 @@ NO = 78 ∷ 79 ∷ []
 abbrev pub K : List ℕ
 K = 75 ∷ []
 
+-- bytes that suffice for whatever the desk has to say
+abbrev pub most-text : ℕ
+most-text = 65536
+
 -- per record `K` and ten numbers
 abbrev pub record-lines : ℕ → List ℕ → List ℕ
 record-lines k log = lines K width k (map pos log)

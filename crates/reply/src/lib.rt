@@ -30,6 +30,9 @@ const HEAD: usize = 4;
 // All numbers that can be told.
 const TOLD: usize = HEAD + NUMBERS + LOG;
 
+// Bytes that suffice for whatever the desk has to say.
+pub const MOST_TEXT: usize = 65536;
+
 // How many bytes were written, or that the text is short.
 pub enum Answer {
     Written(usize),
@@ -172,15 +175,16 @@ fn thinned(table: &mut [u32], corners: &[i32], out: &mut [u8]) -> Answer
     let Thinning::Done(k) = done else {
         return Answer::Refused(Refusal::RoomShort);
     };
+    // a record takes two rows
     let left = table.len() - k * 6;
     let after = metres(&table[..left], corners);
     let logged = k * record::WIDTH;
     tell_run(&table[..left], &log[..logged], before, after, out)
 }
 
-// The desk's whole answer to any bytes.
-pub fn reply(sheet: &[u8], out: &mut [u8]) -> Answer
-    ensures { λ a. ⌜ Replied (now (sheet .entry)) (now (out .entry)) a (now (out .exit)) ⌝ }
+// The desk's whole answer to any bytes, in front of the lent text; the rest of it stays. Where it does not fit, nothing is written.
+pub fn reply(sheet: &[u8], text: &mut [u8]) -> Answer
+    ensures { λ a. ⌜ Replied (now (sheet .entry)) (now (text .entry)) a (now (text .exit)) ⌝ }
 {
     let mut table = [0u32; NUMBERS];
     let mut corners = [0i32; COORDINATES];
@@ -188,12 +192,12 @@ pub fn reply(sheet: &[u8], out: &mut [u8]) -> Answer
     match read {
         Sheet::Refused(r) => {
             let number = [refusal::number_of(r) as i64];
-            tell(b"NO", &number, 1, 0, 0, out)
+            tell(b"NO", &number, 1, 0, 0, text)
         }
         Sheet::Read(n, m) => {
             let numbers = m * 3;
             let coordinates = n * 3;
-            thinned(&mut table[..numbers], &corners[..coordinates], out)
+            thinned(&mut table[..numbers], &corners[..coordinates], text)
         }
     }
 }

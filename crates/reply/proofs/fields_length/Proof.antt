@@ -1,5 +1,5 @@
 -- `fields_length` meets its contract: what is counted and what is left make the whole.
-use mathlib.Core.Path.{_≡_, refl, subst, ap}
+use mathlib.Core.Path.{_≡_, ap}
 use Prim.Native.Nat.{_+_, _-_, _*_, _≤_}
 use mir.Syntax.{w64}
 use mir.Val.{SFits}

@@ -3,7 +3,6 @@ use mathlib.Core.Path.{_∙_, ap}
 use mir.Syntax.{w64}
 use mir.ValLaws.{toZ-ofZ}
 use Rattle.figure.specs.Rounding.{figure}
-use native.Mathlib.Omega.{arith}
 use borrow.Author.Needs.{needs}
 use Rattle.reply.proofs.metres.Statement.{statement}
 use Rattle.reply.proofs.metres.Tie as tie

@@ -1,13 +1,10 @@
 -- `reply` meets its contract: the sheet is refused and its number told, or it is read, thinned and told.
-use mathlib.Core.Path.{_≡_, refl, sym, _∙_, ap}
-use Prim.Native.Nat.{ℕ, _*_, _≤_}
+use mathlib.Core.Path.{sym, _∙_, ap}
+use Prim.Native.Nat.{_*_}
 use lib.IntN.{pos}
-use lib.ListN.{length}
 use lib.Seq.{length-take-le}
 use mir.Syntax.{w64}
-use mir.Val.{toZ}
 use mir.ValLaws.{toZ-ofZ}
-use Rattle.refusal.specs.Number.{number}
 use Rattle.reply.proofs.Sheets.{sheet-refused, no-numbered, replied-no, sheet-read, replied-ok}
 use native.Mathlib.Omega.{arith}
 use borrow.Author.Needs.{needs}

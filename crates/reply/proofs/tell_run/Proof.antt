@@ -1,12 +1,11 @@
 -- `tell_run` meets its contract: the numbers in the order of the lines, then told.
-use mathlib.Core.Path.{refl, sym, subst}
+use mathlib.Core.Path.{refl}
 use lib.IntN.{pos}
 use lib.ListN.{replicate, length-replicate}
 use mir.Syntax.{w64}
 use mir.ValLaws.{toZ-ofZ}
 use Rattle.reply.specs.Inner.{most-told}
 use Rattle.reply.proofs.Gathering.{count-fits, count-is, few-rows, few-records, gathered-length, gathered-numbered, gathered-text}
-use native.Mathlib.Omega.{arith}
 use borrow.Author.Needs.{needs}
 use Rattle.reply.proofs.tell_run.Statement.{statement}
 use Rattle.reply.proofs.tell_run.Tie as tie

@@ -1,5 +1,5 @@
 -- `thinned` meets its contract: the run without limit, its figures, and the text of both.
-use mathlib.Core.Path.{_≡_, refl, sym, _∙_}
+use mathlib.Core.Path.{sym, _∙_}
 use Prim.Native.Nat.{_-_, _*_}
 use lib.Seq.{length-take-le}
 use lib.ListN.{length}

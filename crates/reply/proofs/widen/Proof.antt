@@ -1,10 +1,6 @@
 -- `widen` meets its contract: what is left of the numbers goes on being put.
-use mathlib.Core.Path.{_≡_, refl, subst, ap}
-use mathlib.Core.List.{map}
-use Prim.Native.Nat.{_+_, _-_, _*_, _≤_}
-use lib.IntN.{pos}
-use lib.ListN.{length, drop}
-use lib.Seq.{sets}
+use Prim.Native.Nat.{_-_}
+use lib.ListN.{length}
 use Rattle.reply.proofs.Widening.{Widening, widen-start, widened-fits, widen-more, widen-end}
 use native.Mathlib.Omega.{arith}
 use borrow.Author.Needs.{needs}

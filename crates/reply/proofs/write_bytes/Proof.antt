@@ -1,6 +1,5 @@
 -- `write_bytes` meets its contract: what is left of the bytes goes on being written.
-use mathlib.Core.Path.{_≡_, refl, subst, ap}
-use mathlib.Core.List.{[]}
+use mathlib.Core.Path.{subst}
 use Prim.Native.Nat.{_-_, _≤_}
 use lib.ListN.{length, drop}
 use Rattle.reply.proofs.Writing.{Onward, onward-start, onward-end, byte-fits, byte-written, all-written}

@@ -1,6 +1,5 @@
 -- `write_fields` meets its contract: what is left of the fields goes on being written.
-use mathlib.Core.Path.{_≡_, refl, subst, ap}
-use mathlib.Core.List.{[]}
+use mathlib.Core.Path.{subst, ap}
 use Prim.Native.Nat.{_-_, _≤_}
 use mir.Syntax.{w64}
 use mir.Val.{SFits}

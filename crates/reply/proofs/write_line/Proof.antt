@@ -1,6 +1,5 @@
 -- `write_line` meets its contract: the word, the fields, one newline.
 use Rattle.reply.proofs.Writing.{word-fits, numbers-fit, newline-fits, line-written}
-use native.Mathlib.Omega.{arith}
 use borrow.Author.Needs.{needs}
 use Rattle.reply.proofs.write_line.Statement.{statement}
 use Rattle.reply.proofs.write_line.Tie as tie
