@@ -18,8 +18,8 @@ pub counted : (n : ℕ) (l : List ℕ) → n ≤ length l → Counts n l
 counted n l h = (h, sym (length-take-le n l h))
 
 module _ {b text text′ : List ℕ} {a : Answer} (enough : most-text ≤ length text) (r : Replied b text a text′) where
-  pub in-front : {n : ℕ} → a ≡ Written n → Answers b (take n text′) × Counts n text′
-  in-front {n} e =
+  pub stands-there : {n : ℕ} → a ≡ Written n → Answers b (take n text′) × Counts n text′
+  stands-there {n} e =
       let s = reply-suffices enough r in
       let t = r .txt in
       let k : n ≡ length t = same (sym e ∙ s .0) in

@@ -48,7 +48,7 @@ fn answer(bytes: &[u8], text: &mut [u8]) -> usize
     }
 }
 
-// What goes wrong is said on standard error.
+// What goes wrong is said on standard error. A program of this language always ends with status 0.
 fn main() {
     let mut room = [0u8; INPUT];
     let mut text = [0u8; reply::MOST_TEXT];

@@ -1,5 +1,5 @@
 -- `answer` meets its contract: the text is never short.
-use Rattle.desk.proofs.Front.{in-front, never-short}
+use Rattle.desk.proofs.Front.{stands-there, never-short}
 use borrow.Author.Needs.{needs}
 use Rattle.desk.proofs.answer.Statement.{statement}
 use Rattle.desk.proofs.answer.Tie as tie
@@ -20,7 +20,7 @@ returns : tie.Need-returns
 returns c =
     let pre = c .before .before .before .before .before .before .before .before .before .pre in
     let reply = c .before .before .before .before .before .reply in
-    in-front pre (reply .ensures) (c .before .a .given .1)
+    stands-there pre (reply .ensures) (c .before .a .given .1)
 
 same-length-2 : tie.Need-same-length-2
 same-length-2 c = search needs
