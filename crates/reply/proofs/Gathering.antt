@@ -18,7 +18,7 @@ use Rattle.reply.specs.Inner.{head, most-told, Numbered, text-of, CanTel
 use Rattle.reply.proofs.Writing.{sets-append}
 
 -- a small number as the machine has it with a sign
-pub count-fits : (n : ℕ) → n ≤ most-told → SFits w64 (pos n)
+count-fits : (n : ℕ) → n ≤ most-told → SFits w64 (pos n)
 count-fits n h = record { sfits = omega arith }
 
 pub count-is : (n : ℕ) → n ≤ most-told → toZ w64 n ≡ pos n

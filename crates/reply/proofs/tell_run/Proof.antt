@@ -5,25 +5,28 @@ use lib.ListN.{replicate, length-replicate}
 use mir.Syntax.{w64}
 use mir.ValLaws.{toZ-ofZ}
 use Rattle.reply.specs.Inner.{most-told}
-use Rattle.reply.proofs.Gathering.{count-fits, count-is, few-rows, few-records, gathered-length, gathered-numbered, gathered-text}
+use Rattle.reply.proofs.Gathering.{count-is, few-rows, few-records, gathered-length, gathered-numbered, gathered-text}
+use native.Mathlib.Omega.{arith}
 use borrow.Author.Needs.{needs}
 use Rattle.reply.proofs.tell_run.Statement.{statement}
 use Rattle.reply.proofs.tell_run.Tie as tie
 
 cast-zs : tie.Need-cast-zs
 cast-zs c =
-    let args = c .before .before .before .args in
     let pre = c .before .before .before .pre in
-    count-fits _ (few-rows (args .last .now) (args .log .now) (args .before) (args .after) pre)
+    let a = pre .most-rows in
+    let b = pre .most-records in
+    record { sfits = omega arith }
 
 array-set-from-zs : tie.Need-array-set-from-zs
 array-set-from-zs c = search needs
 
 cast-zs-2 : tie.Need-cast-zs-2
 cast-zs-2 c =
-    let args = c .before .before .before .args in
     let pre = c .before .before .before .pre in
-    count-fits _ (few-records (args .last .now) (args .log .now) (args .before) (args .after) pre)
+    let a = pre .most-rows in
+    let b = pre .most-records in
+    record { sfits = omega arith }
 
 array-set-from-zs-2 : tie.Need-array-set-from-zs-2
 array-set-from-zs-2 c = search needs
