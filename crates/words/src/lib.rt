@@ -1,0 +1,272 @@
+// Lists of numbers as words on standard input and standard output: eight bytes each, the lowest first, two's complement.
+ghost use mathlib.Core.Path.{_≡_};
+ghost use Prim.Native.Nat.{_+_, _≤_};
+ghost use lib.ListN.{length};
+ghost use Rattle.words.specs.Part.{PartOf};
+
+// The most numbers that a list may have, and the most bytes.
+pub const MOST_NUMBERS: usize = 16384;
+
+pub const MOST_BYTES: usize = 131072;
+
+// Inner: rooms for lists. The `ensures` gives only the length, which lending a part of one needs.
+pub fn numbers_room() -> [u32; MOST_NUMBERS]
+    ensures { λ r. ⌜ 16384 ≡ length r ⌝ }
+{
+    [0; MOST_NUMBERS]
+}
+
+pub fn coordinates_room() -> [i32; MOST_NUMBERS]
+    ensures { λ r. ⌜ 16384 ≡ length r ⌝ }
+{
+    [0; MOST_NUMBERS]
+}
+
+pub fn bytes_room() -> [u8; MOST_BYTES]
+    ensures { λ r. ⌜ 131072 ≡ length r ⌝ }
+{
+    [0; MOST_BYTES]
+}
+
+// Inner: how much of a room a list of so many words takes: as many, and never more than there are. It takes the room and not its length, so
+// that lending the part needs no proof of its own.
+pub fn part_of_numbers(n: usize, room: &[u32]) -> usize
+    ensures { λ r. ⌜ PartOf r (now (room .entry)) ⌝ }
+{
+    least(n, room.len())
+}
+
+pub fn part_of_coordinates(n: usize, room: &[i32]) -> usize
+    ensures { λ r. ⌜ PartOf r (now (room .entry)) ⌝ }
+{
+    least(n, room.len())
+}
+
+pub fn part_of_bytes(n: usize, room: &[u8]) -> usize
+    ensures { λ r. ⌜ PartOf r (now (room .entry)) ⌝ }
+{
+    least(n, room.len())
+}
+
+fn least(a: usize, b: usize) -> usize
+    ensures { λ r. ⌜ r ≤ b ⌝ }
+{
+    if a < b { a } else { b }
+}
+
+// A word that was read, or that there is none.
+pub enum Word {
+    Is(u64),
+    Nothing,
+}
+
+// A signed number that a word is, or that it is none of its type.
+enum Signed {
+    Is(i32),
+    Nothing,
+}
+
+fn wide(x: u8) -> u64 {
+    x as u64
+}
+
+// The word whose bytes stand from place i on.
+fn word_at(b: &[u8], i: usize) -> u64
+    requires { ⌜ i + 8 ≤ length (now b) ⌝ }
+{
+    let low = wide(b[i]) | (wide(b[i + 1]) << 8) | (wide(b[i + 2]) << 16) | (wide(b[i + 3]) << 24);
+    let high = wide(b[i + 4])
+        | (wide(b[i + 5]) << 8)
+        | (wide(b[i + 6]) << 16)
+        | (wide(b[i + 7]) << 24);
+    low | (high << 32)
+}
+
+fn lowest(w: u64) -> u8 {
+    (w % 256) as u8
+}
+
+// Writes a word's bytes from place i on.
+fn put_word(b: &mut [u8], i: usize, w: u64)
+    requires { ⌜ i + 8 ≤ length (now b) ⌝ }
+{
+    let mut left = w;
+    let mut k: usize = 0;
+    while k < 8 {
+        b[i + k] = lowest(left);
+        left = left / 256;
+        k += 1;
+    }
+}
+
+// Inner: the word of a signed number.
+pub fn word_of(x: i64) -> u64 {
+    if x < 0 {
+        return std::num::wrapping_sub_u64(0, ints::size(x));
+    }
+    ints::size(x)
+}
+
+// The signed number that a word is.
+fn signed_of(w: u64) -> Signed {
+    if w < 2147483648 {
+        return Signed::Is(w as i32);
+    }
+    let size = std::num::wrapping_sub_u64(0, w);
+    if size == 2147483648 {
+        return Signed::Is(-2147483648);
+    }
+    if 2147483648 < size {
+        return Signed::Nothing;
+    }
+    let s = size as i32;
+    Signed::Is(-s)
+}
+
+// Inner: the next word of the input.
+pub fn read_word() -> Word {
+    let mut b = [0u8; 8];
+    if io::read_full(0, &mut b) < 8 {
+        return Word::Nothing;
+    }
+    Word::Is(word_at(&b, 0))
+}
+
+// Inner: the length of the list that comes next; one more than the most where it has more or there is none.
+pub fn read_length(most: usize) -> usize
+    requires { ⌜ most ≤ 131072 ⌝ }
+{
+    let w = read_word();
+    match w {
+        Word::Nothing => most + 1,
+        Word::Is(n) => {
+            if (most as u64) < n {
+                return most + 1;
+            }
+            n as usize
+        }
+    }
+}
+
+// Inner: fills a list with the next words of the input; false where there are not as many, or one is not of its type.
+pub fn read_numbers(out: &mut [u32]) -> bool {
+    let mut i: usize = 0;
+    while i < out.len() {
+        let w = read_word();
+        match w {
+            Word::Nothing => return false,
+            Word::Is(v) => {
+                if 4294967295 < v {
+                    return false;
+                }
+                out[i] = v as u32;
+            }
+        }
+        i += 1;
+    }
+    true
+}
+
+// The next word of the input as a signed number.
+fn read_signed() -> Signed {
+    let w = read_word();
+    match w {
+        Word::Nothing => Signed::Nothing,
+        Word::Is(v) => signed_of(v),
+    }
+}
+
+// Inner: the same for coordinates.
+pub fn read_coordinates(out: &mut [i32]) -> bool {
+    let mut i: usize = 0;
+    while i < out.len() {
+        let s = read_signed();
+        match s {
+            Signed::Nothing => return false,
+            Signed::Is(x) => {
+                out[i] = x;
+            }
+        }
+        i += 1;
+    }
+    true
+}
+
+// Inner: the same for bytes.
+pub fn read_bytes(out: &mut [u8]) -> bool {
+    let mut i: usize = 0;
+    while i < out.len() {
+        let w = read_word();
+        match w {
+            Word::Nothing => return false,
+            Word::Is(v) => {
+                if 255 < v {
+                    return false;
+                }
+                out[i] = v as u8;
+            }
+        }
+        i += 1;
+    }
+    true
+}
+
+// Inner: writes a word; whether it was taken.
+pub fn write_word(w: u64) -> bool {
+    let mut b = [0u8; 8];
+    put_word(&mut b, 0, w);
+    io::write_all(1, &b)
+}
+
+// Inner: writes a list, its length first; whether all was taken.
+pub fn write_numbers(l: &[u32]) -> bool {
+    if !write_word(l.len() as u64) {
+        return false;
+    }
+    let mut i: usize = 0;
+    while i < l.len() {
+        if !write_word(number(l[i])) {
+            return false;
+        }
+        i += 1;
+    }
+    true
+}
+
+fn number(x: u32) -> u64 {
+    x as u64
+}
+
+// Inner: the same for coordinates.
+pub fn write_coordinates(l: &[i32]) -> bool {
+    if !write_word(l.len() as u64) {
+        return false;
+    }
+    let mut i: usize = 0;
+    while i < l.len() {
+        if !write_word(word_of(long(l[i]))) {
+            return false;
+        }
+        i += 1;
+    }
+    true
+}
+
+fn long(x: i32) -> i64 {
+    x as i64
+}
+
+// Inner: the same for bytes.
+pub fn write_bytes(l: &[u8]) -> bool {
+    if !write_word(l.len() as u64) {
+        return false;
+    }
+    let mut i: usize = 0;
+    while i < l.len() {
+        if !write_word(wide(l[i])) {
+            return false;
+        }
+        i += 1;
+    }
+    true
+}
