@@ -2,15 +2,15 @@
 use mathlib.Core.Path.{_≡_, refl, sym, _∙_, ap}
 use mathlib.Core.Logic.{_≢_, inl, inr}
 use mathlib.Core.Bool.{Bool, true}
-use mathlib.Core.List.{List, [], _∷_, List·Memᴰ·head, List·Memᴰ·tail}
-use Prim.Native.Nat.{ℕ, zero, suc, _*_, _≤_, _<_, _%_}
+use mathlib.Core.List.{List, [], _∷_, List·Memᴰ·head, List·Memᴰ·tail, _++_}
+use Prim.Native.Nat.{ℕ, zero, suc, _-_, _*_, _≤_, _<_, _%_}
 use native.Mathlib.Decide.{ℕ-discrete}
 use native.Mathlib.Omega.{arith}
 use lib.Dec.{T as So, leb, leb→le, le→leb}
 use lib.Ieee.{binary64, ofBits, ofFields, odd}
 use lib.Count.{trailingZeros}
 use lib.IntN.{ℤ, pos, negℤ}
-use lib.ListN.{length, take}
+use lib.ListN.{length, take, replicate}
 use Rattle.surface.specs.Rows.{Row, row, rows, flat}
 use Rattle.surface.specs.Table.{edges}
 use Rattle.surface.specs.Stage.{Skin, StageTable, InRange}
@@ -49,11 +49,15 @@ use Rattle.thin.specs.Order.{asked}
 use Rattle.thin.specs.Thin.{need, thin-lines, Thinned, ThinnedAs, refused, done}
 use Rattle.thin.proofs.Main.{thinned-one, thin-passes}
 use Rattle.thin.proofs.Judging.{under-usable}
+use Rattle.regrow.specs.declared.Regrown.the-variants as regrown
+use Rattle.replay.specs.Redone.{all}
+use Rattle.replay.specs.Outcome.{ReplayFits, replayed}
+use Rattle.replay.proofs.Main.{replay-passes, replay-one}
 use Rattle.surface.proofs.Testing.{every}
 use Rattle.computed.proofs.Passing.{row-fits, rows-below, passes, passes-stage}
 use Rattle.computed.proofs.Running.{Passing, least, over, Steps, stays-at, goes-on, steps-taken, run-sound, run-same}
 use Rattle.cases.specs.Skins.{T, T-corners, T-turned, O, O-corners, M, M-corners}
-use Rattle.cases.specs.Cases.{Case, thins, weighs, changes, leads, Holds, cm-141, cm-142, lent, O-last, O-log, O-one, O-two, starred, All, all-none, all-more}
+use Rattle.cases.specs.Cases.{Case, thins, weighs, changes, replays, Holds, cm-141, cm-142, lent, O-last, O-log, O-one, O-two, starred, All, all-none, all-more}
 use Rattle.cases.proofs.Skinned.{T-skin, O-skin, M-skin}
 
 -- the listed outcome is the only one
@@ -201,21 +205,44 @@ unfolding rows sixfold determinant minor figure
 changes-both = changed O O-two (O-skin .corners) (O-skin .in-range) O-table O-two-table refl
 
 -- O's stages
-leads-one : Holds (leads O (take 10 O-log) O-one)
-unfolding edges rows contract renumber replace stays? holds? ℕ-discrete leaving later first-records
-leads-one = taken-replayed (steps-taken any (goes-on {k = k₁} tt refl (stays-at refl)))
+first-step : Replayed (rows O) (k₁ ∷ []) (rows O-one)
+unfolding edges rows contract renumber replace stays? holds? ℕ-discrete leaving later
+first-step = taken-replayed (steps-taken any (goes-on {k = k₁} tt refl (stays-at refl)))
 
 pub second-step : Replayed (rows O-one) (k₂ ∷ []) (rows O-two)
 unfolding edges rows contract renumber replace stays? holds? ℕ-discrete leaving later
 second-step = taken-replayed (steps-taken any (goes-on {k = k₂} tt refl (stays-at refl)))
 
-leads-two : Holds (leads O O-log O-two)
-unfolding edges rows contract renumber replace stays? holds? ℕ-discrete leaving later first-records
-leads-two = taken-replayed (steps-taken any (goes-on {k = k₁} tt refl (goes-on {k = k₂} tt refl (stays-at refl))))
+both-steps : Replayed (rows O) (k₁ ∷ k₂ ∷ []) (rows O-two)
+unfolding edges rows contract renumber replace stays? holds? ℕ-discrete leaving later
+both-steps = taken-replayed (steps-taken any (goes-on {k = k₁} tt refl (goes-on {k = k₂} tt refl (stays-at refl))))
+
+-- a log that leads from O to T is replayed whole, and nothing else is allowed
+replayed-only : (l : List ℕ) (k : ℕ) (u : List ℕ) {T : List Row} → ReplayFits 6 O l → Replayed (rows O) (records l) T → k ≡ length (records l) → u ≡ flat T ++ replicate (length O - length (flat T)) 0 →
+    Holds (replays 6 O l k u)
+replayed-only l k u {T} fits r e f =
+    let h = replayed (replay-passes 6 O l fits (O-skin .stage)) (record { table = T; redone = all r (ap regrown.Done e); left = f }) in
+    (h, λ b v w. replay-one w h)
+
+O-fits : (l : List ℕ) → length l % 10 ≡ 0 → length l ≤ 20 → ReplayFits 6 O l
+unfolding rows
+O-fits l h m = record {
+  counts = record { table = record { threes = refl; count = record { least = omega arith; most = omega arith } }; count = record { few = omega arith; many = omega arith } };
+  tens = h;
+  least = omega arith;
+}
+
+replays-one : Holds (replays 6 O (take 10 O-log) 1 (O-one ++ replicate 6 0))
+unfolding rows flat first-records
+replays-one = replayed-only (take 10 O-log) 1 (O-one ++ replicate 6 0) (O-fits (take 10 O-log) refl (omega arith)) first-step refl refl
+
+replays-two : Holds (replays 6 O O-log 2 O-last)
+unfolding rows flat first-records
+replays-two = replayed-only O-log 2 O-last (O-fits O-log refl (omega arith)) both-steps refl refl
 
 -- every starred case holds
 pub all-starred : All Holds starred
 all-starred =
     all-more case-T (all-more case-turned (all-more case-O (all-more case-141 (all-more case-142 (all-more case-M
-    (all-more leads-one (all-more leads-two (all-more weighs-T (all-more weighs-O (all-more weighs-one (all-more weighs-two
+    (all-more replays-one (all-more replays-two (all-more weighs-T (all-more weighs-O (all-more weighs-one (all-more weighs-two
     (all-more changes-one (all-more changes-two (all-more changes-both all-none))))))))))))))

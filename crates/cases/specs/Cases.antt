@@ -1,13 +1,11 @@
 -- The starred cases of 01, one list: each an input of a public call, and the outcome that alone its contract allows.
 use mathlib.Core.Path.{_≡_}
-use mathlib.Core.List.{List, [], _∷_}
+use mathlib.Core.List.{List, [], _∷_, _++_}
 use Prim.Native.Nat.{ℕ}
 use lib.IntN.{ℤ, pos, negℤ}
 use lib.Ieee.{binary64, ofBits}
 use lib.ListN.{replicate, take}
 use Rattle.surface.specs.Rows.{rows}
-use Rattle.surface.specs.Record.{Replayed}
-use Rattle.record.specs.Layout.{records}
 use Rattle.refusal.specs.declared.Refusal.the-variants.{EdgeTwice}
 use Rattle.length.specs.declared.Order.{Order}
 use Rattle.length.specs.declared.Order.the-variants.{NoLimit, Limit}
@@ -20,6 +18,9 @@ use Rattle.volume.specs.Report.{VolumeReport, ChangeReport}
 use Rattle.thin.specs.declared.Thinning.{Thinning}
 use Rattle.thin.specs.declared.Thinning.the-variants.{Done, Refused}
 use Rattle.thin.specs.Thin.{Thinned}
+use Rattle.regrow.specs.declared.Regrown.{Regrown}
+use Rattle.regrow.specs.declared.Regrown.the-variants as regrown
+use Rattle.replay.specs.Outcome.{ReplayedAs}
 use Rattle.cases.specs.Skins.{T, T-corners, T-turned, O, O-corners, M, M-corners}
 
 pub data Case : Type 0 where
@@ -29,15 +30,15 @@ pub data Case : Type 0 where
   weighs : List ℤ → List ℕ → ℤ → ℤ → Case
   -- corners, earlier and later table; then the change
   changes : List ℤ → List ℕ → List ℕ → ℤ → Case
-  -- a table and a log; then the stage that its records lead to
-  leads : List ℕ → List ℕ → List ℕ → Case
+  -- corner count, table and log; then how many records were done, and what stands in the table
+  replays : ℕ → List ℕ → List ℕ → ℕ → List ℕ → Case
 
 -- the listed outcome is one that the call's contract allows, and every outcome that it allows is the one listed
 abbrev pub Holds : Case → Type 0
 Holds (thins o xs t l a t′ l′) = Thinned o xs t l a t′ l′ × ((b : Thinning) (u m : List ℕ) → Thinned o xs t l b u m → (b ≡ a) × (u ≡ t′) × (m ≡ l′))
 Holds (weighs xs t s f) = (sixfold xs (rows t) ≡ s) × VolumeReport xs t (told (Figure f)) × ((b : Measured) → VolumeReport xs t (told b) → b ≡ Figure f)
 Holds (changes xs t u f) = ChangeReport xs t u (told (Figure f)) × ((b : Measured) → ChangeReport xs t u (told b) → b ≡ Figure f)
-Holds (leads t l u) = Replayed (rows t) (records l) (rows u)
+Holds (replays n t l k u) = ReplayedAs n t l (regrown.Done k) u × ((b : Regrown) (v : List ℕ) → ReplayedAs n t l b v → (b ≡ regrown.Done k) × (v ≡ u))
 
 -- limits of 141 and 142 cm
 abbrev pub cm-141 : Order
@@ -72,8 +73,8 @@ starred =
     ∷ thins cm-141 O-corners O (lent 20) (Done 0) O (lent 20)
     ∷ thins cm-142 O-corners O (lent 20) (Done 2) O-last O-log
     ∷ thins NoLimit M-corners M (lent 30) (Done 0) M (lent 30)
-    ∷ leads O (take 10 O-log) O-one
-    ∷ leads O O-log O-two
+    ∷ replays 6 O (take 10 O-log) 1 (O-one ++ replicate 6 0)
+    ∷ replays 6 O O-log 2 O-last
     ∷ weighs T-corners T (negℤ (pos 27000000)) (negℤ (pos 5))
     ∷ weighs O-corners O (pos 8000000) (pos 1)
     ∷ weighs O-corners O-one (pos 4000000) (pos 1)

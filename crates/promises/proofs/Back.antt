@@ -24,7 +24,8 @@ use Rattle.least.specs.Limited.{Allowed}
 use Rattle.thin.specs.declared.Asked.{Asked}
 use Rattle.thin.specs.declared.Thinning.the-variants as thinning
 use Rattle.thin.specs.Thin.{Thinned}
-use Rattle.thin.proofs.Main.{RunOf, thinned-run}
+use Rattle.thin.specs.Run.{RunOf}
+use Rattle.thin.proofs.Main.{thinned-run}
 use Rattle.grow.specs.Room.{standing, filled}
 use Rattle.regrow.specs.declared.Regrown.{Regrown}
 use Rattle.regrow.specs.declared.Regrown.the-variants.{Done}
@@ -35,11 +36,8 @@ use Rattle.regrow.proofs.Main.{restores}
 use Rattle.replay.specs.Outcome.{ReplayFits, ReplayedAs}
 use Rattle.replay.proofs.One.{replayed-one}
 use Rattle.replay.proofs.Main.{replays-whole}
+use Rattle.promises.specs.Thinning.{left-of}
 use Rattle.promises.proofs.Logged.{front-log, rest-log}
-
--- a table of the rows T in front, and zeros in the rest of the first table's length
-abbrev left-of : List ℕ → List Row → List ℕ
-left-of t T = flat T ++ replicate (length t - length (flat T)) 0
 
 drop-zeros : (m n : ℕ) → drop m (replicate {A = ℕ} n 0) ≡ replicate (n - m) 0
 drop-zeros zero n = let e : n ≡ n - 0 = omega arith in ap (λ k. replicate k 0) e

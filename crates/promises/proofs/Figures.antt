@@ -17,7 +17,7 @@ use Rattle.least.specs.declared.Bound.the-variants.{Within}
 use Rattle.least.specs.Limited.{Allowed}
 use Rattle.thin.specs.declared.Asked.{Asked}
 use Rattle.thin.specs.declared.Asked.the-variants.{Under}
-use Rattle.thin.proofs.Main.{RunOf}
+use Rattle.thin.specs.Run.{RunOf}
 use Rattle.volume.specs.declared.Measured.{Measured}
 use Rattle.volume.specs.Answer as volumes
 use Rattle.volume.specs.Report.{VolumeReport, ChangeReport, Near}

@@ -1,3 +1,5 @@
 pub mod Logged
 pub mod Figures
 pub mod Back
+pub mod Refusing
+pub mod Whole

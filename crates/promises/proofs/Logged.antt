@@ -9,7 +9,7 @@ use Rattle.surface.specs.Record.{Record}
 use Rattle.record.specs.Layout.{width, log-of}
 use Rattle.record.proofs.Log.{log-length, log-append}
 use Rattle.thin.specs.declared.Asked.{Asked}
-use Rattle.thin.proofs.Main.{RunOf}
+use Rattle.thin.specs.Run.{RunOf}
 
 module _ {a : Asked} {xs : List ℤ} {t l : List ℕ} {k : ℕ} {t′ l′ : List ℕ} (w : RunOf a xs t l k t′ l′) (p q : List Record) (e : w .log ≡ p ++ q) where
   -- the first ones

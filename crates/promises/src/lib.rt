@@ -1,1 +1,1 @@
-// The promises that join two calls. No function stands here.
+// The promises: the three demands, and that nothing is left to choose. No function stands here.

@@ -26,7 +26,8 @@ use Rattle.thin.specs.declared.Asked.the-variants.{Under, NoUse}
 use Rattle.thin.specs.declared.Thinning.{Thinning}
 use Rattle.thin.specs.declared.Thinning.the-variants.{Done, Refused}
 use Rattle.thin.specs.Thin.{ThinnedAs}
-use Rattle.thin.proofs.Main.{RunOf, thinned-run, accepted}
+use Rattle.thin.specs.Run.{RunOf}
+use Rattle.thin.proofs.Main.{thinned-run, accepted}
 use Rattle.lines.specs.Lines.{line}
 use Rattle.sheet.specs.Form.{row-lines}
 use Rattle.reply.specs.declared.Answer.{Answer}

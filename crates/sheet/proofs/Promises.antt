@@ -72,7 +72,7 @@ pub record SameOutcome (a a′ : Sheet) (troom troom′ : List ℕ) (croom croom
 
 module _ (b : List ℕ) (troom : List ℕ) (croom : List ℤ) where
   -- the verdict on what a sheet holds, by another name of that
-  moved : {n m n′ m′ : ℕ} {xs xs′ : List ℤ} {t t′ : List ℕ} (v : Verdict) → Same n m n′ m′ xs xs′ t t′ → First (skin-refusals troom croom xs t) v → First (skin-refusals troom croom xs′ t′) v
+  pub moved : {n m n′ m′ : ℕ} {xs xs′ : List ℤ} {t t′ : List ℕ} (v : Verdict) → Same n m n′ m′ xs xs′ t t′ → First (skin-refusals troom croom xs t) v → First (skin-refusals troom croom xs′ t′) v
   moved {xs′ = xs′} {t = t} v s f = subst (λ k. First (skin-refusals troom croom xs′ k) v) (s .numbers) (subst (λ k. First (skin-refusals troom croom k t) v) (s .coordinates) f)
 
   pub one-outcome : {a a′ : Sheet} {t₁ t₂ : List ℕ} {c₁ c₂ : List ℤ} → ReadSheet b troom t₁ croom c₁ a → ReadSheet b troom t₂ croom c₂ a′ → SameOutcome a a′ t₁ t₂ c₁ c₂
@@ -92,9 +92,12 @@ module _ (b : List ℕ) (troom : List ℕ) (croom : List ℤ) where
         corners = v ∙ (λ i. o .coordinates i ++ drop (length (o .coordinates i)) croom) ∙ sym q;
       }
 
--- the answer tells a refusal's number, or 0 and the counts of the skin that the sheet holds
+-- the answer tells the first refusal that holds, of the form or else of what the sheet holds, or 0 and the counts of the skin that it holds
 pub sheet-told : {b troom troom′ : List ℕ} {croom croom′ : List ℤ} {a : Sheet} → ReadSheet b troom troom′ croom croom′ a →
-    ((r : Refusal) × (told a ≡ answers.refused r)) ⊎ ((n m : ℕ) × (xs : List ℤ) × (t : List ℕ) × SheetOf b n m xs t × (told a ≡ answers.done (pos n ∷ pos m ∷ [])))
-sheet-told (bad-form {r = r} f e p q) = inl (r, ap told e)
-sheet-told (bad-skin {r = r} f s k e p q) = inl (r, ap told e)
-sheet-told (read {n = n} {m = m} {xs = xs} {t = t} f s k w e p q) = inr (n, m, xs, t, s, ap told e)
+    ((r : Refusal) × First (form-refusals b) (Refused r) × (told a ≡ answers.refused r))
+    ⊎ (First (form-refusals b) Passes × (n m : ℕ) × (xs : List ℤ) × (t : List ℕ) × SheetOf b n m xs t ×
+    (((r : Refusal) × First (skin-refusals troom croom xs t) (Refused r) × (told a ≡ answers.refused r))
+    ⊎ (First (skin-refusals troom croom xs t) Passes × (told a ≡ answers.done (pos n ∷ pos m ∷ [])))))
+sheet-told (bad-form {r = r} f e p q) = inl (r, f, ap told e)
+sheet-told (bad-skin {n = n} {m = m} {xs = xs} {t = t} {r = r} f s k e p q) = inr (f, n, m, xs, t, s, inl (r, k, ap told e))
+sheet-told (read {n = n} {m = m} {xs = xs} {t = t} f s k w e p q) = inr (f, n, m, xs, t, s, inr (k, ap told e))

@@ -39,6 +39,7 @@ use Rattle.thin.specs.declared.Thinning.the-variants.{Done, Refused}
 use Rattle.thin.specs.Answer.{told}
 use Rattle.thin.specs.Order.{asked}
 use Rattle.thin.specs.Thin.{need, thin-lines, ThinnedAs, refused, done}
+use Rattle.thin.specs.Run.{RunOf, KeptAfter}
 
 under-one : {b c : Bound} → Under b ≡ Under c → b ≡ c
 under-one e = cc
@@ -88,20 +89,6 @@ passes-whole a xs t room f = go (passed _ _ (passed _ _ f .1) .0) (ℕ-discrete 
     go c (yes e) = e
     go c (no n) = absurd (c (λ k. n (k .table .threes)))
 
--- what was thinned: a skin, and the run, each of whose records is the least edge that qualifies, and that ends where none does; its last stage stands in
--- the table, its records in the log
-pub record RunOf (a : Asked) (xs : List ℤ) (t l : List ℕ) (k : ℕ) (t′ l′ : List ℕ) : Type 0 where
-  pub b : Bound
-  pub log : List Record
-  pub last : List Row
-  pub whole : length t % 3 ≡ 0
-  pub skin : Skin (corners xs) (rows t) xs
-  pub under : a ≡ Under b
-  pub run : Run (Allowed b xs) (rows t) log last
-  pub count : k ≡ length log
-  pub table : t′ ≡ flat last ++ replicate (length t - length (flat last)) 0
-  pub logged : l′ ≡ log-of log ++ drop (width * length log) l
-
 pub done-count : {k m : ℕ} → Done k ≡ Done m → k ≡ m
 done-count e = cc
 
@@ -109,13 +96,6 @@ pub thinned-run : {a : Asked} {xs : List ℤ} {t l : List ℕ} {k : ℕ} {t′ l
 thinned-run (refused f er et el) = done-refused er
 thinned-run {a} {xs} {t} {l} (done {b = b} {log = log} {last = last} f s eb r er et el) =
     record { b = b; log = log; last = last; whole = passes-whole a xs t (length l) f; skin = s; under = eb; run = r; count = done-count er; table = et; logged = el }
-
--- after each beginning of the log a stage stands, of the same Euler number, with 2 k fewer rows and k fewer corners used
-pub record KeptAfter (n : ℕ) (T : List Row) (l : List Record) (T₁ : List Row) : Type 0 where
-  pub stage : Stage n T₁
-  pub euler : (χ χ′ : ℤ) → Euler T χ → Euler T₁ χ′ → χ ≡ χ′
-  pub fewer-rows : length T ≡ length T₁ + 2 * length l
-  pub fewer-corners : (v v′ : ℕ) → Exactly (Used T) v → Exactly (Used T₁) v′ → v ≡ v′ + length l
 
 pub thinned-kept : {a : Asked} {xs : List ℤ} {t l : List ℕ} {k : ℕ} {t′ l′ : List ℕ} (w : RunOf a xs t l k t′ l′) (p q : List Record) → w .log ≡ p ++ q →
     (T₁ : List Row) × Taken (Allowed (w .b) xs) (rows t) p T₁ × KeptAfter (corners xs) (rows t) p T₁

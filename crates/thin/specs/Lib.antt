@@ -1,3 +1,4 @@
 pub mod Answer
 pub mod Order
 pub mod Thin
+pub mod Run

@@ -16,12 +16,14 @@ pub fn numbers_room() -> [u32; MOST_NUMBERS]
     [0; MOST_NUMBERS]
 }
 
+// Inner: the same for coordinates.
 pub fn coordinates_room() -> [i32; MOST_NUMBERS]
     ensures { λ r. ⌜ 16384 ≡ length r ⌝ }
 {
     [0; MOST_NUMBERS]
 }
 
+// Inner: the same for bytes.
 pub fn bytes_room() -> [u8; MOST_BYTES]
     ensures { λ r. ⌜ 131072 ≡ length r ⌝ }
 {
@@ -36,12 +38,14 @@ pub fn part_of_numbers(n: usize, room: &[u32]) -> usize
     least(n, room.len())
 }
 
+// Inner: the same for coordinates.
 pub fn part_of_coordinates(n: usize, room: &[i32]) -> usize
     ensures { λ r. ⌜ PartOf r (now (room .entry)) ⌝ }
 {
     least(n, room.len())
 }
 
+// Inner: the same for bytes.
 pub fn part_of_bytes(n: usize, room: &[u8]) -> usize
     ensures { λ r. ⌜ PartOf r (now (room .entry)) ⌝ }
 {

@@ -1,0 +1,74 @@
+-- The promises whole: the three demands, and that nothing is left to choose.
+use mathlib.Core.Path.{_≡_, refl, sym, _∙_, ap}
+use mathlib.Core.List.{List, [], _∷_}
+use lib.IntN.{pos}
+use Rattle.refusal.specs.Told as answers
+use Rattle.length.proofs.Laws.{reading-one}
+use Rattle.thin.specs.Answer as thinnings
+use Rattle.thin.proofs.Main.{thinned-one, accepted, thinned-run, thinned-kept}
+use Rattle.regrow.proofs.Main.{grown-one}
+use Rattle.replay.proofs.Main.{replay-one}
+use Rattle.volume.proofs.Main.{volume-one, change-one}
+use Rattle.shift.proofs.Main.{shift-one}
+use Rattle.link.proofs.Laws.{chosen-one}
+use Rattle.catchup.proofs.One.{caught-up-one}
+use Rattle.sheet.proofs.Promises.{one-outcome}
+use Rattle.ring.proofs.Rule.{trial-one}
+use Rattle.reply.proofs.Main.{replied-one}
+use Rattle.promises.specs.Choice.{NothingLeft}
+use Rattle.promises.specs.Refusing.{DemandOne}
+use Rattle.promises.specs.Thinning.{DemandTwo, DemandThree}
+use Rattle.promises.proofs.Refusing.{by-verdict, thin-exactly, thin-same, grow-exactly, grow-same, replay-exactly, replay-same, limit-exactly, sheet-form, sheet-skin, sheet-same, reply-exactly}
+use Rattle.promises.proofs.Back.{restored, restored-from, replayed}
+use Rattle.promises.proofs.Figures.{volume-promised, change-promised, shift-promised}
+
+pub nothing-left : NothingLeft
+nothing-left = record {
+  thin = λ o p q. thinned-one p q;
+  grow-back = λ p q. grown-one p q;
+  replay = λ p q. replay-one p q;
+  volume = λ a b p q. volume-one a b p q;
+  change = λ a b p q. change-one a b p q;
+  shift = λ a b p q. shift-one a b p q;
+  limit = λ l p q. reading-one l p q;
+  shorter-ring = λ p q. chosen-one p q;
+  catch-up = λ p q. caught-up-one p q;
+  read-sheet = λ b troom croom p q. let o = one-outcome b troom croom p q in (o .answer, o .table, o .corners);
+  trial-number = λ k a b p q. trial-one k a b p q;
+  reply = λ p q. replied-one p q;
+}
+
+pub demand-one : DemandOne
+demand-one = record {
+  thin = λ o w. thin-exactly o w;
+  thin-same = λ o w r p. thin-same o w r p;
+  grow-back = λ w. grow-exactly w;
+  grow-same = λ w r p. grow-same w r p;
+  replay = λ w. replay-exactly w;
+  replay-same = λ w r p. replay-same w r p;
+  volume = λ a w. by-verdict _ (w .verdict) (w .checked .holds) (w .tells);
+  change = λ a w. by-verdict _ (w .verdict) (w .first) (w .tells);
+  shift = λ a w. by-verdict _ (w .verdict) (w .first) (w .tells);
+  limit = λ l. limit-exactly l;
+  sheet-form = λ w r f. sheet-form w r f;
+  sheet-skin = λ w f s. sheet-skin w f s;
+  sheet-same = λ w r p. sheet-same w r p;
+  reply = λ w. reply-exactly w;
+}
+
+pub demand-two : DemandTwo
+demand-two = record {
+  accepts = λ o u threes s h w. let k = accepted u threes s h w in (k .0, ap thinnings.told (k .1));
+  runs = λ o w. thinned-run w;
+  keeps = λ o w p q e. thinned-kept w p q e;
+  restores = λ o w g. restored o w g;
+  restores-from = λ o w p q e h g. restored-from w p q e h g;
+  replays = λ o w g. replayed o w g;
+}
+
+pub demand-three : DemandThree
+demand-three = record {
+  volumes-near = λ o w p h a r. volume-promised w p h a r;
+  changes-near = λ o w p q h i a r. change-promised w p q h i a r;
+  shifts-within = λ w p q e v b a r. shift-promised w p q e v b a r;
+}

@@ -1,0 +1,51 @@
+-- "Nothing left to choose": of each public call, no second outcome satisfies the same words. No call is left out.
+use mathlib.Core.Path.{_≡_}
+use mathlib.Core.List.{List}
+use Prim.Native.Nat.{ℕ}
+use lib.IntN.{ℤ}
+use denote.Ref.{RefT}
+use Rattle.length.specs.declared.Order.{Order}
+use Rattle.length.specs.declared.Length.{Length}
+use Rattle.length.specs.declared.Reading.{Reading}
+use Rattle.length.specs.Limit.{limit-of}
+use Rattle.thin.specs.declared.Thinning.{Thinning}
+use Rattle.thin.specs.Thin.{Thinned}
+use Rattle.regrow.specs.declared.Regrown.{Regrown}
+use Rattle.regrow.specs.Outcome.{GrownAs}
+use Rattle.replay.specs.Outcome.{ReplayedAs}
+use Rattle.volume.specs.declared.Measured.{Measured}
+use Rattle.volume.specs.Answer as volumes
+use Rattle.volume.specs.Report.{VolumeReport, ChangeReport}
+use Rattle.shift.specs.declared.Shifted.{Shifted}
+use Rattle.shift.specs.Answer as shifts
+use Rattle.shift.specs.Report.{ShiftReport}
+use Rattle.link.specs.Chosen.{Chosen}
+use Rattle.catchup.specs.CatchUp.{CaughtUp}
+use Rattle.sheet.specs.declared.Sheet.{Sheet}
+use Rattle.sheet.specs.Outcome.{ReadSheet}
+use Rattle.ring.specs.declared.Trial.{Trial}
+use Rattle.ring.specs.Ring as ring
+use Rattle.reply.specs.declared.Answer.{Answer}
+use Rattle.reply.specs.Outcome.{Replied}
+
+-- the calls in the order of their numbers over a pipe, 1 to 12; each line names the relation that the call's `ensures` states
+pub record NothingLeft : Type 0 where
+  -- the answer, the table and the log
+  pub thin : (o : Order) {xs : List ℤ} {t l : List ℕ} {a b : Thinning} {t₁ t₂ l₁ l₂ : List ℕ} → Thinned o xs t l a t₁ l₁ → Thinned o xs t l b t₂ l₂ → (a ≡ b) × (t₁ ≡ t₂) × (l₁ ≡ l₂)
+  -- the answer and the room
+  pub grow-back : {n m : ℕ} {room log : List ℕ} {a b : Regrown} {r₁ r₂ : List ℕ} → GrownAs n m room log a r₁ → GrownAs n m room log b r₂ → (a ≡ b) × (r₁ ≡ r₂)
+  -- the answer and the table
+  pub replay : {n : ℕ} {t log : List ℕ} {a b : Regrown} {t₁ t₂ : List ℕ} → ReplayedAs n t log a t₁ → ReplayedAs n t log b t₂ → (a ≡ b) × (t₁ ≡ t₂)
+  pub volume : {xs : List ℤ} {t : List ℕ} (a b : Measured) → VolumeReport xs t (volumes.told a) → VolumeReport xs t (volumes.told b) → a ≡ b
+  pub change : {xs : List ℤ} {t s : List ℕ} (a b : Measured) → ChangeReport xs t s (volumes.told a) → ChangeReport xs t s (volumes.told b) → a ≡ b
+  pub shift : {xs : List ℤ} {log : List ℕ} {v : ℕ} (a b : Shifted) → ShiftReport xs log v (shifts.told a) → ShiftReport xs log v (shifts.told b) → a ≡ b
+  pub limit : (l : Length) {a b : Reading} → a ≡ limit-of l → b ≡ limit-of l → a ≡ b
+  -- the caller's own memory
+  pub shorter-ring : {first second r s : RefT (List ℕ)} → Chosen first second r → Chosen first second s → r ≡ s
+  pub catch-up : {first second r s : RefT (List ℕ)} → CaughtUp first second r → CaughtUp first second s → (r .ptr ≡ s .ptr) × (r .now ≡ s .now)
+  -- the answer, the table and the corners
+  pub read-sheet : (b troom : List ℕ) (croom : List ℤ) {a₁ a₂ : Sheet} {t₁ t₂ : List ℕ} {c₁ c₂ : List ℤ} → ReadSheet b troom t₁ croom c₁ a₁ → ReadSheet b troom t₂ croom c₂ a₂ →
+      (a₁ ≡ a₂) × (t₁ ≡ t₂) × (c₁ ≡ c₂)
+  pub trial-number : (k : ℕ) (a b : Trial) → ring.Tells k a → ring.Tells k b → a ≡ b
+  -- the answer and the text
+  pub reply : {b text : List ℕ} {a₁ a₂ : Answer} {text₁ text₂ : List ℕ} → Replied b text a₁ text₁ → Replied b text a₂ text₂ → (a₁ ≡ a₂) × (text₁ ≡ text₂)

@@ -1,0 +1,73 @@
+-- Demands 2 and 3, of what thinning is asked and of what it leaves.
+use mathlib.Core.Path.{_≡_}
+use mathlib.Core.List.{List, [], _∷_, _++_}
+use Prim.Native.Nat.{ℕ, _-_, _*_, _≤_, _<_, _%_}
+use lib.IntN.{ℤ, pos, _-ℤ_}
+use lib.ListN.{length, take, drop, replicate}
+use Rattle.surface.specs.Rows.{Row, rows, flat}
+use Rattle.surface.specs.Stage.{Skin}
+use Rattle.surface.specs.Record.{Record}
+use Rattle.refusal.specs.Told as answers
+use Rattle.faults.specs.Counts.{corners}
+use Rattle.run.specs.Run.{Taken}
+use Rattle.figure.specs.Sum.{sixfold}
+use Rattle.record.specs.Layout.{width}
+use Rattle.length.specs.declared.Order.{Order}
+use Rattle.least.specs.declared.Bound.the-variants.{Within}
+use Rattle.least.specs.Limited.{Allowed}
+use Rattle.thin.specs.declared.Asked.the-variants.{Under, NoUse}
+use Rattle.thin.specs.declared.Thinning.{Thinning}
+use Rattle.thin.specs.declared.Thinning.the-variants.{Done}
+use Rattle.thin.specs.Answer as thinnings
+use Rattle.thin.specs.Order.{asked}
+use Rattle.thin.specs.Thin.{need, Thinned}
+use Rattle.thin.specs.Run.{RunOf, KeptAfter}
+use Rattle.regrow.specs.declared.Regrown.{Regrown}
+use Rattle.regrow.specs.Answer as regrowths
+use Rattle.regrow.specs.Outcome.{GrownAs}
+use Rattle.replay.specs.Outcome.{ReplayedAs}
+use Rattle.volume.specs.declared.Measured.{Measured}
+use Rattle.volume.specs.Answer as volumes
+use Rattle.volume.specs.Report.{VolumeReport, ChangeReport, Near}
+use Rattle.shift.specs.declared.Shifted.{Shifted}
+use Rattle.shift.specs.Answer as shifts
+use Rattle.shift.specs.Report.{ShiftReport, Bounded}
+
+-- the table that stands when the rows are T: they are in front, and zeros in the rest of the first table's length
+abbrev pub left-of : List ℕ → List Row → List ℕ
+left-of t T = flat T ++ replicate (length t - length (flat T)) 0
+
+-- where thinning under an order is done with k records
+abbrev pub DoneWith : Order → List ℤ → List ℕ → List ℕ → ℕ → List ℕ → List ℕ → Type 0
+DoneWith o xs t l k t′ l′ = Thinned o xs t l (Done k) t′ l′
+
+pub record DemandTwo : Type 0 where
+  -- with room and a usable limit or none, every skin within the limits is accepted
+  pub accepts : (o : Order) {xs : List ℤ} {t l : List ℕ} {a : Thinning} {t′ l′ : List ℕ} → ¬ (asked o ≡ NoUse) → length t % 3 ≡ 0 → Skin (corners xs) (rows t) xs → need xs ≤ length l →
+      Thinned o xs t l a t′ l′ → (k : ℕ) × (thinnings.told a ≡ answers.done (pos k ∷ []))
+  -- each contraction is the least edge that meets the link condition and the limit, and it stops only when no edge is left: `Run`
+  pub runs : (o : Order) {xs : List ℤ} {t l : List ℕ} {k : ℕ} {t′ l′ : List ℕ} → DoneWith o xs t l k t′ l′ → RunOf (asked o) xs t l k t′ l′
+  -- each leaves a closed oriented skin of the same Euler number, with two rows and one corner fewer
+  pub keeps : (o : Order) {xs : List ℤ} {t l : List ℕ} {k : ℕ} {t′ l′ : List ℕ} → (w : RunOf (asked o) xs t l k t′ l′) (p q : List Record) → w .log ≡ p ++ q →
+      (T₁ : List Row) × Taken (Allowed (w .b) xs) (rows t) p T₁ × KeptAfter (corners xs) (rows t) p T₁
+  -- growing back the log restores the first table, number for number
+  pub restores : (o : Order) {xs : List ℤ} {t l : List ℕ} {k : ℕ} {t′ l′ : List ℕ} → DoneWith o xs t l k t′ l′ → {a : Regrown} {r : List ℕ} →
+      GrownAs (corners xs) (length (rows t) - 2 * k) t′ (take (width * k) l′) a r → (regrowths.told a ≡ answers.done (pos k ∷ [])) × (r ≡ t)
+  -- and from record i on, the table before record i; p are the first i records
+  pub restores-from : (o : Order) {xs : List ℤ} {t l : List ℕ} {k : ℕ} {t′ l′ : List ℕ} (w : RunOf (asked o) xs t l k t′ l′) (p q : List Record) → w .log ≡ p ++ q →
+      {T₁ : List Row} → Taken (Allowed (w .b) xs) (rows t) p T₁ → {a : Regrown} {r : List ℕ} →
+      GrownAs (corners xs) (length (rows t) - 2 * k) t′ (drop (width * length p) (take (width * k) l′)) a r → (regrowths.told a ≡ answers.done (pos (length q) ∷ [])) × (r ≡ left-of t T₁)
+  -- replaying it from the first table does every record, and leaves what thinning left
+  pub replays : (o : Order) {xs : List ℤ} {t l : List ℕ} {k : ℕ} {t′ l′ : List ℕ} → DoneWith o xs t l k t′ l′ → {a : Regrown} {r : List ℕ} →
+      ReplayedAs (corners xs) t (take (width * k) l′) a r → (regrowths.told a ≡ answers.done (pos k ∷ [])) × (r ≡ t′)
+
+pub record DemandThree : Type 0 where
+  -- each volume shown is within half a cubic metre of exact for that stage's own triangles; p are the records before the stage T₁
+  pub volumes-near : (o : Order) {xs : List ℤ} {t l : List ℕ} {k : ℕ} {t′ l′ : List ℕ} (w : RunOf (asked o) xs t l k t′ l′) (p : List Record) {T₁ : List Row} →
+      Taken (Allowed (w .b) xs) (rows t) p T₁ → (a : Measured) → VolumeReport xs (flat T₁) (volumes.told a) → Near (sixfold xs T₁) a
+  -- each change too
+  pub changes-near : (o : Order) {xs : List ℤ} {t l : List ℕ} {k : ℕ} {t′ l′ : List ℕ} (w : RunOf (asked o) xs t l k t′ l′) (p q : List Record) {T₁ T₂ : List Row} →
+      Taken (Allowed (w .b) xs) (rows t) p T₁ → Taken (Allowed (w .b) xs) (rows t) q T₂ → (a : Measured) → ChangeReport xs (flat T₁) (flat T₂) (volumes.told a) → Near (sixfold xs T₂ -ℤ sixfold xs T₁) a
+  -- under a limit of L cm every first corner lies within k x L of its stand-in, for the log or a beginning of it
+  pub shifts-within : {L : ℕ} {xs : List ℤ} {t l : List ℕ} {k : ℕ} {t′ l′ : List ℕ} (w : RunOf (Under (Within L)) xs t l k t′ l′) (p q : List Record) → w .log ≡ p ++ q →
+      (v : ℕ) → v < corners xs → (a : Shifted) → ShiftReport xs (take (width * length p) l′) v (shifts.told a) → Bounded L a

@@ -1,0 +1,40 @@
+-- What a thinning that is done comes to.
+use mathlib.Core.Path.{_≡_}
+use mathlib.Core.List.{List, _++_}
+use Prim.Native.Nat.{ℕ, _+_, _-_, _*_, _%_}
+use lib.IntN.{ℤ}
+use lib.ListN.{length, drop, replicate}
+use Rattle.surface.specs.Lists.{Exactly}
+use Rattle.surface.specs.Rows.{Row, rows, flat}
+use Rattle.surface.specs.Table.{Used}
+use Rattle.surface.specs.Stage.{Stage, Skin}
+use Rattle.surface.specs.Record.{Record}
+use Rattle.surface.specs.Euler.{Euler}
+use Rattle.faults.specs.Counts.{corners}
+use Rattle.run.specs.Run.{Run}
+use Rattle.record.specs.Layout.{width, log-of}
+use Rattle.least.specs.declared.Bound.{Bound}
+use Rattle.least.specs.Limited.{Allowed}
+use Rattle.thin.specs.declared.Asked.{Asked}
+use Rattle.thin.specs.declared.Asked.the-variants.{Under}
+
+-- what was thinned: a skin, and the run, each of whose records is the least edge that qualifies, and that ends where none does; its last stage stands in
+-- the table, its records in the log
+pub record RunOf (a : Asked) (xs : List ℤ) (t l : List ℕ) (k : ℕ) (t′ l′ : List ℕ) : Type 0 where
+  pub b : Bound
+  pub log : List Record
+  pub last : List Row
+  pub whole : length t % 3 ≡ 0
+  pub skin : Skin (corners xs) (rows t) xs
+  pub under : a ≡ Under b
+  pub run : Run (Allowed b xs) (rows t) log last
+  pub count : k ≡ length log
+  pub table : t′ ≡ flat last ++ replicate (length t - length (flat last)) 0
+  pub logged : l′ ≡ log-of log ++ drop (width * length log) l
+
+-- after each beginning of the log a stage stands, of the same Euler number, with 2 k fewer rows and k fewer corners used
+pub record KeptAfter (n : ℕ) (T : List Row) (l : List Record) (T₁ : List Row) : Type 0 where
+  pub stage : Stage n T₁
+  pub euler : (χ χ′ : ℤ) → Euler T χ → Euler T₁ χ′ → χ ≡ χ′
+  pub fewer-rows : length T ≡ length T₁ + 2 * length l
+  pub fewer-corners : (v v′ : ℕ) → Exactly (Used T) v → Exactly (Used T₁) v′ → v ≡ v′ + length l
