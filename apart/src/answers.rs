@@ -1,0 +1,249 @@
+//! What every public call must answer: the refusals in the order 01 gives them, then the outcome, buffers and all.
+
+use crate::desk;
+use crate::figures::{figure, shift, sixfold_volume};
+use crate::grow::{grow_back, records_of, replay, Reached};
+use crate::limit::whole_centimetres;
+use crate::parts::{catch_up, grid, shorter_ring};
+use crate::protocol::*;
+use crate::sheet;
+use crate::skin::*;
+use crate::step::thin;
+
+/// Whether the desk's answer hands a refused sheet back as its status, or as the `NO` line in the text.
+/// calls.md says of every status "0 done, else the refusal number", so it is the status here.
+const SHEET_REFUSED_BY_STATUS: bool = true;
+
+pub fn answer(request: &Request) -> Response {
+    if let Some(number) = first_that_holds(&questions(request)) {
+        return refused(request, number);
+    }
+    match request.call {
+        THIN => thinned(request),
+        GROW_BACK => grown_back(request),
+        REPLAY => replayed(request),
+        VOLUME => volume(request),
+        CHANGE => change(request),
+        SHIFT => shift_report(request),
+        LIMIT => done(request, &[limit(request).expect("asked before") as Word]),
+        SHORTER_RING => handed(request, shorter_ring(&request.arguments[0], &request.arguments[1])),
+        CATCH_UP => handed(request, catch_up(&request.arguments[0], &request.arguments[1])),
+        READ_SHEET => sheet_read(request),
+        TRIAL_RING => handed(request, &words(&grid(8, 8).concat())),
+        DESK_ANSWER => desk_answer(request),
+        _ => unreachable!("a request has one of the calls"),
+    }
+}
+
+/// What the call asks before it works, in its order (13, and all that a sheet is asked, come in the work).
+pub fn questions(request: &Request) -> Vec<Question<'_>> {
+    match request.call {
+        THIN => thin_questions(request),
+        GROW_BACK => grow_questions(request),
+        REPLAY => replay_questions(request),
+        VOLUME => stage_questions(request, &[0], 1),
+        CHANGE => stage_questions(request, &[0, 1], 2),
+        SHIFT => shift_questions(request),
+        LIMIT => vec![(1, Box::new(|| limit(request).is_none()))],
+        _ => vec![],
+    }
+}
+
+fn words(numbers: &[u32]) -> Vec<Word> {
+    numbers.iter().map(|&n| n.into()).collect()
+}
+
+fn numbers(request: &Request, at: usize) -> Vec<u32> {
+    request.arguments[at].iter().map(|&w| w as u32).collect()
+}
+
+fn coordinates(request: &Request, at: usize) -> Vec<i32> {
+    request.arguments[at].iter().map(|&w| w as i32).collect()
+}
+
+fn bytes(request: &Request, at: usize) -> Vec<u8> {
+    request.arguments[at].iter().map(|&w| w as u8).collect()
+}
+
+/// A whole word; one past this machine's counts is past every limit as well.
+fn whole(request: &Request, at: usize) -> usize {
+    usize::try_from(request.arguments[at][0] as u64).unwrap_or(usize::MAX)
+}
+
+fn limit(request: &Request) -> Option<u64> {
+    whole_centimetres(request.arguments[0][0], request.arguments[1][0] as u64)
+}
+
+/// Refused: the number, zeros, every buffer untouched.
+fn refused(request: &Request, number: i64) -> Response {
+    let mut answer = vec![0; request.shape().refused];
+    answer[0] = number;
+    Response::untouched(request, answer)
+}
+
+fn done(request: &Request, rest: &[Word]) -> Response {
+    handed(request, &[&[0], rest].concat())
+}
+
+fn handed(request: &Request, answer: &[Word]) -> Response {
+    Response::untouched(request, answer.to_vec())
+}
+
+/// Writes over the front of a lent list.
+fn over(list: &mut [Word], front: &[u32]) {
+    list[..front.len()].copy_from_slice(&words(front));
+}
+
+/// Leaves a stage in front and zeros in the rest.
+fn over_and_zeros(list: &mut [Word], rows: &[Row]) {
+    list.fill(0);
+    over(list, &rows.concat());
+}
+
+fn thin_questions(request: &Request) -> Vec<Question<'_>> {
+    let (table, corners) = (numbers(request, 2), coordinates(request, 3));
+    let count = corners.len() / 3;
+    let (rows, given) = (rows_of(&table), corners.clone());
+    let unlimited = request.arguments[0][0] == 0;
+    let mut questions: Vec<Question> = vec![
+        (1, Box::new(move || !unlimited && limit(request).is_none())),
+        (2, Box::new(move || table_length_refused(&table) || corner_length_refused(&corners))),
+        (3, Box::new(move || request.arguments[4].len() < 10 * count.saturating_sub(4))),
+        (4, Box::new(move || coordinate_refused(&given))),
+    ];
+    questions.extend(table_questions(rows, count, Table::First));
+    questions
+}
+
+fn thinned(request: &Request) -> Response {
+    let order = if request.arguments[0][0] == 0 { None } else { limit(request) };
+    let (rows, log) = thin(rows_of(&numbers(request, 2)), &corners_of(&coordinates(request, 3)), order);
+    let mut response = done(request, &[log.len() as Word]);
+    over_and_zeros(&mut response.lent[0], &rows);
+    over(&mut response.lent[1], &log.concat());
+    response
+}
+
+fn grow_questions(request: &Request) -> Vec<Question<'_>> {
+    let (told, count, room, log) =
+        (whole(request, 0), whole(request, 1), numbers(request, 2), request.arguments[3].len());
+    // A count past every limit is refused by it; 2,000 keeps the sums small and is past it too.
+    let grown = told.min(2_000) + 2 * (log / 10);
+    let counts = ROWS.contains(&told) && CORNERS.contains(&count) && log % 10 == 0 && grown <= *ROWS.end();
+    let rows: Vec<Row> = rows_of(&room).into_iter().take(told).collect();
+    let mut questions: Vec<Question> =
+        vec![(2, Box::new(move || !counts)), (3, Box::new(move || room.len() < 3 * grown))];
+    questions.extend(table_questions(rows, count, Table::Stage));
+    questions
+}
+
+/// Done, or 13 with the records done; the stage reached is left either way.
+fn reached(request: &Request, stage: &Reached) -> Response {
+    Response::untouched(request, vec![if stage.whole { 0 } else { 13 }, stage.done as Word])
+}
+
+fn grown_back(request: &Request) -> Response {
+    let standing = numbers(request, 2)[..3 * whole(request, 0)].to_vec();
+    let stage = grow_back(rows_of(&standing), whole(request, 1), &records_of(&numbers(request, 3)));
+    let mut response = reached(request, &stage);
+    over(&mut response.lent[0], &stage.rows.concat());
+    response
+}
+
+fn replay_questions(request: &Request) -> Vec<Question<'_>> {
+    let (count, table, log) = (whole(request, 0), numbers(request, 1), request.arguments[2].len());
+    let rows = rows_of(&table);
+    let left = rows.len() as i64 - 2 * (log / 10) as i64;
+    let counts = !table_length_refused(&table) && CORNERS.contains(&count) && log % 10 == 0 && left >= 4;
+    let mut questions: Vec<Question> = vec![(2, Box::new(move || !counts))];
+    questions.extend(table_questions(rows, count, Table::Stage));
+    questions
+}
+
+fn replayed(request: &Request) -> Response {
+    let stage = replay(rows_of(&numbers(request, 1)), &records_of(&numbers(request, 2)));
+    let mut response = reached(request, &stage);
+    over_and_zeros(&mut response.lent[0], &stage.rows);
+    response
+}
+
+/// The questions of volume and change: the least number that holds of any of the tables.
+fn stage_questions<'a>(request: &'a Request, tables: &'a [usize], corners: usize) -> Vec<Question<'a>> {
+    let coordinates = coordinates(request, corners);
+    let (count, given) = (coordinates.len() / 3, coordinates.clone());
+    let tables: Vec<Vec<u32>> = tables.iter().map(|&at| numbers(request, at)).collect();
+    let rows: Vec<Vec<Row>> = tables.iter().map(|table| rows_of(table)).collect();
+    let mut questions: Vec<Question> = vec![
+        (2, Box::new(move || tables.iter().any(|t| table_length_refused(t)) || corner_length_refused(&coordinates))),
+        (4, Box::new(move || coordinate_refused(&given))),
+    ];
+    questions.extend(rows.into_iter().flat_map(|rows| table_questions(rows, count, Table::Stage)));
+    questions.sort_by_key(|(number, _)| *number);
+    questions
+}
+
+fn volume(request: &Request) -> Response {
+    let corners = corners_of(&coordinates(request, 1));
+    done(request, &[figure(sixfold_volume(&rows_of(&numbers(request, 0)), &corners))])
+}
+
+fn change(request: &Request) -> Response {
+    let corners = corners_of(&coordinates(request, 2));
+    let sum = |at| sixfold_volume(&rows_of(&numbers(request, at)), &corners);
+    done(request, &[figure(sum(1) - sum(0))])
+}
+
+fn shift_questions(request: &Request) -> Vec<Question<'_>> {
+    let corners = coordinates(request, 1);
+    let (count, given) = (corners.len() / 3, corners.clone());
+    let log = &request.arguments[2];
+    let past = move |&word: &Word| word >= count as Word;
+    vec![
+        (2, Box::new(move || corner_length_refused(&corners) || log.len() % 10 != 0)),
+        (4, Box::new(move || coordinate_refused(&given))),
+        (5, Box::new(move || past(&request.arguments[0][0]) || log.chunks(10).any(|r| r.iter().take(2).any(past)))),
+    ]
+}
+
+fn shift_report(request: &Request) -> Response {
+    let corners = corners_of(&coordinates(request, 1));
+    let log = records_of(&numbers(request, 2));
+    let (stand_in, count, distance) = shift(request.arguments[0][0] as u32, &corners, &log);
+    done(request, &[stand_in.into(), count, distance])
+}
+
+fn sheet_read(request: &Request) -> Response {
+    let sheet = match sheet::read(&bytes(request, 0)) {
+        Ok(sheet) => sheet,
+        Err(number) => return refused(request, number),
+    };
+    let (table, corners) = (sheet.rows.concat(), sheet.corners.concat());
+    if request.arguments[1].len() < table.len() || request.arguments[2].len() < corners.len() {
+        return refused(request, 3);
+    }
+    if let Some(number) = first_that_holds(&desk::skin_questions(&sheet)) {
+        return refused(request, number);
+    }
+    let mut response = done(request, &[sheet.corners.len() as Word, sheet.rows.len() as Word]);
+    over(&mut response.lent[0], &table);
+    for (word, &coordinate) in response.lent[1].iter_mut().zip(&corners) {
+        *word = coordinate.into();
+    }
+    response
+}
+
+fn desk_answer(request: &Request) -> Response {
+    let text = match desk::lines(&bytes(request, 0)) {
+        Err(number) if SHEET_REFUSED_BY_STATUS => return refused(request, number),
+        Err(number) => desk::no(number),
+        Ok(text) => text,
+    };
+    if request.arguments[1].len() < text.len() {
+        return refused(request, 3);
+    }
+    let mut response = done(request, &[text.len() as Word]);
+    for (word, byte) in response.lent[0].iter_mut().zip(text.bytes()) {
+        *word = byte.into();
+    }
+    response
+}

@@ -1,0 +1,155 @@
+//! The bench: sends calls to the driven programs and compares each answer and every number of every buffer.
+
+use crate::answers::answer;
+use crate::desk;
+use crate::pipe::{Driven, LATE};
+use crate::protocol::{bytes_of, Request, Response, Word};
+use crate::tally::{difference, written, Tally};
+use std::time::Duration;
+
+/// How long a driven program may take, and how long once it has been silent a few times.
+const PATIENCE: Duration = Duration::from_secs(60);
+const LITTLE_PATIENCE: Duration = Duration::from_secs(2);
+const FEW: usize = 3;
+
+pub struct Bench {
+    pub calls_path: String,
+    pub desk_path: String,
+    pub tally: Tally,
+    /// How many calls the run is asked for.
+    pub wanted: usize,
+    calls: Option<Driven>,
+    silent: usize,
+}
+
+impl Bench {
+    pub fn new(calls_path: &str, desk_path: &str, wanted: usize) -> Bench {
+        Bench {
+            calls_path: calls_path.to_string(),
+            desk_path: desk_path.to_string(),
+            tally: Tally::default(),
+            wanted,
+            calls: None,
+            silent: 0,
+        }
+    }
+
+    /// A program that hangs at every turn must not hold the run for hours.
+    fn patience(&self) -> Duration {
+        if self.silent < FEW {
+            PATIENCE
+        } else {
+            LITTLE_PATIENCE
+        }
+    }
+
+    fn heed<T>(&mut self, found: Result<T, String>) -> Result<T, String> {
+        self.silent += usize::from(found.as_ref().is_err_and(|why| why == LATE));
+        found
+    }
+
+    pub fn enough(&self) -> bool {
+        self.tally.calls >= self.wanted
+    }
+
+    /// The driven program's response, from a process that is kept until it fails.
+    pub fn ask(&mut self, request: &Request) -> Result<Response, String> {
+        let mut calls = match self.calls.take() {
+            Some(calls) => calls,
+            None => Driven::start(&self.calls_path)?,
+        };
+        calls.send(bytes_of(&request.words()));
+        let response = calls.response(request.shape().lent().count(), self.patience());
+        let response = self.heed(response)?;
+        self.calls = Some(calls);
+        Ok(response)
+    }
+
+    /// All that a program of its own writes for some input until it ends.
+    pub fn output(&mut self, path: &str, feed: impl FnOnce(&mut Driven)) -> Result<Vec<u8>, String> {
+        let mut program = Driven::start(path)?;
+        feed(&mut program);
+        let found = program.rest(self.patience());
+        self.heed(found)
+    }
+
+    /// Compares a call with what it must answer; the response where they agree.
+    pub fn try_call(&mut self, kind: &str, request: &Request) -> Option<Response> {
+        self.try_against(kind, request, &answer(request))
+    }
+
+    /// Compares a call with a response worked out elsewhere.
+    pub fn try_against(&mut self, kind: &str, request: &Request, expected: &Response) -> Option<Response> {
+        self.tally.note(request, expected);
+        let (wrong, found) = match self.ask(request) {
+            Ok(found) => (difference(request, expected, &found), Some(found)),
+            Err(why) => (Some(format!("{} (call {}): {why}", request.shape().name, request.call)), None),
+        };
+        if wrong.is_some() {
+            // What a program that errs has still to write must not be read as its next answer.
+            self.calls = None;
+        }
+        let path = self.calls_path.clone();
+        let passed = self.tally.verdict(kind, wrong, || format!("apart again {path} '{}'", written(&request.words())));
+        found.filter(|_| passed)
+    }
+
+    /// Runs the desk on a sheet and compares its whole text.
+    pub fn try_desk(&mut self, kind: &str, sheet: &[u8]) {
+        let expected = desk::text(sheet);
+        let found = self.output(&self.desk_path.clone(), |program| {
+            program.send(sheet.to_vec());
+            program.close();
+        });
+        self.desk_verdict(kind, sheet, &expected, found);
+    }
+
+    pub fn desk_verdict(&mut self, kind: &str, sheet: &[u8], expected: &str, found: Result<Vec<u8>, String>) {
+        self.tally.note_desk();
+        let wrong = desk_difference(expected, found);
+        let words: Vec<Word> = sheet.iter().map(|&byte| byte.into()).collect();
+        let path = self.desk_path.clone();
+        self.tally.verdict(kind, wrong, || format!("apart again-desk {path} '{}'", written(&words)));
+    }
+
+    /// Notes what came of bytes sent to a `calls` of their own.
+    pub fn ends_verdict(&mut self, kind: &str, sent: &[u8], expected: &[u8], found: Result<Vec<u8>, String>) {
+        self.tally.calls += 1;
+        let wrong = match found {
+            Ok(found) if found == expected => None,
+            Ok(found) => Some(format!("wrote {} bytes, {} were right, or other ones", found.len(), expected.len())),
+            Err(why) => Some(format!("the program must end: {why}")),
+        };
+        let whole = sent.chunks_exact(8).map(|word| Word::from_le_bytes(word.try_into().expect("eight bytes")));
+        let words: Vec<Word> = whole.collect();
+        let path = self.calls_path.clone();
+        self.tally.verdict(kind, wrong, || format!("apart again {path} '{}'", written(&words)));
+    }
+
+    /// Notes a property that needs no second working out.
+    pub fn property(&mut self, kind: &str, holds: bool, what: &str, request: &Request) {
+        let wrong = (!holds).then(|| what.to_string());
+        let path = self.calls_path.clone();
+        self.tally.verdict(kind, wrong, || format!("apart again {path} '{}'", written(&request.words())));
+    }
+}
+
+pub fn desk_difference(expected: &str, found: Result<Vec<u8>, String>) -> Option<String> {
+    match found {
+        Err(why) => Some(format!("the desk: {why}")),
+        Ok(found) if found == expected.as_bytes() => None,
+        Ok(found) => {
+            let at = (0..).find(|&at| expected.as_bytes().get(at) != found.get(at)).unwrap_or(0);
+            let line = |text: &[u8]| {
+                let start = text[..at.min(text.len())].iter().rposition(|&b| b == b'\n').map_or(0, |n| n + 1);
+                let line = text[start..].split(|&b| b == b'\n').next().unwrap_or(&[]);
+                String::from_utf8_lossy(&line[..line.len().min(120)]).into_owned()
+            };
+            Some(format!(
+                "the desk: byte {at}: expected line {:?}, found line {:?}",
+                line(expected.as_bytes()),
+                line(&found)
+            ))
+        }
+    }
+}

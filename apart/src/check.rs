@@ -1,0 +1,175 @@
+//! What needs no second working out: a thinning run of the driven program, held to what 01 and the sources say of it.
+
+use crate::answers::answer;
+use crate::bench::Bench;
+use crate::chance::Chance;
+use crate::figures::{sixfold_volume, SIX_CUBIC_METRES};
+use crate::harm::{scribble, words, Input};
+use crate::limit::whole_centimetres;
+use crate::make::Skin;
+use crate::protocol::*;
+use crate::skin::{is_stage, rows_of, Edges, Row};
+
+/// A run as the driven program left it.
+struct Run<'a> {
+    skin: &'a Skin,
+    order: (i64, u64),
+    request: Request,
+    left: Vec<Row>,
+    log: Vec<Word>,
+}
+
+impl Run<'_> {
+    fn records(&self) -> usize {
+        self.log.len() / 10
+    }
+}
+
+/// Thins, then grows back, replays, measures and asks for shifts, all on what the program itself handed back.
+pub fn run(bench: &mut Bench, skin: &Skin, order: (i64, u64), chance: &mut Chance) {
+    let mut input = Input::new(skin, &[]);
+    input.order = order;
+    input.spare = chance.pick(&[0, 0, 1, 17]);
+    let request = input.request(THIN, chance);
+    is_honest(bench, skin, &request);
+    let limit = if order.0 == 0 { "without limit" } else { "under a limit" };
+    let Some(found) = bench.try_call(&format!("run: {} thinned {limit}", skin.name), &request) else { return };
+    if found.answer[0] != 0 {
+        return;
+    }
+    let records = found.answer[1] as usize;
+    let left = rows_of(&numbers(&found.lent[0]));
+    let run = Run {
+        skin,
+        order,
+        request,
+        left: left[..skin.rows.len() - 2 * records].to_vec(),
+        log: found.lent[1][..10 * records].to_vec(),
+    };
+    endings(bench, &run);
+    grown_back(bench, &run, chance);
+    stages(bench, &run, chance);
+    shifts(bench, &run, chance);
+}
+
+/// A skin that this program's own rules refuse, but for the limit, was made wrongly.
+fn is_honest(bench: &mut Bench, skin: &Skin, request: &Request) {
+    bench.tally.meet(skin.name);
+    bench.tally.meet_if(skin.corners.len() == 514, "514 corners");
+    let status = answer(request).answer[0];
+    if status > 1 {
+        bench.tally.fail("the maker", &format!("{} made is refused by {status}", skin.name), "");
+    }
+}
+
+fn numbers(words: &[Word]) -> Vec<u32> {
+    words.iter().map(|&word| word as u32).collect()
+}
+
+/// Corners less edges plus rows; every edge lies in two rows.
+fn euler(rows: &[Row]) -> i64 {
+    Edges::of(rows).used().len() as i64 - rows.len() as i64 / 2
+}
+
+/// Used corners, and how runs without limit end by genus.
+fn endings(bench: &mut Bench, run: &Run) {
+    let used = Edges::of(&run.left).used().len();
+    let count = run.skin.corners.len();
+    let fixed = used + run.records() == count;
+    bench.property("run: k fewer corners", fixed, "used corners do not fit the records", &run.request);
+    if run.order.0 != 0 {
+        let kept: Vec<Word> = run.log.chunks(10).map(|record| record[0]).collect();
+        let returned = kept.windows(2).any(|pair| pair[1] < pair[0]);
+        bench.tally.meet_if(returned, "a limit that returned to a lower corner");
+        return;
+    }
+    if run.skin.genus == 0 {
+        let zero = run.log.chunks(10).all(|record| record[0] == 0);
+        let holds = run.left.len() == 4 && zero;
+        bench.property("run: a sphere ends in four rows, keeping corner 0", holds, "it does not", &run.request);
+    }
+    if run.skin.genus == 1 {
+        let holds = (7..=10).contains(&used);
+        bench.property("run: a torus ends with 7 to 10 corners", holds, &format!("{used} corners"), &run.request);
+    }
+}
+
+fn grown_back(bench: &mut Bench, run: &Run, chance: &mut Chance) {
+    let spare = chance.pick(&[0, 0, 1, 5]);
+    let need = 3 * run.skin.rows.len() as i64;
+    let left = words(&run.left.concat());
+    let room = [left.clone(), scribble(need - left.len() as i64 + spare, chance)].concat();
+    let scalars = vec![vec![run.left.len() as Word], vec![run.skin.corners.len() as Word]];
+    let request = Request { call: GROW_BACK, arguments: [scalars, vec![room.clone(), run.log.clone()]].concat() };
+    let Some(found) = bench.try_call("run: grown back", &request) else { return };
+    let expected = [words(&run.skin.table()), room[need as usize..].to_vec()].concat();
+    let holds = found.answer == [0, run.records() as Word] && found.lent[0] == expected;
+    bench.property("run: growing back gives the first table", holds, "it does not", &request);
+}
+
+/// Replays to stages by chance and to the end, and measures them.
+fn stages(bench: &mut Bench, run: &Run, chance: &mut Chance) {
+    let mut earlier = run.skin.rows.clone();
+    let mut cuts = vec![chance.below(run.records() + 1), run.records()];
+    cuts.sort_unstable();
+    for cut in cuts {
+        let table = words(&run.skin.table());
+        let arguments = vec![vec![run.skin.corners.len() as Word], table, run.log[..10 * cut].to_vec()];
+        let request = Request { call: REPLAY, arguments };
+        let Some(found) = bench.try_call("run: replayed", &request) else { return };
+        let (front, zeros) = found.lent[0].split_at(3 * (run.skin.rows.len() - 2 * cut));
+        let stage = rows_of(&numbers(front));
+        let holds = is_stage(&stage, run.skin.corners.len()) && zeros.iter().all(|&word| word == 0);
+        bench.property("run: each stage is a stage", holds, "it is none", &request);
+        let same = euler(&stage) == euler(&run.skin.rows) && euler(&stage) == 2 - 2 * run.skin.genus as i64;
+        bench.property("run: Euler number", same, "it changed", &request);
+        if cut == run.records() {
+            bench.property("run: replaying gives the last stage", stage == run.left, "it does not", &request);
+        }
+        measured(bench, run, &earlier, &stage);
+        earlier = stage;
+    }
+}
+
+/// Volume and change against the exact sums: no farther than half a cubic metre, a half away from zero.
+fn measured(bench: &mut Bench, run: &Run, earlier: &[Row], later: &[Row]) {
+    let coordinates: Vec<Word> = run.skin.coordinates().into_iter().map(Word::from).collect();
+    let tables = [earlier, later].map(|rows| words(&rows.concat()));
+    let sums = [earlier, later].map(|rows| sixfold_volume(rows, &run.skin.corners));
+    let volume = Request { call: VOLUME, arguments: vec![tables[1].clone(), coordinates.clone()] };
+    let change = Request { call: CHANGE, arguments: vec![tables[0].clone(), tables[1].clone(), coordinates] };
+    for (request, sum) in [(volume, sums[1]), (change, sums[1] - sums[0])] {
+        if let Some(found) = bench.try_call("run: measured", &request) {
+            nearest(bench, &request, sum, found.answer[1]);
+        }
+    }
+}
+
+pub fn nearest(bench: &mut Bench, request: &Request, sum: i128, figure: Word) {
+    let off = SIX_CUBIC_METRES * i128::from(figure) - sum;
+    let half = SIX_CUBIC_METRES / 2;
+    bench.tally.meet_if(sum % SIX_CUBIC_METRES == half, "a sum at a half above zero");
+    bench.tally.meet_if(sum % SIX_CUBIC_METRES == -half, "a sum at a half below zero");
+    let holds = off.abs() < half || (off.abs() == half && off.signum() == sum.signum());
+    bench.property("run: half a cubic metre", holds, &format!("{figure} for the sum {sum}"), request);
+}
+
+/// Shift reports over the whole log and a beginning of it, and their bound under a limit.
+fn shifts(bench: &mut Bench, run: &Run, chance: &mut Chance) {
+    let coordinates: Vec<Word> = run.skin.coordinates().into_iter().map(Word::from).collect();
+    let limit = if run.order.0 == 0 { None } else { whole_centimetres(run.order.0, run.order.1) };
+    let removed: Vec<Word> = run.log.chunks(10).map(|record| record[1]).collect();
+    for _ in 0..2 {
+        let cut = if chance.one_in(2) { run.records() } else { chance.below(run.records() + 1) };
+        let any = chance.below(run.skin.corners.len()) as Word;
+        let corner = if removed.is_empty() || chance.one_in(4) { any } else { chance.pick(&removed) };
+        let arguments = vec![vec![corner], coordinates.clone(), run.log[..10 * cut].to_vec()];
+        let request = Request { call: SHIFT, arguments };
+        let Some(found) = bench.try_call("run: shift report", &request) else { return };
+        if let Some(limit) = limit {
+            let (count, squared) = (i128::from(found.answer[2]), i128::from(found.answer[3]));
+            let bound = count * count * i128::from(limit) * i128::from(limit);
+            bench.property("run: shift bound", squared <= bound, &format!("{squared} past {bound}"), &request);
+        }
+    }
+}

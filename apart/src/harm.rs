@@ -1,0 +1,400 @@
+//! Damage: one harm for each line of the refusal table, done to an honest input of any call.
+
+use crate::chance::Chance;
+use crate::make::{tetrahedron, Skin};
+use crate::protocol::*;
+use crate::sheet;
+use crate::skin::{corners_of, rows_of, Edges};
+use crate::step::Record;
+use crate::typed;
+use std::collections::BTreeSet;
+
+#[derive(Clone, Copy, PartialEq, Debug)]
+pub enum Harm {
+    Limit,
+    Counts,
+    Room,
+    Coordinate,
+    Number,
+    NumberTwice,
+    EdgeTwice,
+    Reverse,
+    Unused,
+    Rings,
+    Connected,
+    Log,
+    SheetSize,
+    SheetFirstLine,
+    SheetLines,
+}
+
+use Harm::*;
+
+impl Harm {
+    /// The refusal it calls for.
+    pub fn number(self) -> i64 {
+        match self {
+            Limit => 1,
+            Counts => 2,
+            Room => 3,
+            Coordinate => 4,
+            Number => 5,
+            NumberTwice => 6,
+            EdgeTwice => 7,
+            Reverse => 8,
+            Unused => 9,
+            Rings => 10,
+            Connected => 11,
+            SheetSize | SheetFirstLine | SheetLines => 12,
+            Log => 13,
+        }
+    }
+}
+
+/// What each call asks, in its order.
+pub fn asked(call: usize) -> &'static [Harm] {
+    match call {
+        THIN => &[Limit, Counts, Room, Coordinate, Number, NumberTwice, EdgeTwice, Reverse, Unused, Rings, Connected],
+        GROW_BACK => &[Counts, Room, Number, NumberTwice, EdgeTwice, Reverse, Rings, Connected, Log],
+        REPLAY => &[Counts, Number, NumberTwice, EdgeTwice, Reverse, Rings, Connected, Log],
+        VOLUME | CHANGE => &[Counts, Coordinate, Number, NumberTwice, EdgeTwice, Reverse, Rings, Connected],
+        SHIFT => &[Counts, Coordinate, Number],
+        LIMIT => &[Limit],
+        READ_SHEET => &[
+            SheetSize,
+            SheetFirstLine,
+            Counts,
+            SheetLines,
+            Room,
+            Coordinate,
+            Number,
+            NumberTwice,
+            EdgeTwice,
+            Reverse,
+            Unused,
+            Rings,
+            Connected,
+        ],
+        DESK_ANSWER => &[
+            SheetSize,
+            SheetFirstLine,
+            Counts,
+            SheetLines,
+            Coordinate,
+            Number,
+            NumberTwice,
+            EdgeTwice,
+            Reverse,
+            Unused,
+            Rings,
+            Connected,
+        ],
+        _ => &[],
+    }
+}
+
+/// What any call is given; a call takes from it what it needs.
+#[derive(Clone)]
+pub struct Input {
+    pub order: (i64, u64),
+    pub table: Vec<u32>,
+    pub later: Vec<u32>,
+    pub coordinates: Vec<i32>,
+    pub log: Vec<u32>,
+    pub corner: u32,
+    /// Rows told and corner count, where they are other than the lists say.
+    pub told: Option<u64>,
+    pub count: Option<u64>,
+    /// Room lent past the need; below zero the room is short.
+    pub spare: i64,
+    /// Harm to the text of a sheet, done once it is written.
+    pub text: Vec<Harm>,
+}
+
+impl Input {
+    pub fn new(skin: &Skin, log: &[Record]) -> Input {
+        Input {
+            order: (0, 0),
+            table: skin.table(),
+            later: skin.table(),
+            coordinates: skin.coordinates(),
+            log: log.concat(),
+            corner: 0,
+            told: None,
+            count: None,
+            spare: 0,
+            text: Vec::new(),
+        }
+    }
+
+    pub fn request(&self, call: usize, chance: &mut Chance) -> Request {
+        let table = words(&self.table);
+        let coordinates: Vec<Word> = self.coordinates.iter().map(|&n| n.into()).collect();
+        let log = words(&self.log);
+        let count = self.count.unwrap_or(self.coordinates.len() as u64 / 3) as Word;
+        let (unit, bits) = (self.order.0, self.order.1 as Word);
+        let arguments = match call {
+            THIN => {
+                let need = 10 * (self.coordinates.len() as i64 / 3 - 4);
+                vec![vec![unit], vec![bits], table, coordinates, scribble(need + self.spare, chance)]
+            }
+            GROW_BACK => {
+                let rows = self.table.len() as u64 / 3;
+                let need = 3 * (rows as i64 + 2 * (log.len() as i64 / 10));
+                let room = [table, scribble(need - self.table.len() as i64 + self.spare.max(0), chance)].concat();
+                let length = if self.spare < 0 { (need + self.spare).max(0) as usize } else { room.len() };
+                let told = self.told.unwrap_or(rows) as Word;
+                vec![vec![told], vec![count], room[..length.min(room.len())].to_vec(), log]
+            }
+            REPLAY => vec![vec![count], table, log],
+            VOLUME => vec![table, coordinates],
+            CHANGE => vec![table, words(&self.later), coordinates],
+            SHIFT => vec![vec![self.corner.into()], coordinates, log],
+            LIMIT => vec![vec![unit], vec![bits]],
+            READ_SHEET => self.sheet_arguments(chance),
+            DESK_ANSWER => {
+                // A line for every row and one for every record fit, whatever their numbers.
+                let room = 60 + 16 * self.table.len() / 3 + 60 * self.coordinates.len() / 3;
+                vec![self.sheet(chance), scribble_bytes(room, chance)]
+            }
+            _ => unreachable!("no input has another call"),
+        };
+        Request { call, arguments }
+    }
+
+    /// The sheet as words, its harms done.
+    pub fn sheet(&self, chance: &mut Chance) -> Vec<Word> {
+        let mut text = sheet::write(&corners_of(&self.coordinates), &rows_of(&self.table));
+        for &harm in &self.text {
+            harm_text(&mut text, harm, chance);
+        }
+        text.into_iter().map(Word::from).collect()
+    }
+
+    fn sheet_arguments(&self, chance: &mut Chance) -> Vec<Vec<Word>> {
+        let (table, corners) = (self.table.len() as i64, self.coordinates.len() as i64);
+        // Only one of the two rooms is short.
+        let (short, enough) = (self.spare, self.spare.max(0));
+        let (first, second) = if chance.one_in(2) { (short, enough) } else { (enough, short) };
+        let room: Vec<Word> = (0..(corners + second).max(0)).map(|_| i64::from(chance.next() as i32)).collect();
+        vec![self.sheet(chance), scribble(table + first, chance), room]
+    }
+}
+
+pub fn words(numbers: &[u32]) -> Vec<Word> {
+    numbers.iter().map(|&n| n.into()).collect()
+}
+
+/// Numbers that stand in lent room before a call; a call that touches them shows.
+pub fn scribble(length: i64, chance: &mut Chance) -> Vec<Word> {
+    (0..length.max(0)).map(|_| Word::from(chance.next() as u32)).collect()
+}
+
+/// Likewise for text, in runs, so that a call printed to be tried again stays short.
+pub fn scribble_bytes(length: usize, chance: &mut Chance) -> Vec<Word> {
+    let mut bytes = Vec::new();
+    while bytes.len() < length {
+        let run = 1 + chance.below(200);
+        bytes.extend(vec![Word::from(chance.next() as u8); run]);
+    }
+    bytes.truncate(length);
+    bytes
+}
+
+/// Does one harm. Harms of one input touch different rows, so that none undoes another.
+pub fn harm(input: &mut Input, call: usize, harm: Harm, chance: &mut Chance) {
+    let on_sheet = matches!(call, READ_SHEET | DESK_ANSWER);
+    let count = input.coordinates.len() as u32 / 3;
+    match harm {
+        Limit => input.order = typed::unusable(chance),
+        Counts if on_sheet => input.text.push(Counts),
+        Counts => harm_counts(input, call, chance),
+        // Short by less than a record of growing back, so that the rows themselves stay in the room.
+        Room => input.spare = -chance.pick(&[1, 1, 1, 2, 5]),
+        Coordinate => {
+            let at = chance.below(input.coordinates.len());
+            input.coordinates[at] = coordinate_outside(on_sheet, chance);
+        }
+        Number if call == SHIFT => harm_shift(input, count, chance),
+        Number => input.table[6 + chance.below(3)] = number_outside(count, on_sheet, chance),
+        NumberTwice => {
+            let at = chance.below(3);
+            input.table[at] = input.table[(at + 1 + chance.below(2)) % 3];
+        }
+        EdgeTwice => harm_edge_twice(input, chance),
+        Reverse => drop(input.table.drain(9..12)),
+        Unused => add_unused(input, chance),
+        Rings => {
+            if chance.one_in(2) || !pinch(input, on_sheet || call == THIN) {
+                add_tetrahedron(input, 3, chance);
+            }
+        }
+        Connected => add_tetrahedron(input, 4, chance),
+        Log => harm_record(&mut input.log, count, chance),
+        SheetSize | SheetFirstLine | SheetLines => input.text.push(harm),
+    }
+}
+
+fn coordinate_outside(on_sheet: bool, chance: &mut Chance) -> i32 {
+    match on_sheet {
+        true => chance.pick(&[50_001, -50_001, 65_536, 999_999, -999_999]),
+        false => chance.pick(&[50_001, -50_001, 65_536, 115_536, i32::MAX, i32::MIN, i32::MIN + 1]),
+    }
+}
+
+fn number_outside(count: u32, on_sheet: bool, chance: &mut Chance) -> u32 {
+    match on_sheet {
+        true => chance.pick(&[count, count + 1, 256 + count, 65_536, 999_999]),
+        false => chance.pick(&[count, count + 1, 65_536, 1 << 31, u32::MAX, u32::MAX - 1]),
+    }
+}
+
+/// A corner or a kept or removed number past the count.
+fn harm_shift(input: &mut Input, count: u32, chance: &mut Chance) {
+    let outside = number_outside(count, false, chance);
+    match chance.below(3) {
+        at if at < 2 && input.log.len() >= 10 => {
+            let record = chance.below(input.log.len() / 10);
+            input.log[10 * record + at] = outside;
+        }
+        _ => input.corner = outside,
+    }
+}
+
+fn harm_edge_twice(input: &mut Input, chance: &mut Chance) {
+    match chance.below(3) {
+        0 => input.table.swap(4, 5),
+        1 => input.table.extend_from_within(3..6),
+        _ => input.table.extend_from_within(..),
+    }
+}
+
+/// A corner that no row uses, anywhere among the others.
+fn add_unused(input: &mut Input, chance: &mut Chance) {
+    let count = input.coordinates.len() / 3;
+    let new = chance.below(count + 1);
+    for n in input.table.iter_mut().filter(|n| (new..count).contains(&(**n as usize))) {
+        *n += 1;
+    }
+    input.coordinates.splice(3 * new..3 * new, [1, 2, 3]);
+}
+
+/// Makes one corner of two of the first row's piece that have no neighbour in common: every edge stays single.
+/// For a first table the highest number then takes the free one's place, so that no corner is left unused.
+fn pinch(input: &mut Input, first_table: bool) -> bool {
+    let edges = Edges::of(&rows_of(&input.table));
+    let neighbours = |a: u32| -> BTreeSet<u32> { edges.round(a).iter().map(|e| e[1]).collect() };
+    let piece = edges.reached_from(input.table[0]);
+    let apart = |a: u32, b: u32| !neighbours(a).contains(&b) && neighbours(a).is_disjoint(&neighbours(b));
+    let pairs = piece.iter().flat_map(|&a| piece.range(a + 1..).map(move |&b| (a, b)));
+    let Some((kept, free)) = pairs.into_iter().find(|&(a, b)| apart(a, b)) else { return false };
+    let last = input.coordinates.len() as u32 / 3 - 1;
+    for n in &mut input.table {
+        *n = if *n == free { kept } else { *n };
+        *n = if *n == last && first_table { free } else { *n };
+    }
+    if first_table {
+        input.coordinates.truncate(3 * last as usize);
+    }
+    true
+}
+
+/// A tetrahedron beside the skin, of fewer new corners where it shares some.
+fn add_tetrahedron(input: &mut Input, new: u32, chance: &mut Chance) {
+    let count = input.coordinates.len() as u32 / 3;
+    let shared = chance.pick(&input.table);
+    for n in tetrahedron().concat() {
+        input.table.push(if n < new { count + n } else { shared });
+    }
+    for n in 0..new as i32 {
+        input.coordinates.extend([n, -n, 7]);
+    }
+}
+
+/// A length or count outside its limits, by one of the ways the call has.
+fn harm_counts(input: &mut Input, call: usize, chance: &mut Chance) {
+    let lists = matches!(call, THIN | VOLUME | CHANGE | SHIFT);
+    let logs = matches!(call, GROW_BACK | REPLAY | SHIFT);
+    let tables = matches!(call, THIN | REPLAY | VOLUME | CHANGE);
+    loop {
+        match chance.below(9) {
+            0 if tables => drop(input.table.split_off(input.table.len() - 1 - chance.below(2))),
+            1 if tables => input.table.extend(vec![0; 1 + chance.below(2)]),
+            2 if tables => input.table = input.table.iter().copied().cycle().take(3 * 1_025).collect(),
+            3 if lists => drop(input.coordinates.split_off(input.coordinates.len() - 1 - chance.below(2))),
+            4 if lists => input.coordinates.resize(3 * 515, 0),
+            5 if lists => input.coordinates.push(0),
+            6 if logs && chance.one_in(2) => input.log.extend(vec![0; 1 + chance.below(9)]),
+            6 if call == GROW_BACK => {
+                input.log.resize(10 * (1_024usize.saturating_sub(input.table.len() / 3) / 2 + 1), 0)
+            }
+            7 if call == GROW_BACK => input.told = Some(hostile_count(input.table.len() as u64 / 3, chance)),
+            7 if call == REPLAY => input.log.resize(10 * (input.table.len() / 6 - 1), 0),
+            8 if !lists => input.count = Some(hostile_count(4, chance)),
+            _ => continue,
+        }
+        return;
+    }
+}
+
+/// A count outside every limit; some come back inside when cut to 8 or 32 bits, or make three times it small.
+fn hostile_count(honest: u64, chance: &mut Chance) -> u64 {
+    let third = u64::MAX / 3 + 1;
+    chance.pick(&[0, 1, 3, 1_025, 4_096 + honest, (1 << 32) + honest, 1 << 62, 1 << 63, third + honest, u64::MAX])
+}
+
+/// Spoils the kept or removed number of a record so that it can't be accepted.
+fn harm_record(log: &mut [u32], count: u32, chance: &mut Chance) {
+    let at = 10 * chance.below(log.len() / 10);
+    match chance.below(4) {
+        0 => log.swap(at, at + 1),
+        1 => log[at] = log[at + 1],
+        2 => log[at + 1] = log[at],
+        _ => log[at + 1] = number_outside(count, false, chance),
+    }
+}
+
+/// Spoils one number of a log; some spoiled logs are still honest.
+pub fn harm_log(log: &mut [u32], count: u32, chance: &mut Chance) {
+    if log.is_empty() {
+        return;
+    }
+    let at = chance.below(log.len());
+    let old = log[at];
+    let other = chance.pick(log);
+    log[at] = match chance.below(8) {
+        0 => old.wrapping_add(1),
+        1 => old.wrapping_sub(1),
+        2 => count,
+        3 => u32::MAX - chance.below(2) as u32,
+        4 => 0,
+        5 => old.wrapping_add(1 << chance.pick(&[8, 16, 31])),
+        6 => other,
+        _ => chance.below(count as usize) as u32,
+    };
+}
+
+/// Harm to the text of a sheet.
+fn harm_text(text: &mut Vec<u8>, harm: Harm, chance: &mut Chance) {
+    let first = text.iter().position(|&b| b == b'\n').map_or(0, |n| n + 1);
+    match harm {
+        SheetSize => text.resize(sheet::LONGEST + 1 + chance.below(3), b'\n'),
+        // The counts stay in the line, so that both can be wrong at once.
+        SheetFirstLine => match chance.below(5) {
+            0 => text[4] = b' ',
+            1 => text.insert(5, b'0'),
+            2 => text[..4].copy_from_slice(b"skin"),
+            3 => text.insert(first - 1, b'\t'),
+            _ => text.insert(first - 1, b'\r'),
+        },
+        Counts => {
+            let line =
+                chance.pick(&["SKIN\t3\t8\n", "SKIN\t515\t8\n", "SKIN\t6\t3\n", "SKIN\t6\t1025\n", "SKIN\t0\t0\n"]);
+            text.splice(..first, line.bytes());
+        }
+        _ => {
+            let at = first + chance.below(text.len() - first);
+            text[at] = chance.pick(b" +xX\r,.\0");
+        }
+    }
+}

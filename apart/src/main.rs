@@ -1,0 +1,173 @@
+//! The second program: works out from the client's paper what every public call must answer, makes honest, damaged
+//! and hostile inputs, drives the two compiled programs through pipes, and compares.
+
+mod answers;
+mod bench;
+mod chance;
+mod check;
+mod desk;
+mod ends;
+mod figures;
+mod grow;
+mod harm;
+mod limit;
+mod logs;
+mod make;
+mod order;
+mod parts;
+mod pipe;
+mod place;
+mod protocol;
+mod round;
+mod serve;
+mod sheet;
+mod sheets;
+mod skin;
+mod step;
+mod sums;
+mod sweep;
+mod tally;
+mod trial;
+mod typed;
+
+use bench::{desk_difference, Bench};
+use chance::Chance;
+use protocol::{bytes_of, Request};
+use std::io::Read;
+use std::process::ExitCode;
+use tally::{difference, words_of};
+
+const USAGE: &str = "usage: apart CALLS DESK [COUNT] [SEED]
+       apart again CALLS WORDS | apart again-desk DESK WORDS   (- reads the words from standard input)
+       apart serve | apart desk";
+/// A run of this many calls must have met every refusal.
+const WHOLE_RUN: usize = 20_000;
+const SEED: u64 = 2_024;
+/// One round in so many works on more than 256 rows.
+const LARGE_ROUNDS: u64 = 200;
+
+fn main() -> ExitCode {
+    let arguments: Vec<String> = std::env::args().skip(1).collect();
+    let given: Vec<&str> = arguments.iter().map(String::as_str).collect();
+    match given[..] {
+        ["serve"] => code(serve::calls().is_ok()),
+        ["desk"] => code(serve::desk().is_ok()),
+        ["again", path, words] => code(again(path, words)),
+        ["again-desk", path, words] => code(again_desk(path, words)),
+        [calls, desk] => code(run(calls, desk, WHOLE_RUN, SEED)),
+        [calls, desk, count] => number(count).map_or_else(usage, |n| code(run(calls, desk, n as usize, SEED))),
+        [calls, desk, count, seed] => match (number(count), number(seed)) {
+            (Some(count), Some(seed)) => code(run(calls, desk, count as usize, seed)),
+            _ => usage(),
+        },
+        _ => usage(),
+    }
+}
+
+fn code(well: bool) -> ExitCode {
+    if well {
+        ExitCode::SUCCESS
+    } else {
+        ExitCode::FAILURE
+    }
+}
+
+fn usage() -> ExitCode {
+    eprintln!("{USAGE}");
+    ExitCode::from(2)
+}
+
+fn number(text: &str) -> Option<u64> {
+    text.replace(',', "").parse().ok()
+}
+
+/// The whole run: 01's cases, the ends, the order of refusals, the sweeps, then rounds of chance up to the count.
+fn run(calls: &str, desk: &str, count: usize, seed: u64) -> bool {
+    let mut bench = Bench::new(calls, desk, count);
+    println!("seed {seed}");
+    let parts: [fn(&mut Bench, &mut Chance); 9] = [
+        trial::run,
+        order::alone,
+        |bench, chance| order::run(bench, 3, chance),
+        sweep::run,
+        sums::run,
+        sheets::run,
+        ends::run,
+        round::returning,
+        round::greatest,
+    ];
+    for (at, part) in parts.into_iter().enumerate() {
+        if !bench.enough() {
+            part(&mut bench, &mut Chance::new(seed ^ (at as u64) << 56));
+        }
+    }
+    // Each round has chance of its own, so that it can be made again without those before it.
+    let mut number = 0;
+    while !bench.enough() {
+        let mut chance = Chance::new(seed.wrapping_mul(0x0100_0000_01b3) ^ number);
+        round::run(&mut bench, number % LARGE_ROUNDS == LARGE_ROUNDS - 1, &mut chance);
+        number += 1;
+    }
+    if count >= WHOLE_RUN {
+        bench.tally.ask_for_all();
+    }
+    bench.tally.close()
+}
+
+/// The words of an argument, or of standard input.
+fn given_words(text: &str) -> Option<Vec<i64>> {
+    let mut read = String::new();
+    if text == "-" {
+        std::io::stdin().read_to_string(&mut read).ok()?;
+        return words_of(&read);
+    }
+    words_of(text)
+}
+
+/// Sends requests again, as words, and says what must come and what came.
+fn again(path: &str, text: &str) -> bool {
+    let Some(words) = given_words(text) else { return false };
+    let mut left = words.iter().copied();
+    let mut bench = Bench::new(path, "", 1);
+    let mut answered = Vec::new();
+    while left.len() > 0 {
+        let Some(request) = Request::read(&mut || left.next()) else {
+            return must_end(path, &words, &answered);
+        };
+        let expected = answers::answer(&request);
+        let found = bench.ask(&request);
+        println!("expected {expected:?}\nfound    {found:?}");
+        let wrong = found.map_or_else(Some, |found| difference(&request, &expected, &found));
+        if let Some(what) = wrong {
+            println!("{what}");
+            return false;
+        }
+        answered.extend(bytes_of(&expected.words()));
+    }
+    println!("the same");
+    true
+}
+
+/// Words among which one is no request: those before it are answered, nothing is written for it, and the program ends.
+fn must_end(path: &str, words: &[i64], answered: &[u8]) -> bool {
+    let found = Bench::new(path, "", 1).output(path, |calls| {
+        calls.send(bytes_of(words));
+        calls.close();
+    });
+    println!("a request that is none: {} bytes must come, and the end; found {found:?}", answered.len());
+    found.is_ok_and(|found| found == answered)
+}
+
+fn again_desk(path: &str, text: &str) -> bool {
+    let Some(words) = given_words(text) else { return false };
+    let sheet: Vec<u8> = words.iter().map(|&word| word as u8).collect();
+    let found = Bench::new("", path, 1).output(path, |program| {
+        program.send(sheet.clone());
+        program.close();
+    });
+    let expected = desk::text(&sheet);
+    println!("expected:\n{expected}found:\n{}", String::from_utf8_lossy(found.as_deref().unwrap_or(b"")));
+    let wrong = desk_difference(&expected, found);
+    println!("{}", wrong.as_deref().unwrap_or("the same"));
+    wrong.is_none()
+}

@@ -1,0 +1,138 @@
+//! Each refusal alone and every pair of refusals, for the order in which a call must give them.
+
+use crate::answers::{answer, questions};
+use crate::bench::Bench;
+use crate::chance::Chance;
+use crate::harm::{asked, harm, Harm, Input};
+use crate::logs::steps;
+use crate::make;
+use crate::protocol::*;
+
+const TRIED: [usize; 9] = [THIN, GROW_BACK, REPLAY, VOLUME, CHANGE, SHIFT, LIMIT, READ_SHEET, DESK_ANSWER];
+
+pub fn run(bench: &mut Bench, rounds: usize, chance: &mut Chance) {
+    for _ in 0..rounds {
+        for call in TRIED {
+            singles(bench, call, chance);
+            pairs(bench, call, chance);
+        }
+        harms_in_one_table_each(bench, chance);
+    }
+}
+
+/// An honest input of at least eight rows, with a log of at least one record.
+fn honest(call: usize, chance: &mut Chance) -> Input {
+    loop {
+        let genus = chance.below(2);
+        let mut skin = make::skin_of_genus(genus, 14 + chance.below(20), chance);
+        let first = skin.rows.clone();
+        let (left, log) = steps(&first, 1 + chance.below(2), chance);
+        if log.is_empty() {
+            continue;
+        }
+        if call == GROW_BACK {
+            skin.rows = left;
+        }
+        return Input::new(&skin, &log);
+    }
+}
+
+fn singles(bench: &mut Bench, call: usize, chance: &mut Chance) {
+    let kind = format!("order: one refusal of {}", CALLS[call - 1].name);
+    for &one in asked(call) {
+        let mut input = honest(call, chance);
+        harm(&mut input, call, one, chance);
+        compare(bench, &kind, &input.request(call, chance), &[one]);
+    }
+}
+
+fn pairs(bench: &mut Bench, call: usize, chance: &mut Chance) {
+    let kind = format!("order: two refusals of {}", CALLS[call - 1].name);
+    let harms = asked(call);
+    for first in 0..harms.len() {
+        for second in first + 1..harms.len() {
+            let mut input = honest(call, chance);
+            harm(&mut input, call, harms[second], chance);
+            harm(&mut input, call, harms[first], chance);
+            compare(bench, &kind, &input.request(call, chance), &[harms[first], harms[second]]);
+        }
+    }
+}
+
+/// Change is given two tables: one harm in each, both ways round.
+fn harms_in_one_table_each(bench: &mut Bench, chance: &mut Chance) {
+    let in_rows = [Harm::Number, Harm::NumberTwice, Harm::EdgeTwice, Harm::Reverse, Harm::Rings, Harm::Connected];
+    for first in in_rows {
+        for second in in_rows {
+            let skin = make::skin_of_genus(0, 12, chance);
+            let (mut earlier, mut later) = (Input::new(&skin, &[]), Input::new(&skin, &[]));
+            harm(&mut earlier, CHANGE, first, chance);
+            harm(&mut later, CHANGE, second, chance);
+            earlier.later = later.table;
+            // The longer list has the corners of both.
+            if later.coordinates.len() > earlier.coordinates.len() {
+                earlier.coordinates = later.coordinates;
+            }
+            bench.try_call("order: a refusal in each table of change", &earlier.request(CHANGE, chance));
+        }
+    }
+}
+
+/// All that hold, and not the first alone.
+fn holding(request: &Request) -> Vec<i64> {
+    questions(request).iter().filter(|(_, holds)| holds()).map(|(number, _)| *number).collect()
+}
+
+/// The harms must be there, and the first of them must be what this program's own rules answer.
+fn compare(bench: &mut Bench, kind: &str, request: &Request, harms: &[Harm]) {
+    let holding = holding(request);
+    let seen = |harm: &Harm| holding.contains(&harm.number());
+    // A length outside its limits may cut another harm off; 13 and a sheet's lines are seen in the work alone.
+    let apart = harms[0] == Harm::Counts || matches!(request.call, READ_SHEET | DESK_ANSWER);
+    let there = apart || harms.iter().all(|harm| *harm == Harm::Log || seen(harm));
+    let status = answer(request).answer[0];
+    if !there || status != harms[0].number() {
+        let what = format!("harms {harms:?} on call {} were not done: {holding:?}, answer {status}", request.call);
+        bench.tally.fail("order: the maker", &what, "");
+    }
+    bench.try_call(kind, request);
+}
+
+/// Honest skins with one thing that alone calls for 5, 6, 7 or 8, and nothing else wrong.
+pub fn alone(bench: &mut Bench, chance: &mut Chance) {
+    for number in [5, 6, 7, 8] {
+        for call in [THIN, GROW_BACK, REPLAY, VOLUME, CHANGE, READ_SHEET] {
+            let mut input = Input::new(&make::skin_of_genus(0, 16, chance), &[]);
+            lone_harm(&mut input, number);
+            let request = input.request(call, chance);
+            let holding = holding(&request);
+            // Rings are spoken of only where every edge has its reverse, once.
+            if call != READ_SHEET && holding.iter().any(|&n| n != number && n != 10) {
+                bench.tally.fail("order: the maker", &format!("{number} alone is {holding:?}"), "");
+            }
+            bench.try_call("order: nothing else wrong", &request);
+        }
+    }
+}
+
+fn lone_harm(input: &mut Input, number: i64) {
+    let count = input.coordinates.len() / 3;
+    match number {
+        // The highest corner has no coordinates left.
+        5 => input.coordinates.truncate(3 * (count - 1)),
+        // A row (a, a, b) over corners that no edge joins brings its own reverses.
+        6 => {
+            let (a, b) = strangers(&input.table, count as u32);
+            input.table.extend([a, a, b]);
+        }
+        // Every row twice: every edge twice, and every reverse there.
+        7 => input.table.extend_from_within(..),
+        _ => input.table.truncate(input.table.len() - 3),
+    }
+}
+
+fn strangers(table: &[u32], count: u32) -> (u32, u32) {
+    let joined = |a: u32, b: u32| table.chunks(3).any(|row| row.contains(&a) && row.contains(&b));
+    let pairs = (0..count).flat_map(|a| (0..a).map(move |b| (a, b)));
+    pairs.into_iter().find(|&(a, b)| !joined(a, b)).unwrap_or((0, 1))
+}

@@ -1,0 +1,70 @@
+//! Places for corners: boxes of every size, the ends of the range, whole lengths, clusters, shafts, and the
+//! largest sums that tables can have.
+
+use crate::chance::Chance;
+use crate::skin::{Corner, FARTHEST};
+
+fn in_box(half: i32, chance: &mut Chance) -> Corner {
+    [0; 3].map(|_: i32| chance.between((-half).into(), half.into()) as i32)
+}
+
+/// Corners by chance, all by one of several habits.
+pub fn corners(count: usize, chance: &mut Chance) -> Vec<Corner> {
+    let habit = chance.below(10);
+    let scale = chance.pick(&[1, 7, 50, 2_000]);
+    let mut one = || match habit {
+        0 => in_box(1, chance),
+        1 | 2 => in_box(100, chance),
+        3 => in_box(1_000, chance),
+        4 | 5 => in_box(FARTHEST, chance),
+        6 => [0; 3].map(|_: i32| chance.pick(&[-FARTHEST, FARTHEST])),
+        // Many edges of a whole length: 3, 4, 5 and their multiples.
+        7 => [0; 3].map(|_: i32| chance.pick(&[0, 3, 4, 0, -3, -4]) * scale),
+        8 => {
+            let centre: Corner = [0; 3].map(|_: i32| chance.pick(&[-40_000, 0, 300]));
+            let near = in_box(20, chance);
+            [0, 1, 2].map(|i| centre[i] + near[i])
+        }
+        _ => [chance.between(-400, 400) as i32 * 5, 0, 0],
+    };
+    (0..count).map(|_| one()).collect()
+}
+
+/// Corners of a shaft along z, the bottom and the top apex last; the radius wavers round its mean.
+pub fn shaft(rings: usize, around: usize, chance: &mut Chance) -> Vec<Corner> {
+    let radius = chance.between(30, 600);
+    let noise = chance.between(0, 1 + radius / 6);
+    let height = chance.between(10, (90_000 / rings as i64).min(400));
+    let start = -height * rings as i64 / 2;
+    let mut corners = Vec::new();
+    for ring in 0..rings {
+        for k in 0..around {
+            let r = radius + chance.between(-noise, noise);
+            let [x, y] = on_circle(r, k, around);
+            corners.push([x as i32, y as i32, (start + height * ring as i64) as i32]);
+        }
+    }
+    corners.push([0, 0, start as i32 - 20]);
+    corners.push([0, 0, (start + height * rings as i64) as i32]);
+    corners
+}
+
+/// A point of a circle, step k of n, in whole numbers: a quarter turn runs over (m - t, t) put on the circle.
+fn on_circle(radius: i64, k: usize, n: usize) -> [i64; 2] {
+    let (quarter, t, m) = (4 * k / n, (4 * k % n) as i64, n as i64);
+    let (x, y) = (radius * (m * m - t * t) / (m * m + t * t), radius * 2 * m * t / (m * m + t * t));
+    match quarter {
+        0 => [x, y],
+        1 => [-y, x],
+        2 => [-x, -y],
+        _ => [y, -x],
+    }
+}
+
+/// For a torus of even sides by the trial ring's rule: each corner at one of four ends of the cube, so that every
+/// row has the largest determinant there is, 4 x 50,000^3, and all with one sign.
+pub fn largest_sum(down: u32, across: u32) -> Vec<Corner> {
+    let f = FARTHEST;
+    let ends = [[f, f, f], [f, -f, -f], [-f, f, -f], [-f, -f, f]];
+    (0..down * across).map(|n| ends[((n / across % 2) * 2 + n % across % 2) as usize]).collect()
+}

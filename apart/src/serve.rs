@@ -1,0 +1,29 @@
+//! The two programs answered by these rules: `calls` over its pipe, and the desk.
+
+use crate::answers::answer;
+use crate::desk;
+use crate::protocol::{bytes_of, Request};
+use crate::sheet::LONGEST;
+use std::io::{self, BufReader, Read, Write};
+
+/// Answers requests until the input ends or a request is none.
+pub fn calls() -> io::Result<()> {
+    let mut input = BufReader::new(io::stdin().lock());
+    let mut output = io::stdout().lock();
+    let mut next = || {
+        let mut word = [0; 8];
+        input.read_exact(&mut word).ok().map(|()| i64::from_le_bytes(word))
+    };
+    while let Some(request) = Request::read(&mut next) {
+        output.write_all(&bytes_of(&answer(&request).words()))?;
+        output.flush()?;
+    }
+    Ok(())
+}
+
+/// Reads one sheet, no further than it takes to see that it is too long, and writes the desk's text.
+pub fn desk() -> io::Result<()> {
+    let mut bytes = Vec::new();
+    io::stdin().lock().take(LONGEST as u64 + 1).read_to_end(&mut bytes)?;
+    io::stdout().lock().write_all(desk::text(&bytes).as_bytes())
+}

@@ -1,0 +1,70 @@
+//! The sheet: its form, read strictly by lines and fields, and written.
+
+use crate::skin::{Corner, Row, CORNERS, ROWS};
+
+pub const LONGEST: usize = 65_536;
+const BAD_FORM: i64 = 12;
+
+pub struct Sheet {
+    pub corners: Vec<Corner>,
+    pub rows: Vec<Row>,
+}
+
+/// One to six digits, no needless zero in front, a minus only before a nonzero coordinate.
+fn number(field: &[u8], coordinate: bool) -> Option<i32> {
+    let (minus, digits) = match field.strip_prefix(b"-") {
+        Some(digits) => (true, digits),
+        None => (false, field),
+    };
+    let plain = (1..=6).contains(&digits.len()) && digits.iter().all(u8::is_ascii_digit);
+    let needless = digits.len() > 1 && digits[0] == b'0';
+    if !plain || needless || (minus && (!coordinate || digits == b"0")) {
+        return None;
+    }
+    let size = digits.iter().fold(0, |n, d| 10 * n + i32::from(d - b'0'));
+    Some(if minus { -size } else { size })
+}
+
+/// The numbers of the next line, which must have this name and this many fields; moves past its newline.
+fn line<const N: usize>(bytes: &mut &[u8], name: &[u8], coordinates: bool) -> Option<[i32; N]> {
+    let end = bytes.iter().position(|&b| b == b'\n')?;
+    let mut fields = bytes[..end].split(|&b| b == b'\t');
+    *bytes = &bytes[end + 1..];
+    if fields.next() != Some(name) {
+        return None;
+    }
+    let numbers: Option<Vec<i32>> = fields.map(|field| number(field, coordinates)).collect();
+    numbers?.try_into().ok()
+}
+
+/// Size, first line (12), counts (2), other lines (12).
+pub fn read(bytes: &[u8]) -> Result<Sheet, i64> {
+    if bytes.len() > LONGEST {
+        return Err(BAD_FORM);
+    }
+    let mut left = bytes;
+    let [corners, rows] = line::<2>(&mut left, b"SKIN", false).ok_or(BAD_FORM)?;
+    if !CORNERS.contains(&(corners as usize)) || !ROWS.contains(&(rows as usize)) {
+        return Err(2);
+    }
+    let corners: Option<Vec<Corner>> = (0..corners).map(|_| line(&mut left, b"C", true)).collect();
+    let rows: Option<Vec<[i32; 3]>> = (0..rows).map(|_| line(&mut left, b"R", false)).collect();
+    match (corners, rows) {
+        (Some(corners), Some(rows)) if left.is_empty() => {
+            Ok(Sheet { corners, rows: rows.into_iter().map(|row| row.map(|n| n as u32)).collect() })
+        }
+        _ => Err(BAD_FORM),
+    }
+}
+
+/// A sheet with these numbers, whatever they are.
+pub fn write(corners: &[Corner], rows: &[Row]) -> Vec<u8> {
+    let mut text = format!("SKIN\t{}\t{}\n", corners.len(), rows.len());
+    for [x, y, z] in corners {
+        text += &format!("C\t{x}\t{y}\t{z}\n");
+    }
+    for [a, b, c] in rows {
+        text += &format!("R\t{a}\t{b}\t{c}\n");
+    }
+    text.into_bytes()
+}

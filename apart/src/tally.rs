@@ -1,0 +1,205 @@
+//! What was tried and what came of it: counts for the summary, failures printed with the call that shows them again.
+
+use crate::protocol::{
+    Request, Response, Word, CALLS, CHANGE, DESK_ANSWER, GROW_BACK, READ_SHEET, REPLAY, THIN, VOLUME,
+};
+use std::collections::BTreeMap;
+
+/// Failures past this many, of one kind and in all, are counted and no longer printed.
+const PRINTED_OF_A_KIND: usize = 3;
+const PRINTED: usize = 40;
+pub const MANY_ROWS: usize = 256;
+
+#[derive(Default)]
+pub struct Tally {
+    pub calls: usize,
+    passed: usize,
+    failed: usize,
+    printed: usize,
+    kinds: BTreeMap<String, (usize, usize)>,
+    by_call: BTreeMap<usize, usize>,
+    desk_runs: usize,
+    refusals: BTreeMap<Word, usize>,
+    met: BTreeMap<String, usize>,
+    many_rows: usize,
+}
+
+/// What a whole run must have met at least once, besides every refusal.
+const MUST_MEET: [&str; 16] = [
+    "a sphere",
+    "a torus",
+    "genus 2",
+    "genus 3",
+    "genus 4",
+    "genus 5",
+    "a shaft",
+    "1,024 rows",
+    "514 corners",
+    "a limit that returned to a lower corner",
+    "a sum at a half above zero",
+    "a sum at a half below zero",
+    "growing back that did some records before 13",
+    "replay that did some records before 13",
+    "a stage grown freely",
+    "an accepted stage with unused corners",
+];
+
+impl Tally {
+    pub fn pass(&mut self, kind: &str) {
+        self.passed += 1;
+        self.kinds.entry(kind.to_string()).or_default().0 += 1;
+    }
+
+    pub fn fail(&mut self, kind: &str, what: &str, again: &str) {
+        self.failed += 1;
+        let of_kind = &mut self.kinds.entry(kind.to_string()).or_default().1;
+        *of_kind += 1;
+        if *of_kind <= PRINTED_OF_A_KIND && self.printed < PRINTED {
+            self.printed += 1;
+            println!("FAILED {kind}: {what}");
+            if !again.is_empty() {
+                println!("  again: {again}");
+            }
+        }
+    }
+
+    pub fn verdict(&mut self, kind: &str, wrong: Option<String>, again: impl Fn() -> String) -> bool {
+        match &wrong {
+            None => self.pass(kind),
+            Some(what) => self.fail(kind, what, &again()),
+        }
+        wrong.is_none()
+    }
+
+    /// Notes a call and what it must answer.
+    pub fn note(&mut self, request: &Request, expected: &Response) {
+        self.calls += 1;
+        *self.by_call.entry(request.call).or_default() += 1;
+        let status = if request.shape().refused > 0 { expected.answer[0] } else { 0 };
+        if status > 0 {
+            *self.refusals.entry(status).or_default() += 1;
+        }
+        let rows = rows_worked(request);
+        if ![1, 2, 3, 12].contains(&status) {
+            self.many_rows += usize::from(rows > MANY_ROWS);
+            self.meet_if(rows == 1_024, "1,024 rows");
+        }
+        let partly = status == 13 && expected.answer[1] > 0;
+        self.meet_if(partly && request.call == GROW_BACK, "growing back that did some records before 13");
+        self.meet_if(partly && request.call == REPLAY, "replay that did some records before 13");
+    }
+
+    pub fn note_desk(&mut self) {
+        self.calls += 1;
+        self.desk_runs += 1;
+    }
+
+    /// Counts an input of a kind that a whole run must meet.
+    pub fn meet(&mut self, kind: &str) {
+        *self.met.entry(kind.to_string()).or_default() += 1;
+    }
+
+    pub fn meet_if(&mut self, met: bool, kind: &str) {
+        if met {
+            self.meet(kind);
+        }
+    }
+
+    /// A refusal, or another kind of input, that a whole run never met is a failure of its own.
+    pub fn ask_for_all(&mut self) {
+        for number in 1..=13 {
+            let never = !self.refusals.contains_key(&number);
+            self.verdict("every refusal met", never.then(|| format!("refusal {number} never occurred")), String::new);
+        }
+        for kind in MUST_MEET {
+            let never = !self.met.contains_key(kind);
+            self.verdict("every kind of input met", never.then(|| format!("{kind} never occurred")), String::new);
+        }
+    }
+
+    /// The summary; true when nothing failed.
+    pub fn close(&self) -> bool {
+        if self.failed > self.printed {
+            println!("({} more failures)", self.failed - self.printed);
+        }
+        for (kind, (passed, failed)) in &self.kinds {
+            println!("{kind}: {passed} passed, {failed} failed");
+        }
+        for (call, count) in &self.by_call {
+            println!("call {call}, {}: {count}", CALLS[call - 1].name);
+        }
+        println!("the desk program: {}", self.desk_runs);
+        for (number, count) in &self.refusals {
+            println!("refusal {number}: {count}");
+        }
+        for (kind, count) in &self.met {
+            println!("met {kind}: {count}");
+        }
+        println!("calls: {}, worked on more than {MANY_ROWS} rows: {}", self.calls, self.many_rows);
+        println!("{} passed, {} failed", self.passed, self.failed);
+        self.failed == 0
+    }
+}
+
+/// How many rows the call has before it.
+fn rows_worked(request: &Request) -> usize {
+    let length = |at: usize| request.arguments[at].len() / 3;
+    match request.call {
+        THIN => length(2),
+        GROW_BACK => (request.arguments[0][0] as usize).saturating_add(2 * (request.arguments[3].len() / 10)),
+        REPLAY => length(1),
+        VOLUME => length(0),
+        CHANGE => length(0).max(length(1)),
+        READ_SHEET | DESK_ANSWER => {
+            request.arguments[0].windows(2).filter(|pair| *pair == [Word::from(b'R'), Word::from(b'\t')]).count()
+        }
+        _ => 0,
+    }
+}
+
+/// The first word in which two responses differ.
+pub fn difference(request: &Request, expected: &Response, found: &Response) -> Option<String> {
+    let names = std::iter::once("the answer").chain(request.shape().lent().map(|(_, argument)| argument.name));
+    let lists = |r: &Response| -> Vec<Vec<Word>> { std::iter::once(r.answer.clone()).chain(r.lent.clone()).collect() };
+    for ((name, expected), found) in names.zip(lists(expected)).zip(lists(found)) {
+        let at = (0..expected.len().max(found.len())).find(|&at| expected.get(at) != found.get(at));
+        if let Some(at) = at {
+            let say = |word: Option<&Word>| word.map_or("nothing".to_string(), Word::to_string);
+            return Some(format!(
+                "{} (call {}): word {at} of {name}: expected {}, found {}",
+                request.shape().name,
+                request.call,
+                say(expected.get(at)),
+                say(found.get(at))
+            ));
+        }
+    }
+    None
+}
+
+/// Words as text; a run of one word is written `times*word`.
+pub fn written(words: &[Word]) -> String {
+    let mut text = Vec::new();
+    let mut at = 0;
+    while at < words.len() {
+        let run = words[at..].iter().take_while(|&&word| word == words[at]).count();
+        if run > 3 {
+            text.push(format!("{run}*{}", words[at]));
+            at += run;
+        } else {
+            text.push(words[at].to_string());
+            at += 1;
+        }
+    }
+    text.join(" ")
+}
+
+/// The words of such a text.
+pub fn words_of(text: &str) -> Option<Vec<Word>> {
+    let mut words = Vec::new();
+    for part in text.split_whitespace() {
+        let (times, word) = part.split_once('*').unwrap_or(("1", part));
+        words.extend(std::iter::repeat_n(word.parse::<Word>().ok()?, times.parse().ok()?));
+    }
+    Some(words)
+}

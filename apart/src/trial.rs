@@ -1,0 +1,190 @@
+//! 01's own cases: its trial skins, its slips, its limits and its sheet. What is expected here is copied from 01,
+//! and both the driven programs and this program's own rules are held to it.
+
+use crate::answers::answer;
+use crate::bench::Bench;
+use crate::chance::Chance;
+use crate::figures::sixfold_volume;
+use crate::grow::records_of;
+use crate::harm::{scribble, words};
+use crate::limit::{CENTIMETRES, FEET, METRES};
+use crate::make::{octahedron, seven_corner_torus, shaft_rows, tetrahedron};
+use crate::protocol::*;
+use crate::sheet;
+use crate::skin::{is_stage, rows_of, Corner, Edges, Row};
+use crate::step::Record;
+use crate::tally::difference;
+
+const T_CORNERS: [Corner; 4] = [[0, 0, 0], [300, 0, 0], [0, 300, 0], [0, 0, 300]];
+const O_CORNERS: [Corner; 6] = [[0, 0, 100], [100, 0, 0], [0, 100, 0], [-100, 0, 0], [0, -100, 0], [0, 0, -100]];
+const O_LEFT: [Row; 4] = [[0, 3, 4], [5, 3, 0], [5, 4, 3], [5, 0, 4]];
+const O_LOG: [Record; 2] = [[0, 1, 0, 0, 1, 2, 3, 0, 4, 1], [0, 2, 0, 0, 2, 3, 2, 5, 2, 0]];
+const O_TEXT: &str = "OK\t4\t2\t1\t0\nR\t0\t3\t4\nR\t5\t3\t0\nR\t5\t4\t3\nR\t5\t0\t4\n\
+                      K\t0\t1\t0\t0\t1\t2\t3\t0\t4\t1\nK\t0\t2\t0\t0\t2\t3\t2\t5\t2\t0\n";
+
+pub fn run(bench: &mut Bench, chance: &mut Chance) {
+    thinning(bench, chance);
+    refusals(bench, chance);
+    figures(bench);
+    limits(bench);
+    sheets(bench, chance);
+    the_trial_ring(bench, chance);
+}
+
+fn coordinates(corners: &[Corner]) -> Vec<Word> {
+    corners.concat().into_iter().map(Word::from).collect()
+}
+
+fn thin(order: (i64, f64), rows: &[Row], corners: &[Corner], chance: &mut Chance) -> Request {
+    let room = scribble(10 * (corners.len() as i64 - 4), chance);
+    let bits = order.1.to_bits() as Word;
+    let arguments = vec![vec![order.0], vec![bits], words(&rows.concat()), coordinates(corners), room];
+    Request { call: THIN, arguments }
+}
+
+/// Holds both the driven program and this program's rules to a response that 01 gives.
+fn hold(bench: &mut Bench, name: &str, request: &Request, expected: &Response) {
+    if let Some(wrong) = difference(request, expected, &answer(request)) {
+        bench.tally.fail("01: this program's own rules", &format!("{name}: {wrong}"), "");
+    }
+    bench.try_against(&format!("01: {name}"), request, expected);
+}
+
+fn hold_untouched(bench: &mut Bench, name: &str, request: &Request, answer: &[Word]) {
+    hold(bench, name, request, &Response::untouched(request, answer.to_vec()));
+}
+
+fn thinning(bench: &mut Bench, chance: &mut Chance) {
+    let none = (0, 0.0);
+    hold_untouched(bench, "T, no record", &thin(none, &tetrahedron(), &T_CORNERS, chance), &[0, 0]);
+    let m = seven_corner_torus();
+    let places: Vec<Corner> = (0..7).map(|n| [n, n * n, -n]).collect();
+    hold_untouched(bench, "M, no record", &thin(none, &m, &places, chance), &[0, 0]);
+    let o = octahedron();
+    let at_141 = thin((CENTIMETRES, 141.0), &o, &O_CORNERS, chance);
+    hold_untouched(bench, "O at 141 cm, no record", &at_141, &[0, 0]);
+    for order in [none, (CENTIMETRES, 142.0)] {
+        let request = thin(order, &o, &O_CORNERS, chance);
+        let mut table = words(&O_LEFT.concat());
+        table.resize(24, 0);
+        let expected = Response { answer: vec![0, 2], lent: vec![table, words(&O_LOG.concat())] };
+        hold(bench, "O, two records", &request, &expected);
+    }
+    let back = [words(&O_LEFT.concat()), scribble(12, chance)].concat();
+    let grow = Request { call: GROW_BACK, arguments: vec![vec![4], vec![6], back, words(&O_LOG.concat())] };
+    let expected = Response { answer: vec![0, 2], lent: vec![words(&o.concat())] };
+    hold(bench, "O grown back", &grow, &expected);
+    let replay = Request { call: REPLAY, arguments: vec![vec![6], words(&o.concat()), words(&O_LOG.concat())] };
+    let left = [words(&O_LEFT.concat()), vec![0; 12]].concat();
+    hold(bench, "O replayed", &replay, &Response { answer: vec![0, 2], lent: vec![left] });
+}
+
+fn refusals(bench: &mut Bench, chance: &mut Chance) {
+    let none = (0, 0.0);
+    let mut turned_over = tetrahedron();
+    turned_over[1].swap(1, 2);
+    hold_untouched(bench, "T with a row turned over, 7", &thin(none, &turned_over, &T_CORNERS, chance), &[7, 0]);
+    let open = &octahedron()[..7];
+    hold_untouched(bench, "O without its last row, 8", &thin(none, open, &O_CORNERS, chance), &[8, 0]);
+    let three = &tetrahedron()[..3];
+    hold_untouched(bench, "three rows, 2", &thin(none, three, &T_CORNERS, chance), &[2, 0]);
+    let rows = shaft_rows(1, 512);
+    let corners: Vec<Corner> = (0..514).map(|n| [n, 50_000, -50_000]).collect();
+    let limit = (CENTIMETRES, 0.0);
+    hold_untouched(bench, "1,024 rows and 50,000 pass", &thin(limit, &rows, &corners, chance), &[0, 0]);
+    let more = [rows, vec![[0, 1, 2]]].concat();
+    hold_untouched(bench, "1,025 rows do not, 2", &thin(limit, &more, &corners, chance), &[2, 0]);
+    for far in [50_001, -50_001] {
+        let mut corners = O_CORNERS;
+        corners[3][1] = far;
+        hold_untouched(bench, "50,001 gives 4", &thin(none, &octahedron(), &corners, chance), &[4, 0]);
+    }
+}
+
+/// O's stages in front of its records: none, one, two of them done.
+fn o_stages() -> [Vec<Row>; 3] {
+    let stage = |records| crate::grow::replay(octahedron(), &records_of(&O_LOG[..records].concat())).rows;
+    [stage(0), stage(1), stage(2)]
+}
+
+fn figures(bench: &mut Bench) {
+    let stages = o_stages();
+    let sums: Vec<i128> = stages.iter().map(|rows| sixfold_volume(rows, &O_CORNERS)).collect();
+    let t_sum = sixfold_volume(&tetrahedron(), &T_CORNERS);
+    if sums != [8_000_000, 4_000_000, 2_000_000] || t_sum != -27_000_000 {
+        bench.tally.fail("01: this program's own rules", &format!("sums {sums:?}, {t_sum}"), "");
+    }
+    let volume = |rows: &[Row], corners: &[Corner]| Request {
+        call: VOLUME,
+        arguments: vec![words(&rows.concat()), coordinates(corners)],
+    };
+    hold_untouched(bench, "T's figure", &volume(&tetrahedron(), &T_CORNERS), &[0, -5]);
+    for (rows, figure) in stages.iter().zip([1, 1, 0]) {
+        hold_untouched(bench, "O's figures by stage", &volume(rows, &O_CORNERS), &[0, figure]);
+    }
+    for (earlier, later, figure) in [(0, 1, -1), (1, 2, 0), (0, 2, -1)] {
+        let tables = [earlier, later].map(|n: usize| words(&stages[n].concat()));
+        let arguments = vec![tables[0].clone(), tables[1].clone(), coordinates(&O_CORNERS)];
+        hold_untouched(bench, "O's changes", &Request { call: CHANGE, arguments }, &[0, figure]);
+    }
+}
+
+fn limits(bench: &mut Bench) {
+    let cases = [(METRES, 1.5, 150), (METRES, 1.375, 137), (FEET, 4.75, 144), (METRES, 0.29, 28), (METRES, 0.3, 29)];
+    for (unit, figure, centimetres) in cases {
+        let request = Request { call: LIMIT, arguments: vec![vec![unit], vec![f64::to_bits(figure) as Word]] };
+        hold_untouched(bench, "typed limits", &request, &[0, centimetres]);
+    }
+    for bits in [0, Word::MIN] {
+        let request = Request { call: LIMIT, arguments: vec![vec![FEET], vec![bits]] };
+        hold_untouched(bench, "zero and minus zero", &request, &[0, 0]);
+    }
+    let unusable = [f64::NAN, f64::INFINITY, f64::NEG_INFINITY, -1.0, -f64::MIN_POSITIVE / 4.0, 200_001.0];
+    for figure in unusable {
+        let request = Request { call: LIMIT, arguments: vec![vec![CENTIMETRES], vec![figure.to_bits() as Word]] };
+        hold_untouched(bench, "unusable limits", &request, &[1, 0]);
+    }
+}
+
+fn sheets(bench: &mut Bench, chance: &mut Chance) {
+    let sheet = sheet::write(&O_CORNERS, &octahedron());
+    let bytes: Vec<Word> = sheet.iter().map(|&byte| byte.into()).collect();
+    let arguments = vec![bytes.clone(), scribble(24, chance), coordinates(&[[7; 3]; 6])];
+    let expected =
+        Response { answer: vec![0, 6, 8], lent: vec![words(&octahedron().concat()), coordinates(&O_CORNERS)] };
+    hold(bench, "O's sheet read", &Request { call: READ_SHEET, arguments }, &expected);
+    let text: Vec<Word> = O_TEXT.bytes().map(Word::from).collect();
+    let expected = Response { answer: vec![0, text.len() as Word], lent: vec![[text, vec![1, 2, 3]].concat()] };
+    let arguments = vec![bytes, vec![vec![9; O_TEXT.len()], vec![1, 2, 3]].concat()];
+    hold(bench, "O's sheet answered", &Request { call: DESK_ANSWER, arguments }, &expected);
+    if crate::desk::text(&sheet) != O_TEXT {
+        bench.tally.fail("01: this program's own rules", "the text of O's sheet", "");
+    }
+    bench.try_desk("01: O's sheet on the desk", &sheet);
+    bench.try_desk("01: an empty sheet on the desk", b"");
+}
+
+fn the_trial_ring(bench: &mut Bench, chance: &mut Chance) {
+    let request = Request { call: TRIAL_RING, arguments: vec![] };
+    let Ok(found) = bench.ask(&request) else {
+        return bench.tally.fail("01: the trial ring", "no answer", "");
+    };
+    let table: Vec<u32> = found.answer.iter().map(|&word| word as u32).collect();
+    let rows = rows_of(&table);
+    let number = |r: usize, c: usize| (8 * (r % 8) + c % 8) as u32;
+    let follows_rule = rows.len() == 128
+        && (0..64).all(|n| {
+            let (r, c) = (n / 8, n % 8);
+            rows[2 * n] == [number(r, c), number(r + 1, c), number(r + 1, c + 1)]
+                && rows[2 * n + 1] == [number(r, c), number(r + 1, c + 1), number(r, c + 1)]
+        });
+    bench.property("01: the trial ring", follows_rule && is_stage(&rows, 64), "the rule or closedness", &request);
+    let edges: usize = (0..64).map(|corner| Edges::of(&rows).round(corner).len()).sum::<usize>() / 2;
+    bench.property("01: the trial ring", (64 + rows.len()) == edges, "Euler number 64 - 192 + 128", &request);
+    bench.try_call("01: the trial ring", &request);
+    let corners: Vec<Corner> = (0..64).map(|n| [n, -n, n * n]).collect();
+    if let Some(found) = bench.try_call("01: the trial ring", &thin((0, 0.0), &rows, &corners, chance)) {
+        let left = 64 - found.answer[1];
+        bench.property("01: the trial ring", (7..=10).contains(&left), "7 to 10 corners at the end", &request);
+    }
+}
