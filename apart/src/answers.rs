@@ -199,7 +199,7 @@ fn shift_questions(request: &Request) -> Vec<Question<'_>> {
     let log = &request.arguments[2];
     let past = move |&word: &Word| word >= count as Word;
     vec![
-        (2, Box::new(move || corner_length_refused(&corners) || log.len() % 10 != 0)),
+        (2, Box::new(move || corner_length_refused(&corners) || !log.len().is_multiple_of(10))),
         (4, Box::new(move || coordinate_refused(&given))),
         (5, Box::new(move || past(&request.arguments[0][0]) || log.chunks(10).any(|r| r.iter().take(2).any(past)))),
     ]

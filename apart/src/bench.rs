@@ -7,8 +7,9 @@ use crate::protocol::{bytes_of, Request, Response, Word};
 use crate::tally::{difference, written, Tally};
 use std::time::Duration;
 
-/// How long a driven program may take, and how long once it has been silent a few times.
-const PATIENCE: Duration = Duration::from_secs(60);
+/// How long a driven program may take to answer, to end where it must, and once it has been silent a few times.
+pub const PATIENCE: Duration = Duration::from_secs(60);
+pub const END: Duration = Duration::from_secs(10);
 const LITTLE_PATIENCE: Duration = Duration::from_secs(2);
 const FEW: usize = 3;
 
@@ -35,9 +36,9 @@ impl Bench {
     }
 
     /// A program that hangs at every turn must not hold the run for hours.
-    fn patience(&self) -> Duration {
+    fn patience(&self, most: Duration) -> Duration {
         if self.silent < FEW {
-            PATIENCE
+            most
         } else {
             LITTLE_PATIENCE
         }
@@ -59,17 +60,17 @@ impl Bench {
             None => Driven::start(&self.calls_path)?,
         };
         calls.send(bytes_of(&request.words()));
-        let response = calls.response(request.shape().lent().count(), self.patience());
+        let response = calls.response(request.shape().lent().count(), self.patience(PATIENCE));
         let response = self.heed(response)?;
         self.calls = Some(calls);
         Ok(response)
     }
 
     /// All that a program of its own writes for some input until it ends.
-    pub fn output(&mut self, path: &str, feed: impl FnOnce(&mut Driven)) -> Result<Vec<u8>, String> {
+    pub fn output(&mut self, path: &str, most: Duration, feed: impl FnOnce(&mut Driven)) -> Result<Vec<u8>, String> {
         let mut program = Driven::start(path)?;
         feed(&mut program);
-        let found = program.rest(self.patience());
+        let found = program.rest(self.patience(most));
         self.heed(found)
     }
 
@@ -97,7 +98,7 @@ impl Bench {
     /// Runs the desk on a sheet and compares its whole text.
     pub fn try_desk(&mut self, kind: &str, sheet: &[u8]) {
         let expected = desk::text(sheet);
-        let found = self.output(&self.desk_path.clone(), |program| {
+        let found = self.output(&self.desk_path.clone(), PATIENCE, |program| {
             program.send(sheet.to_vec());
             program.close();
         });

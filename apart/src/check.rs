@@ -107,11 +107,15 @@ fn grown_back(bench: &mut Bench, run: &Run, chance: &mut Chance) {
     bench.property("run: growing back gives the first table", holds, "it does not", &request);
 }
 
-/// Replays to stages by chance and to the end, and measures them.
+/// Replays to every stage of a short run, or to two by chance and the last of a long one, and measures them.
 fn stages(bench: &mut Bench, run: &Run, chance: &mut Chance) {
     let mut earlier = run.skin.rows.clone();
-    let mut cuts = vec![chance.below(run.records() + 1), run.records()];
-    cuts.sort_unstable();
+    let all = run.records();
+    let mut cuts: Vec<usize> = (0..=all).collect();
+    if all > 4 {
+        cuts = vec![chance.below(all), chance.below(all), all];
+        cuts.sort_unstable();
+    }
     for cut in cuts {
         let table = words(&run.skin.table());
         let arguments = vec![vec![run.skin.corners.len() as Word], table, run.log[..10 * cut].to_vec()];
@@ -123,7 +127,7 @@ fn stages(bench: &mut Bench, run: &Run, chance: &mut Chance) {
         bench.property("run: each stage is a stage", holds, "it is none", &request);
         let same = euler(&stage) == euler(&run.skin.rows) && euler(&stage) == 2 - 2 * run.skin.genus as i64;
         bench.property("run: Euler number", same, "it changed", &request);
-        if cut == run.records() {
+        if cut == all {
             bench.property("run: replaying gives the last stage", stage == run.left, "it does not", &request);
         }
         measured(bench, run, &earlier, &stage);

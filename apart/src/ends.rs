@@ -2,7 +2,7 @@
 //! and units, requests cut short, input in pieces, input that is too long or never ends.
 
 use crate::answers::answer;
-use crate::bench::Bench;
+use crate::bench::{Bench, END};
 use crate::chance::Chance;
 use crate::desk;
 use crate::harm::{asked, Input};
@@ -44,7 +44,7 @@ fn must_end(bench: &mut Bench, kind: &str, bad: &[u8], closed: bool, chance: &mu
     let words = bytes_of(&honest.words());
     let behind: &[u8] = if closed { &[] } else { &words };
     let sent = [&words, bad, behind].concat();
-    let found = bench.output(&bench.calls_path.clone(), |calls| {
+    let found = bench.output(&bench.calls_path.clone(), END, |calls| {
         calls.send(sent.clone());
         if closed {
             calls.close();
@@ -142,7 +142,7 @@ fn pieces(bench: &mut Bench, chance: &mut Chance) {
         let mut cuts: Vec<usize> = (0..if round < 3 { 40 } else { 0 }).map(|_| chance.below(sent.len())).collect();
         cuts.extend([0, sent.len()]);
         cuts.sort_unstable();
-        let found = bench.output(&bench.calls_path.clone(), |calls| {
+        let found = bench.output(&bench.calls_path.clone(), END, |calls| {
             for pair in cuts.windows(2) {
                 calls.send(sent[pair[0]..pair[1]].to_vec());
                 thread::sleep(Duration::from_micros(if round < 3 { 300 } else { 0 }));
@@ -181,7 +181,7 @@ fn desk_ends(bench: &mut Bench, chance: &mut Chance) {
 }
 
 fn desk_in_pieces(bench: &mut Bench, sheet: &[u8]) {
-    let found = bench.output(&bench.desk_path.clone(), |program| {
+    let found = bench.output(&bench.desk_path.clone(), END, |program| {
         for piece in sheet.chunks(31) {
             program.send(piece.to_vec());
             thread::sleep(Duration::from_micros(300));
@@ -193,12 +193,19 @@ fn desk_in_pieces(bench: &mut Bench, sheet: &[u8]) {
 
 /// Feeds the desk for ever: it must answer 12 and end all the same.
 fn desk_without_end(bench: &mut Bench, front: &[u8]) {
-    let found = bench.output(&bench.desk_path.clone(), |program| {
+    let found = bench.output(&bench.desk_path.clone(), END, |program| {
         program.send(front.to_vec());
         let feeder = program.feeder().expect("not closed");
         program.close();
-        // Ends when the program does.
-        thread::spawn(move || while feeder.send(vec![b'\n'; 4_096]).is_ok() {});
+        // Ends when the program does. A trickle after the first megabyte: one that reads for ever would keep it all.
+        thread::spawn(move || {
+            for parcel in 0.. {
+                if feeder.send(vec![b'\n'; 4_096]).is_err() {
+                    break;
+                }
+                thread::sleep(Duration::from_millis(if parcel < 256 { 0 } else { 5 }));
+            }
+        });
     });
     bench.desk_verdict("ends: a sheet without end on the desk", front, "NO\t12\n", found);
 }

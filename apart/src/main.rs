@@ -5,11 +5,13 @@ mod answers;
 mod bench;
 mod chance;
 mod check;
+mod counts;
 mod desk;
 mod ends;
 mod figures;
 mod grow;
 mod harm;
+mod hostile;
 mod limit;
 mod logs;
 mod make;
@@ -30,7 +32,7 @@ mod tally;
 mod trial;
 mod typed;
 
-use bench::{desk_difference, Bench};
+use bench::{desk_difference, Bench, END, PATIENCE};
 use chance::Chance;
 use protocol::{bytes_of, Request};
 use std::io::Read;
@@ -85,10 +87,11 @@ fn number(text: &str) -> Option<u64> {
 fn run(calls: &str, desk: &str, count: usize, seed: u64) -> bool {
     let mut bench = Bench::new(calls, desk, count);
     println!("seed {seed}");
-    let parts: [fn(&mut Bench, &mut Chance); 9] = [
+    let parts: [fn(&mut Bench, &mut Chance); 10] = [
         trial::run,
         order::alone,
         |bench, chance| order::run(bench, 3, chance),
+        counts::run,
         sweep::run,
         sums::run,
         sheets::run,
@@ -150,7 +153,7 @@ fn again(path: &str, text: &str) -> bool {
 
 /// Words among which one is no request: those before it are answered, nothing is written for it, and the program ends.
 fn must_end(path: &str, words: &[i64], answered: &[u8]) -> bool {
-    let found = Bench::new(path, "", 1).output(path, |calls| {
+    let found = Bench::new(path, "", 1).output(path, END, |calls| {
         calls.send(bytes_of(words));
         calls.close();
     });
@@ -161,7 +164,7 @@ fn must_end(path: &str, words: &[i64], answered: &[u8]) -> bool {
 fn again_desk(path: &str, text: &str) -> bool {
     let Some(words) = given_words(text) else { return false };
     let sheet: Vec<u8> = words.iter().map(|&word| word as u8).collect();
-    let found = Bench::new("", path, 1).output(path, |program| {
+    let found = Bench::new("", path, 1).output(path, PATIENCE, |program| {
         program.send(sheet.clone());
         program.close();
     });

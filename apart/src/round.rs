@@ -3,12 +3,14 @@
 use crate::bench::Bench;
 use crate::chance::Chance;
 use crate::check;
-use crate::harm::{asked, harm, harm_log, scribble, scribble_bytes, Input};
-use crate::logs::{growth, steps};
+use crate::harm::{asked, harm, harm_log, scribble, Input};
+use crate::hostile;
+use crate::logs::{growth, some_edge, steps};
 use crate::make::{self, Skin};
 use crate::protocol::*;
+use crate::sheets;
 use crate::skin::Row;
-use crate::step::{thin, Record};
+use crate::step::{contract, thin, Record};
 use crate::typed;
 
 /// One round. A large one works on more than 256 rows.
@@ -18,23 +20,23 @@ pub fn run(bench: &mut Bench, large: bool, chance: &mut Chance) {
     if large {
         return large_call(bench, &skin, chance);
     }
-    match chance.below(25) {
+    match chance.below(28) {
         0..=2 => check::run(bench, &skin, typed::order(&skin, chance), chance),
-        3 => thinned(bench, &skin, chance),
-        4..=6 => damaged(bench, &skin, chance),
-        7 | 8 => grown(bench, &skin, chance),
-        9 | 10 => replayed(bench, &skin, chance),
-        11 | 12 => spoiled(bench, &skin, chance),
-        13 => measured(bench, &skin, chance),
-        14 => shifted(bench, &skin, chance),
-        15 | 16 => limits(bench, chance),
-        17 => parts(bench, chance),
-        18 | 19 => sheets(bench, &skin, chance),
-        20 => spoiled_sheet(bench, &skin, chance),
-        21 => desk(bench, &skin, chance),
-        22 => hostile_table(bench, chance),
-        23 => stage_for_first(bench, &skin, chance),
-        _ => hostile_words(bench, chance),
+        3..=7 => thinned(bench, &skin, chance),
+        8..=10 => damaged(bench, &skin, chance),
+        11 | 12 => grown(bench, &skin, chance),
+        13 | 14 => replayed(bench, &skin, chance),
+        15..=17 => spoiled(bench, &skin, chance),
+        18 => measured(bench, &skin, chance),
+        19 => shifted(bench, &skin, chance),
+        20 => limits(bench, chance),
+        21 => parts(bench, chance),
+        22 => sheets::honest(bench, &skin, chance),
+        23 => sheets::spoiled(bench, &skin, chance),
+        24 => sheets::on_the_desk(bench, &skin, chance),
+        25 => hostile::tables(bench, chance),
+        26 => stage_for_first(bench, &skin, chance),
+        _ => hostile::words(bench, chance),
     }
 }
 
@@ -97,14 +99,13 @@ fn damaged(bench: &mut Bench, skin: &Skin, chance: &mut Chance) {
     bench.try_call("chance: damaged", &input.request(call, chance));
 }
 
-/// A log that 01 accepts, for the skin: thinning's own, or steps by chance, or a beginning of one.
+/// A log that 01 accepts for the skin, and the stage it leaves: thinning's own, or steps by chance.
 fn some_log(skin: &Skin, chance: &mut Chance) -> (Vec<Row>, Vec<Record>) {
-    let most = if chance.one_in(2) { usize::MAX } else { 1 + chance.below(6) };
-    if chance.one_in(3) {
-        let (rows, log) = thin(skin.rows.clone(), &skin.corners, None);
-        return if most == usize::MAX { (rows, log) } else { steps(&skin.rows, most, chance) };
+    match chance.below(4) {
+        0 => thin(skin.rows.clone(), &skin.corners, None),
+        1 => steps(&skin.rows, usize::MAX, chance),
+        _ => steps(&skin.rows, 1 + chance.below(6), chance),
     }
-    steps(&skin.rows, most, chance)
 }
 
 /// Growing back what steps took, and growing freely.
@@ -124,9 +125,14 @@ fn grown(bench: &mut Bench, skin: &Skin, chance: &mut Chance) {
     bench.try_call("chance: grown back", &input.request(GROW_BACK, chance));
 }
 
+/// Replay from the first table, or from a stage on the way.
 fn replayed(bench: &mut Bench, skin: &Skin, chance: &mut Chance) {
-    let (_, log) = some_log(skin, chance);
-    bench.try_call("chance: replayed", &Input::new(skin, &log).request(REPLAY, chance));
+    let mut start = skin.clone();
+    if chance.one_in(2) {
+        start.rows = steps(&skin.rows, 1 + chance.below(4), chance).0;
+    }
+    let (_, log) = some_log(&start, chance);
+    bench.try_call("chance: replayed", &Input::new(&start, &log).request(REPLAY, chance));
 }
 
 /// Logs spoiled in one number or more, in their order, or by a record of another kind.
@@ -140,7 +146,13 @@ fn spoiled(bench: &mut Bench, skin: &Skin, chance: &mut Chance) {
         return;
     }
     let mut input = Input::new(skin, &log);
-    spoil(&mut input.log, skin.corners.len() as u32, chance);
+    if call == REPLAY && chance.one_in(3) {
+        // One step more over any edge, whether 01 allows it or not, either number kept.
+        let (a, b) = some_edge(&left, chance);
+        input.log.extend(contract(&left, a, b).1);
+    } else {
+        spoil(&mut input.log, skin.corners.len() as u32, chance);
+    }
     if call == GROW_BACK {
         input.table = left.concat();
     }
@@ -150,7 +162,7 @@ fn spoiled(bench: &mut Bench, skin: &Skin, chance: &mut Chance) {
 fn spoil(log: &mut Vec<u32>, count: u32, chance: &mut Chance) {
     let records = log.len() / 10;
     let at = 10 * chance.below(records);
-    match chance.below(9) {
+    match chance.below(11) {
         0 => log.swap(at, at + 1),
         1 => log.swap(at + 2, at + 6),
         // The two leaving rows, places and all, the other way round.
@@ -162,10 +174,24 @@ fn spoil(log: &mut Vec<u32>, count: u32, chance: &mut Chance) {
         6 => log.extend_from_within(at..at + 10),
         // Numbers of the two rows exchanged.
         7 => (3..6).for_each(|n| log.swap(at + n, at + n + 4)),
+        8 => rename(&mut log[at..at + 10], 1, count, chance),
+        9 => rename(&mut log[at..at + 10], 0, count, chance),
         _ => harm_log(log, count, chance),
     }
     if chance.one_in(4) {
         harm_log(log, count, chance);
+    }
+}
+
+/// Another number for the kept or the removed corner of a record, in its rows as well.
+fn rename(record: &mut [u32], which: usize, count: u32, chance: &mut Chance) {
+    let old = record[which];
+    let any = chance.below(count as usize) as u32;
+    let new = chance.pick(&[any, any, any, count, count + 1, u32::MAX]);
+    for at in [0, 1, 3, 4, 5, 7, 8, 9] {
+        if record[at] == old {
+            record[at] = new;
+        }
     }
 }
 
@@ -235,100 +261,6 @@ fn parts(bench: &mut Bench, chance: &mut Chance) {
         let pair = vec![first.clone(), second.clone()];
         bench.try_call("chance: rings and logs", &Request { call, arguments: pair.clone() });
         bench.try_call("chance: rings and logs", &Request { call, arguments: pair.into_iter().rev().collect() });
-    }
-}
-
-/// Honest sheets, in rooms too short, just enough, and more; the desk's text likewise.
-fn sheets(bench: &mut Bench, skin: &Skin, chance: &mut Chance) {
-    let mut input = Input::new(skin, &[]);
-    input.spare = chance.pick(&[0, 0, 1, 50, -1, -3]);
-    bench.try_call("chance: sheets", &input.request(READ_SHEET, chance));
-    let sheet = input.sheet(chance);
-    let bytes: Vec<u8> = sheet.iter().map(|&word| word as u8).collect();
-    let need = crate::desk::text(&bytes).len();
-    let room = scribble_bytes((need + chance.pick(&[0, 1, 2, 64])) - chance.pick(&[0, 0, 0, 1]), chance);
-    bench.try_call("chance: sheets", &Request { call: DESK_ANSWER, arguments: vec![sheet, room] });
-}
-
-fn some_sheet(skin: &Skin, chance: &mut Chance) -> Vec<u8> {
-    Input::new(skin, &[]).sheet(chance).into_iter().map(|word| word as u8).collect()
-}
-
-/// A sheet with one to three bytes spoiled anywhere.
-fn spoiled_sheet(bench: &mut Bench, skin: &Skin, chance: &mut Chance) {
-    let mut text = some_sheet(skin, chance);
-    for _ in 0..1 + chance.below(3) {
-        let at = chance.below(text.len());
-        match chance.below(4) {
-            0 => drop(text.remove(at)),
-            1 => text.insert(at, chance.pick(b"0123456789\t\n-RC ")),
-            _ => text[at] = chance.pick(b"0123456789\t\n-RC \xff"),
-        }
-    }
-    let bytes: Vec<Word> = text.iter().map(|&byte| byte.into()).collect();
-    let rooms = [scribble(3_072, chance), (0..1_542).map(|_| Word::from(chance.next() as i32)).collect()];
-    let arguments = [vec![bytes], rooms.to_vec()].concat();
-    bench.try_call("chance: spoiled sheets", &Request { call: READ_SHEET, arguments });
-}
-
-/// The program itself, on honest and damaged sheets.
-fn desk(bench: &mut Bench, skin: &Skin, chance: &mut Chance) {
-    let mut input = Input::new(skin, &[]);
-    if chance.one_in(2) && skin.rows.len() >= 8 {
-        let one = chance.pick(asked(DESK_ANSWER));
-        harm(&mut input, DESK_ANSWER, one, chance);
-    }
-    let sheet: Vec<u8> = input.sheet(chance).into_iter().map(|word| word as u8).collect();
-    bench.try_desk("chance: the desk", &sheet);
-}
-
-/// Small tables of any numbers, closed now and then by chance.
-fn hostile_table(bench: &mut Bench, chance: &mut Chance) {
-    let count = 4 + chance.below(3);
-    let rows = chance.pick(&[4, 4, 5, 6, 8]);
-    let mut all: Vec<Row> = Vec::new();
-    for a in 0..count as u32 {
-        for b in a + 1..count as u32 {
-            for c in b + 1..count as u32 {
-                all.extend([[a, b, c], [a, c, b]]);
-            }
-        }
-    }
-    chance.shuffle(&mut all);
-    let corners = (0..count as i32).map(|n| [n, n * n, -n]).collect();
-    let skin = Skin { rows: all[..rows.min(all.len())].to_vec(), corners, genus: 0, name: "any rows" };
-    let input = Input::new(&skin, &[]);
-    for call in [THIN, VOLUME, REPLAY] {
-        bench.try_call("chance: tables of any rows", &input.request(call, chance));
-    }
-}
-
-/// Any words of the right type, up to the type's ends.
-fn hostile_words(bench: &mut Bench, chance: &mut Chance) {
-    let call = chance.pick(&[THIN, GROW_BACK, REPLAY, VOLUME, CHANGE, SHIFT, LIMIT, READ_SHEET, DESK_ANSWER]);
-    let arguments = CALLS[call - 1].arguments.iter().map(|argument| hostile(argument.kind, chance)).collect();
-    bench.try_call("chance: hostile words", &Request { call, arguments });
-}
-
-fn hostile(kind: Kind, chance: &mut Chance) -> Vec<Word> {
-    let length = chance.pick(&[0, 1, 9, 10, 12, 12, 15, 20, 24, 30, 100, 1_542, 1_545, 3_072, 3_075]);
-    let mut one = |ends: &[Word], most: usize| match chance.one_in(4) {
-        true => chance.pick(ends),
-        false => chance.below(most) as Word,
-    };
-    match kind {
-        Kind::OrderUnit => vec![chance.between(0, LAST_UNIT)],
-        Kind::LimitUnit => vec![chance.between(1, LAST_UNIT)],
-        Kind::Whole => vec![one(&[0, 3, 4, 514, 515, 1_024, 1_025, -1, Word::MIN, 1 << 32, 1 << 62], 600)],
-        Kind::Number => vec![one(&[u32::MAX.into(), 1 << 31], 20)],
-        Kind::Numbers => (0..length).map(|_| one(&[u32::MAX.into(), 1 << 31, 0], 6)).collect(),
-        Kind::Coordinates => {
-            let ends = [i32::MAX.into(), i32::MIN.into(), 50_000, -50_000, 50_001];
-            let few = [50_000, -50_000];
-            let wild = one(&[1], 2) == 1;
-            (0..length).map(|_| one(if wild { &ends } else { &few }, 50_000)).collect()
-        }
-        Kind::Bytes => (0..length).map(|_| one(&[0, 255, 9, 10], 256)).collect(),
     }
 }
 

@@ -35,11 +35,11 @@ pub fn corners_of(coordinates: &[i32]) -> Vec<Corner> {
 }
 
 pub fn table_length_refused(table: &[u32]) -> bool {
-    table.len() % 3 != 0 || !ROWS.contains(&(table.len() / 3))
+    !table.len().is_multiple_of(3) || !ROWS.contains(&(table.len() / 3))
 }
 
 pub fn corner_length_refused(coordinates: &[i32]) -> bool {
-    coordinates.len() % 3 != 0 || !CORNERS.contains(&(coordinates.len() / 3))
+    !coordinates.len().is_multiple_of(3) || !CORNERS.contains(&(coordinates.len() / 3))
 }
 
 pub fn coordinate_refused(coordinates: &[i32]) -> bool {

@@ -1,21 +1,31 @@
-//! Sweeps over small inputs: limits round every end, every number of a log spoiled, rings and logs of small kinds.
+//! Sweeps over small inputs: limits round every end, every number of a log spoiled, records and steps of every
+//! kind, rings and logs of small kinds.
 
 use crate::bench::Bench;
 use crate::chance::Chance;
 use crate::harm::{scribble, words};
 use crate::limit::{CENTIMETRES, FEET, METRES};
 use crate::logs::placed;
-use crate::make::{octahedron, tetrahedron, turned};
+use crate::make::{self, octahedron, seven_corner_torus, shaft_rows, tetrahedron, turned};
 use crate::protocol::*;
-use crate::skin::Corner;
-use crate::step::thin;
+use crate::skin::{Corner, Edges};
+use crate::step::{contract, thin};
 use crate::typed::{figure_near, UNITS};
 
 pub fn run(bench: &mut Bench, chance: &mut Chance) {
     limits(bench);
     parts(bench);
     logs(bench, chance);
-    records(bench, chance);
+    grown(bench, chance);
+    replayed(bench, chance);
+}
+
+fn request<const N: usize>(call: usize, arguments: [&[Word]; N]) -> Request {
+    Request { call, arguments: arguments.map(<[Word]>::to_vec).to_vec() }
+}
+
+fn coordinates(corners: &[Corner]) -> Vec<Word> {
+    corners.concat().into_iter().map(Word::from).collect()
 }
 
 /// Figures at the ends of binary64, and a few to each side of limits that round down just so.
@@ -39,8 +49,7 @@ fn limits(bench: &mut Bench) {
     figures.dedup();
     for unit in [METRES, FEET, CENTIMETRES] {
         for &bits in &figures {
-            let request = Request { call: LIMIT, arguments: vec![vec![unit], vec![bits as Word]] };
-            bench.try_call("sweep: limits", &request);
+            bench.try_call("sweep: limits", &request(LIMIT, [&[unit], &[bits as Word]]));
         }
     }
 }
@@ -65,17 +74,16 @@ fn parts(bench: &mut Bench) {
     for first in lists {
         for second in lists {
             for call in [SHORTER_RING, CATCH_UP] {
-                let request = Request { call, arguments: vec![first.to_vec(), second.to_vec()] };
-                bench.try_call("sweep: rings and logs", &request);
+                bench.try_call("sweep: rings and logs", &request(call, [first, second]));
             }
         }
     }
 }
 
-/// Every number of O's log put to every small value and to the type's ends, for growing back and replay.
+/// Every number of O's log put to every small value and to the type's ends.
 fn logs(bench: &mut Bench, chance: &mut Chance) {
     let first = octahedron();
-    let places: Vec<Corner> = vec![[0; 3]; 6];
+    let places: Vec<Corner> = (0..6).map(|n| [n, 100 * n, -n]).collect();
     let (left, log) = thin(first.clone(), &places, None);
     let log = words(&log.concat());
     for at in 0..log.len() {
@@ -83,23 +91,45 @@ fn logs(bench: &mut Bench, chance: &mut Chance) {
             let mut spoiled = log.clone();
             spoiled[at] = value.into();
             let room = [words(&left.concat()), scribble(14, chance)].concat();
-            let grow = Request { call: GROW_BACK, arguments: vec![vec![4], vec![6], room, spoiled.clone()] };
-            bench.try_call("sweep: spoiled logs", &grow);
-            let replay = Request { call: REPLAY, arguments: vec![vec![6], words(&first.concat()), spoiled] };
-            bench.try_call("sweep: spoiled logs", &replay);
+            let kind = "sweep: spoiled logs";
+            bench.try_call(kind, &request(GROW_BACK, [&[4], &[6], &room, &spoiled]));
+            bench.try_call(kind, &request(REPLAY, [&[6], &words(&first.concat()), &spoiled]));
+            let corner = chance.between(0, 5);
+            bench.try_call(kind, &request(SHIFT, [&[corner], &coordinates(&places), &spoiled]));
         }
     }
 }
 
-/// Records of every kept, removed and opposite corner there could be, grown on T among six corners.
-fn records(bench: &mut Bench, chance: &mut Chance) {
-    let table = words(&tetrahedron().concat());
-    for n in 0..6 * 6 * 5 * 5 {
-        let (kept, removed, x, y) = (n % 6, n / 6 % 6, n / 36 % 5, n / 180);
-        let rows = [turned([kept, removed, x], chance.below(3)), turned([removed, kept, y], chance.below(3))];
-        let record = placed([kept, removed], rows, 6, chance);
-        let room = [table.clone(), scribble(6, chance)].concat();
-        let arguments = vec![vec![4], vec![6], room, words(&record)];
-        bench.try_call("sweep: every record on T", &Request { call: GROW_BACK, arguments });
+/// Records of every kept, removed and opposite corner there could be, grown on a T whose corners are 1, 3, 4 and 6
+/// of seven: numbers unused below, between and above its own, and past the count.
+fn grown(bench: &mut Bench, chance: &mut Chance) {
+    let names = [1, 3, 4, 6];
+    let table = words(&tetrahedron().concat().iter().map(|&n| names[n as usize]).collect::<Vec<u32>>());
+    for kept in [0, 1, 3, 4, 6] {
+        for removed in [0, 2, 3, 5, 7, 8, u32::MAX] {
+            for n in 0..25 {
+                let (x, y) = ([1, 2, 3, 4, 6][n / 5], [1, 2, 3, 4, 6][n % 5]);
+                let rows = [turned([kept, removed, x], n), turned([removed, kept, y], n / 3)];
+                let record = placed([kept, removed], rows, 6, chance);
+                let room = [table.clone(), scribble(6, chance)].concat();
+                let grow = request(GROW_BACK, [&[4], &[7], &room, &words(&record)]);
+                bench.try_call("sweep: records of every kind grown", &grow);
+            }
+        }
+    }
+}
+
+/// The record of a step over every edge, either number kept: replay takes it exactly where 01 allows the step.
+fn replayed(bench: &mut Bench, chance: &mut Chance) {
+    let torus = make::skin_of_genus(1, 18, chance).rows;
+    for rows in [octahedron(), seven_corner_torus(), shaft_rows(2, 3), torus] {
+        let count = Edges::of(&rows).used().len() as u32;
+        for a in 0..count {
+            for e in Edges::of(&rows).round(a) {
+                let (_, record) = contract(&rows, a, e[1]);
+                let replay = request(REPLAY, [&[count.into()], &words(&rows.concat()), &words(&record)]);
+                bench.try_call("sweep: a step over every edge replayed", &replay);
+            }
+        }
     }
 }

@@ -155,7 +155,7 @@ fn sheets(bench: &mut Bench, chance: &mut Chance) {
     hold(bench, "O's sheet read", &Request { call: READ_SHEET, arguments }, &expected);
     let text: Vec<Word> = O_TEXT.bytes().map(Word::from).collect();
     let expected = Response { answer: vec![0, text.len() as Word], lent: vec![[text, vec![1, 2, 3]].concat()] };
-    let arguments = vec![bytes, vec![vec![9; O_TEXT.len()], vec![1, 2, 3]].concat()];
+    let arguments = vec![bytes, [vec![9; O_TEXT.len()], vec![1, 2, 3]].concat()];
     hold(bench, "O's sheet answered", &Request { call: DESK_ANSWER, arguments }, &expected);
     if crate::desk::text(&sheet) != O_TEXT {
         bench.tally.fail("01: this program's own rules", "the text of O's sheet", "");

@@ -1,0 +1,91 @@
+//! Counts and lengths at their limits: rows, corners, rows told, records, room, and lists that are no multiple.
+
+use crate::bench::Bench;
+use crate::chance::Chance;
+use crate::harm::{scribble, words};
+use crate::make::{octahedron, tetrahedron};
+use crate::protocol::*;
+
+const KIND: &str = "sweep: counts at their limits";
+/// Whole words outside every limit; cut to fewer bits, or taken three times, some would come back inside.
+const PAST: [Word; 6] = [1 << 32 | 4, 1 << 32 | 6, 1 << 62, Word::MIN, -1, Word::MAX / 3 + 5];
+
+pub fn run(bench: &mut Bench, chance: &mut Chance) {
+    corners(bench, chance);
+    counts(bench);
+    rows_told(bench, chance);
+    records_grown(bench, chance);
+    records_replayed(bench);
+    log_lengths(bench, chance);
+}
+
+fn t() -> Vec<Word> {
+    words(&tetrahedron().concat())
+}
+
+fn attempt<const N: usize>(bench: &mut Bench, call: usize, arguments: [&[Word]; N]) {
+    bench.try_call(KIND, &Request { call, arguments: arguments.map(<[Word]>::to_vec).to_vec() });
+}
+
+/// Coordinates for too few corners, enough and too many, and one or two numbers over.
+fn corners(bench: &mut Bench, chance: &mut Chance) {
+    for count in [0, 1, 3, 4, 5, 513, 514, 515, 516, 1_024] {
+        for over in 0..3 {
+            let coordinates: Vec<Word> = (0..3 * count + over).map(|_| chance.between(-300, 300)).collect();
+            let room = scribble(10 * (count - 4), chance);
+            attempt(bench, THIN, [&[0], &[0], &t(), &coordinates, &room]);
+            attempt(bench, VOLUME, [&t(), &coordinates]);
+            attempt(bench, CHANGE, [&t(), &t(), &coordinates]);
+            attempt(bench, SHIFT, [&[0], &coordinates, &[]]);
+        }
+    }
+}
+
+/// Corner counts for growing back and replay.
+fn counts(bench: &mut Bench) {
+    for count in [0, 1, 3, 4, 5, 513, 514, 515].into_iter().chain(PAST) {
+        attempt(bench, GROW_BACK, [&[4], &[count], &t(), &[]]);
+        attempt(bench, REPLAY, [&[count], &t(), &[]]);
+    }
+}
+
+/// Rows told, over a room of T again and again: four rows are a stage, more have their edges twice.
+fn rows_told(bench: &mut Bench, chance: &mut Chance) {
+    let long: Vec<Word> = t().into_iter().cycle().take(3 * 1_030).collect();
+    for told in [0, 1, 3, 4, 5, 8, 1_023, 1_024, 1_025, 1_030].into_iter().chain(PAST) {
+        let exact = usize::try_from(told).unwrap_or(0).min(1_030) * 3;
+        for length in [exact.saturating_sub(1), exact, exact + 1, long.len()] {
+            let room = &long[..length.min(long.len())];
+            attempt(bench, GROW_BACK, [&[told], &[chance.pick(&[4, 9])], room, &[]]);
+        }
+    }
+}
+
+/// Logs that grow T to the most rows and past it, in rooms just short and just enough.
+fn records_grown(bench: &mut Bench, chance: &mut Chance) {
+    for records in [1, 2, 509, 510, 511, 512, 1_638] {
+        let log = vec![0; 10 * records];
+        for spare in [-1, 0, 1] {
+            let length = (3 * (4 + 2 * records) as i64 + spare).min(16_384);
+            let room = [t(), scribble(length - 12, chance)].concat();
+            attempt(bench, GROW_BACK, [&[4], &[514], &room, &log]);
+        }
+    }
+}
+
+/// Logs that would leave six rows of O, four, two, and fewer than none.
+fn records_replayed(bench: &mut Bench) {
+    for records in [1, 2, 3, 4, 5, 1_638] {
+        attempt(bench, REPLAY, [&[6], &words(&octahedron().concat()), &vec![0; 10 * records]]);
+    }
+}
+
+fn log_lengths(bench: &mut Bench, chance: &mut Chance) {
+    for length in 0..22 {
+        let log = vec![0; length];
+        attempt(bench, SHIFT, [&[0], &[0; 12], &log]);
+        attempt(bench, REPLAY, [&[6], &words(&octahedron().concat()), &log]);
+        let room = [t(), scribble(12, chance)].concat();
+        attempt(bench, GROW_BACK, [&[4], &[6], &room, &log]);
+    }
+}

@@ -1,0 +1,58 @@
+//! Hostile calls: tables of any rows, and any words of the right type up to the type's ends.
+
+use crate::bench::Bench;
+use crate::chance::Chance;
+use crate::harm::Input;
+use crate::make::Skin;
+use crate::protocol::*;
+use crate::skin::Row;
+
+/// Small tables of any numbers, closed now and then by chance.
+pub fn tables(bench: &mut Bench, chance: &mut Chance) {
+    let count = 4 + chance.below(3);
+    let rows = chance.pick(&[4, 4, 5, 6, 8]);
+    let mut all: Vec<Row> = Vec::new();
+    for a in 0..count as u32 {
+        for b in a + 1..count as u32 {
+            for c in b + 1..count as u32 {
+                all.extend([[a, b, c], [a, c, b]]);
+            }
+        }
+    }
+    chance.shuffle(&mut all);
+    let corners = (0..count as i32).map(|n| [n, n * n, -n]).collect();
+    let skin = Skin { rows: all[..rows.min(all.len())].to_vec(), corners, genus: 0, name: "any rows" };
+    let input = Input::new(&skin, &[]);
+    for call in [THIN, VOLUME, REPLAY] {
+        bench.try_call("chance: tables of any rows", &input.request(call, chance));
+    }
+}
+
+/// Any words of the right type, up to the type's ends.
+pub fn words(bench: &mut Bench, chance: &mut Chance) {
+    let call = chance.pick(&[THIN, GROW_BACK, REPLAY, VOLUME, CHANGE, SHIFT, LIMIT, READ_SHEET, DESK_ANSWER]);
+    let arguments = CALLS[call - 1].arguments.iter().map(|argument| any_words(argument.kind, chance)).collect();
+    bench.try_call("chance: hostile words", &Request { call, arguments });
+}
+
+fn any_words(kind: Kind, chance: &mut Chance) -> Vec<Word> {
+    let length = chance.pick(&[0, 1, 9, 10, 12, 12, 15, 20, 24, 30, 100, 1_542, 1_545, 3_072, 3_075]);
+    let mut one = |ends: &[Word], most: usize| match chance.one_in(4) {
+        true => chance.pick(ends),
+        false => chance.below(most) as Word,
+    };
+    match kind {
+        Kind::OrderUnit => vec![chance.between(0, LAST_UNIT)],
+        Kind::LimitUnit => vec![chance.between(1, LAST_UNIT)],
+        Kind::Whole => vec![one(&[0, 3, 4, 514, 515, 1_024, 1_025, -1, Word::MIN, 1 << 32, 1 << 62], 600)],
+        Kind::Number => vec![one(&[u32::MAX.into(), 1 << 31], 20)],
+        Kind::Numbers => (0..length).map(|_| one(&[u32::MAX.into(), 1 << 31, 0], 6)).collect(),
+        Kind::Coordinates => {
+            let ends = [i32::MAX.into(), i32::MIN.into(), 50_000, -50_000, 50_001];
+            let few = [50_000, -50_000];
+            let wild = one(&[1], 2) == 1;
+            (0..length).map(|_| one(if wild { &ends } else { &few }, 50_000)).collect()
+        }
+        Kind::Bytes => (0..length).map(|_| one(&[0, 255, 9, 10], 256)).collect(),
+    }
+}
