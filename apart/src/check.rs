@@ -9,6 +9,7 @@ use crate::limit::whole_centimetres;
 use crate::make::Skin;
 use crate::protocol::*;
 use crate::skin::{is_stage, rows_of, Edges, Row};
+use crate::step::{contract, meets_link_condition};
 
 /// A run as the driven program left it.
 struct Run<'a> {
@@ -46,6 +47,8 @@ pub fn run(bench: &mut Bench, skin: &Skin, order: (i64, u64), chance: &mut Chanc
         left: left[..skin.rows.len() - 2 * records].to_vec(),
         log: found.lent[1][..10 * records].to_vec(),
     };
+    theorem(bench, &skin.rows, &run.request);
+    theorem(bench, &run.left, &run.request);
     endings(bench, &run);
     grown_back(bench, &run, chance);
     stages(bench, &run, chance);
@@ -69,6 +72,19 @@ fn numbers(words: &[Word]) -> Vec<u32> {
 /// Corners less edges plus rows; every edge lies in two rows.
 fn euler(rows: &[Row]) -> i64 {
     Edges::of(rows).used().len() as i64 - rows.len() as i64 / 2
+}
+
+/// Theorem 2A, for this program's own link condition: a step leaves a stage exactly where the condition holds.
+fn theorem(bench: &mut Bench, rows: &[Row], request: &Request) {
+    if rows.len() > 60 {
+        return;
+    }
+    let edges = Edges::of(rows);
+    let holds = rows.iter().flat_map(|&[a, b, c]| [(a, b), (b, c), (c, a)]).all(|(a, b)| {
+        let left = contract(rows, a, b).0;
+        meets_link_condition(&edges, a, b) == is_stage(&left, usize::MAX)
+    });
+    bench.property("own rules: Theorem 2A", holds, "the link condition and the step disagree", request);
 }
 
 /// Used corners, and how runs without limit end by genus.

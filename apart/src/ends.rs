@@ -39,6 +39,9 @@ fn small_request(call: usize, chance: &mut Chance) -> Request {
 /// Sends an honest request and then bytes that are none: the honest one is answered, nothing else is written, and
 /// the program ends, whether or not more stands behind.
 fn must_end(bench: &mut Bench, kind: &str, bad: &[u8], closed: bool, chance: &mut Chance) {
+    if bench.enough() {
+        return;
+    }
     let honest = small_request(chance.pick(&[THIN, VOLUME, LIMIT, CATCH_UP]), chance);
     let expected = bytes_of(&answer(&honest).words());
     let words = bytes_of(&honest.words());
