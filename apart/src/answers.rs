@@ -10,10 +10,6 @@ use crate::sheet;
 use crate::skin::*;
 use crate::step::thin;
 
-/// Whether the desk's answer hands a refused sheet back as its status, or as the `NO` line in the text.
-/// calls.md says of every status "0 done, else the refusal number", so it is the status here.
-const SHEET_REFUSED_BY_STATUS: bool = true;
-
 pub fn answer(request: &Request) -> Response {
     if let Some(number) = first_that_holds(&questions(request)) {
         return refused(request, number);
@@ -233,11 +229,8 @@ fn sheet_read(request: &Request) -> Response {
 }
 
 fn desk_answer(request: &Request) -> Response {
-    let text = match desk::lines(&bytes(request, 0)) {
-        Err(number) if SHEET_REFUSED_BY_STATUS => return refused(request, number),
-        Err(number) => desk::no(number),
-        Ok(text) => text,
-    };
+    // A refused sheet is a `NO` line in the text: the call that told it is done.
+    let text = desk::text(&bytes(request, 0));
     if request.arguments[1].len() < text.len() {
         return refused(request, 3);
     }

@@ -90,12 +90,22 @@ fn compare(bench: &mut Bench, kind: &str, request: &Request, harms: &[Harm]) {
     // A length outside its limits may cut another harm off; 13 and a sheet's lines are seen in the work alone.
     let apart = harms[0] == Harm::Counts || matches!(request.call, READ_SHEET | DESK_ANSWER);
     let there = apart || harms.iter().all(|harm| *harm == Harm::Log || seen(harm));
-    let status = answer(request).answer[0];
+    let status = refusal_told(&answer(request));
     if !there || status != harms[0].number() {
         let what = format!("harms {harms:?} on call {} were not done: {holding:?}, answer {status}", request.call);
         bench.tally.fail("order: the maker", &what, "");
     }
     bench.try_call(kind, request);
+}
+
+/// The refusal that a response tells: its status, or the number of the `NO` line at the front of its text.
+fn refusal_told(response: &Response) -> i64 {
+    let status = response.answer[0];
+    let line: String = response.lent.first().map_or(String::new(), |text| text.iter().map_while(|&byte| u8::try_from(byte).ok()).map(char::from).collect());
+    match line.strip_prefix("NO\t").and_then(|rest| rest.split('\n').next()) {
+        Some(number) if status == 0 => number.parse().unwrap_or(status),
+        _ => status,
+    }
 }
 
 /// Honest skins with one thing that alone calls for 5, 6, 7 or 8, and nothing else wrong.
