@@ -125,7 +125,10 @@ impl Bench {
         self.tally.calls += 1;
         let wrong = match found {
             Ok(found) if found == expected => None,
-            Ok(found) => Some(format!("wrote {} bytes, {} were right, or other ones", found.len(), expected.len())),
+            Ok(found) => {
+                let at = (0..).find(|&at| expected.get(at) != found.get(at)).unwrap_or(0);
+                Some(format!("wrote {} bytes where {} were to come; byte {at} differs", found.len(), expected.len()))
+            }
             Err(why) => Some(format!("the program must end: {why}")),
         };
         let whole = sent.chunks_exact(8).map(|word| Word::from_le_bytes(word.try_into().expect("eight bytes")));
