@@ -1,0 +1,4 @@
+pub mod Saying
+pub mod Lent
+pub mod Main
+pub mod OtherUnits

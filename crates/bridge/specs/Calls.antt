@@ -1,0 +1,66 @@
+-- What each call that may refuse says where it crosses: the struct shows an answer that the call itself gives, in its own words.
+use mathlib.Core.Path.{_≡_}
+use mathlib.Core.List.{List}
+use Prim.Native.Nat.{ℕ}
+use lib.IntN.{ℤ}
+use lib.Ieee.{Float}
+use Rattle.length.specs.Limit.{limit-of}
+use Rattle.length.specs.Answer as length-answer
+use Rattle.thin.specs.Thin.{Thinned}
+use Rattle.thin.specs.Answer as thin-answer
+use Rattle.regrow.specs.Outcome.{GrownAs}
+use Rattle.regrow.specs.Answer as regrow-answer
+use Rattle.replay.specs.Outcome.{ReplayedAs}
+use Rattle.volume.specs.Report.{VolumeReport, ChangeReport}
+use Rattle.volume.specs.Answer as volume-answer
+use Rattle.shift.specs.Report.{ShiftReport}
+use Rattle.shift.specs.Answer as shift-answer
+use Rattle.sheet.specs.Outcome.{ReadSheet}
+use Rattle.sheet.specs.Answer as sheet-answer
+use Rattle.reply.specs.Outcome.{Replied}
+use Rattle.reply.specs.Answer as reply-answer
+use Rattle.bridge.specs.declared.Counted.{Counted}
+use Rattle.bridge.specs.declared.Measure.{Measure}
+use Rattle.bridge.specs.declared.StandIn.{StandIn}
+use Rattle.bridge.specs.declared.Centimetres.{Centimetres}
+use Rattle.bridge.specs.declared.Counts.{Counts}
+use Rattle.bridge.specs.declared.Written.{Written}
+use Rattle.bridge.specs.Units.{length-of, order-of}
+use Rattle.bridge.specs.Says.{Shown}
+use Rattle.bridge.specs.Fields.{of-counted, of-measure, of-stand-in, of-centimetres, of-counts, of-written}
+
+-- thinning under the order of the unit u and the figure v
+abbrev pub ThinShown : ℕ → Float → List ℤ → List ℕ → List ℕ → Counted → List ℕ → List ℕ → Type 0
+ThinShown u v xs t l r t′ l′ = Shown (λ a. Thinned (order-of u v) xs t l a t′ l′) thin-answer.told (of-counted r)
+
+-- growing back
+abbrev pub GrowShown : ℕ → ℕ → List ℕ → List ℕ → Counted → List ℕ → Type 0
+GrowShown n m room log r room′ = Shown (λ a. GrownAs n m room log a room′) regrow-answer.told (of-counted r)
+
+-- replay
+abbrev pub ReplayShown : ℕ → List ℕ → List ℕ → Counted → List ℕ → Type 0
+ReplayShown n t log r t′ = Shown (λ a. ReplayedAs n t log a t′) regrow-answer.told (of-counted r)
+
+-- a volume
+abbrev pub VolumeShown : List ℤ → List ℕ → Measure → Type 0
+VolumeShown xs t r = Shown (λ a. VolumeReport xs t (volume-answer.told a)) volume-answer.told (of-measure r)
+
+-- a change
+abbrev pub ChangeShown : List ℤ → List ℕ → List ℕ → Measure → Type 0
+ChangeShown xs earlier later r = Shown (λ a. ChangeReport xs earlier later (volume-answer.told a)) volume-answer.told (of-measure r)
+
+-- a shift
+abbrev pub ShiftShown : List ℤ → List ℕ → ℕ → StandIn → Type 0
+ShiftShown xs log v r = Shown (λ a. ShiftReport xs log v (shift-answer.told a)) shift-answer.told (of-stand-in r)
+
+-- a typed limit
+abbrev pub LimitShown : ℕ → Float → Centimetres → Type 0
+LimitShown u v r = Shown (λ a. a ≡ limit-of (length-of u v)) length-answer.told (of-centimetres r)
+
+-- a sheet
+abbrev pub SheetShown : List ℕ → List ℕ → List ℕ → List ℤ → List ℤ → Counts → Type 0
+SheetShown b t t′ xs xs′ r = Shown (λ a. ReadSheet b t t′ xs xs′ a) sheet-answer.told (of-counts r)
+
+-- the desk's answer
+abbrev pub ReplyShown : List ℕ → List ℕ → Written → List ℕ → Type 0
+ReplyShown b text r text′ = Shown (λ a. Replied b text a text′) reply-answer.told (of-written r)

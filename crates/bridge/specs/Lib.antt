@@ -1,0 +1,5 @@
+pub mod Units
+pub mod Says
+pub mod Fields
+pub mod Lent
+pub mod Calls
