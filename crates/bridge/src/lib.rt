@@ -1,5 +1,7 @@
-// The C boundary: every public call with numbers and lent slices alone. No call here asks anything of its caller's numbers.
-// A refused call has 0 for every value, but 13 carries the records done.
+// The C boundary: every public call with numbers and lent slices alone. No call asks anything of the numbers it is given.
+// The status is 0 for done, else the refusal's number; a refused call has 0 for every value, but 13 carries the records done.
+// Two numbers cross as a struct. Of more, the first is the result and the rest go into lent numbers: a larger struct is handed back through a
+// pointer that each processor keeps in another register.
 use length::Length;
 use length::Order;
 use length::Reading;
@@ -39,8 +41,7 @@ pub struct Measure {
     pub figure: i64,
 }
 
-// What a shift report answers: the status, stand-in, count and squared distance.
-#[repr(C)]
+// What a shift report answers: the status, stand-in, count and squared distance. Does not cross as a struct.
 pub struct StandIn {
     pub status: u64,
     pub corner: u64,
@@ -55,8 +56,7 @@ pub struct Centimetres {
     pub whole: u64,
 }
 
-// What the sheet reader answers: the status, corner count and row count.
-#[repr(C)]
+// What the sheet reader answers: the status, corner count and row count. Does not cross as a struct.
 pub struct Counts {
     pub status: u64,
     pub corners: u64,
@@ -78,7 +78,7 @@ pub struct Stored {
 }
 
 // A part of one of two lent logs, the first (0) or the second (1): its numbers at the places from `from` up to, not with, `to`.
-#[repr(C)]
+// Does not cross as a struct.
 pub struct Part {
     pub log: u64,
     pub from: u64,
@@ -245,6 +245,32 @@ fn stored_of(a: Trial) -> Stored
     }
 }
 
+// Where the catch-up part lies. Its length tells: an empty part is the one from 0 to 0, any other the rest of the longer log.
+fn part_of<'a>(first: &'a [u32], second: &'a [u32]) -> Part
+    ensures { λ r. ⌜ PartShown (first .entry) (second .entry) r ⌝ }
+{
+    let part = catchup::catch_up(first, second);
+    if part.len() == 0 {
+        return Part {
+            log: 0,
+            from: 0,
+            to: 0,
+        };
+    }
+    if first.len() < second.len() {
+        return Part {
+            log: 1,
+            from: first.len() as u64,
+            to: second.len() as u64,
+        };
+    }
+    Part {
+        log: 0,
+        from: second.len() as u64,
+        to: first.len() as u64,
+    }
+}
+
 // ---- the calls
 
 // Thins a first table under an order.
@@ -298,12 +324,23 @@ pub extern "C" fn flaxglimmer_change(earlier: &[u32], later: &[u32], corners: &[
     measure_of(volume::change(earlier, later, corners))
 }
 
-// The shift of a corner by a log that was written over these coordinates.
+// The shift of a corner by a log that was written over these coordinates: the status, and stand-in, count and squared distance in lent numbers.
 #[no_mangle]
-pub extern "C" fn flaxglimmer_shift(corner: u32, corners: &[i32], log: &[u32]) -> StandIn
-    ensures { λ r. ⌜ ShiftShown (now (corners .entry)) (now (log .entry)) corner r ⌝ }
+pub extern "C" fn flaxglimmer_shift(
+    corner: u32,
+    corners: &[i32],
+    log: &[u32],
+    standin: &mut u64,
+    count: &mut u64,
+    squared: &mut u64,
+) -> u64
+    ensures { λ r. ⌜ ShiftShown (now (corners .entry)) (now (log .entry)) corner (record { status = r; corner = now (standin .exit); count = now (count .exit); squared = now (squared .exit) }) ⌝ }
 {
-    stand_in_of(shift::shift(corners, log, corner))
+    let shifted = stand_in_of(shift::shift(corners, log, corner));
+    *standin = shifted.corner;
+    *count = shifted.count;
+    *squared = shifted.squared;
+    shifted.status
 }
 
 // A typed limit in whole centimetres. Unit 0 is none of its units.
@@ -326,43 +363,37 @@ pub extern "C" fn flaxglimmer_shorter_ring<'a>(first: &'a [u32], second: &'a [u3
     1
 }
 
-// The part that the longer of two lent logs has more, as places in it.
+// The part that the longer of two lent logs has more: which of the two it is of, 0 the first or 1 the second, and its places, from `from` up to, not with, `to`.
 #[no_mangle]
-pub extern "C" fn flaxglimmer_catch_up<'a>(first: &'a [u32], second: &'a [u32]) -> Part
-    ensures { λ r. ⌜ PartShown (first .entry) (second .entry) r ⌝ }
+pub extern "C" fn flaxglimmer_catch_up<'a>(
+    first: &'a [u32],
+    second: &'a [u32],
+    from: &mut u64,
+    to: &mut u64,
+) -> u64
+    ensures { λ r. ⌜ PartShown (first .entry) (second .entry) (record { log = r; from = now (from .exit); to = now (to .exit) }) ⌝ }
 {
-    let part = catchup::catch_up(first, second);
-    if part.len() == 0 {
-        return Part {
-            log: 0,
-            from: 0,
-            to: 0,
-        };
-    }
-    if first.len() < second.len() {
-        return Part {
-            log: 1,
-            from: first.len() as u64,
-            to: second.len() as u64,
-        };
-    }
-    Part {
-        log: 0,
-        from: second.len() as u64,
-        to: first.len() as u64,
-    }
+    let part = part_of(first, second);
+    *from = part.from;
+    *to = part.to;
+    part.log
 }
 
-// Reads a sheet into a lent table and lent corners.
+// Reads a sheet into a lent table and lent corners: the status, and corner count and row count in lent numbers.
 #[no_mangle]
 pub extern "C" fn flaxglimmer_read_sheet(
     bytes: &[u8],
     table: &mut [u32],
     corners: &mut [i32],
-) -> Counts
-    ensures { λ r. ⌜ SheetShown (now (bytes .entry)) (now (table .entry)) (now (table .exit)) (now (corners .entry)) (now (corners .exit)) r ⌝ }
+    count: &mut u64,
+    rows: &mut u64,
+) -> u64
+    ensures { λ r. ⌜ SheetShown (now (bytes .entry)) (now (table .entry)) (now (table .exit)) (now (corners .entry)) (now (corners .exit)) (record { status = r; corners = now (count .exit); rows = now (rows .exit) }) ⌝ }
 {
-    counts_of(sheet::read_sheet(bytes, table, corners))
+    let counts = counts_of(sheet::read_sheet(bytes, table, corners));
+    *count = counts.corners;
+    *rows = counts.rows;
+    counts.status
 }
 
 // The trial ring's number at a place of its table.
