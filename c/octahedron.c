@@ -1,0 +1,80 @@
+/* Thins document 01's octahedron, grows it back, and prints what each call answers. */
+#include <inttypes.h>
+#include <math.h>
+#include <stdio.h>
+#include <string.h>
+
+#include "flaxglimmer.h"
+
+static const int32_t corners[18] = {0, 0, 100, 100, 0, 0, 0, 100, 0, -100, 0, 0, 0, -100, 0, 0, 0, -100};
+static const uint32_t first[24] = {0, 1, 2, 0, 2, 3, 0, 3, 4, 0, 4, 1, 5, 2, 1, 5, 3, 2, 5, 4, 3, 5, 1, 4};
+
+/* A list, with a stroke between its rows or records. */
+static void numbers(const char *name, const uint32_t *list, size_t length, size_t width)
+{
+    fputs(name, stdout);
+    for (size_t i = 0; i < length; i++)
+        printf("%s %" PRIu32, i != 0 && i % width == 0 ? " /" : "", list[i]);
+    putchar('\n');
+}
+
+static void counted(const char *name, struct flaxglimmer_counted a)
+{
+    printf("%s %" PRIu64 " %" PRIu64 "\n", name, a.status, a.records);
+}
+
+static void measure(const char *name, struct flaxglimmer_measure a)
+{
+    printf("%s %" PRIu64 " %" PRId64 "\n", name, a.status, a.figure);
+}
+
+static void limit(const char *name, uint32_t unit, double figure)
+{
+    struct flaxglimmer_centimetres a = flaxglimmer_limit(unit, figure);
+    printf("%s %" PRIu64 " %" PRIu64 "\n", name, a.status, a.whole);
+}
+
+int main(void)
+{
+    uint32_t table[24], log[20];
+    memcpy(table, first, sizeof first);
+    counted("thin", flaxglimmer_thin(FLAXGLIMMER_NO_LIMIT, 0, table, 24, corners, 18, log, 20));
+    numbers("rows", table, 12, 3);
+    numbers("records", log, 20, 10);
+    measure("volume", flaxglimmer_volume(first, 24, corners, 18));
+    measure("change", flaxglimmer_change(first, 24, table, 12, corners, 18));
+
+    uint64_t stand_in, count, squared;
+    uint64_t status = flaxglimmer_shift(2, corners, 18, log, 20, &stand_in, &count, &squared);
+    printf("shift %" PRIu64 " %" PRIu64 " %" PRIu64 " %" PRIu64 "\n", status, stand_in, count, squared);
+
+    counted("grow back", flaxglimmer_grow_back(4, 6, table, 24, log, 20));
+    printf("restored %s\n", memcmp(table, first, sizeof first) == 0 ? "yes" : "no");
+    counted("replay", flaxglimmer_replay(6, table, 24, log, 20));
+    log[0] = 5;
+    counted("a record that fails", flaxglimmer_grow_back(4, 6, table, 24, log, 20));
+
+    limit("0.3 m", FLAXGLIMMER_METRES, 0.3);
+    limit("no number", FLAXGLIMMER_METRES, NAN);
+    limit("another unit", 4, 0.3);
+    counted("another unit's limit", flaxglimmer_thin(4, 0.3, table, 24, corners, 18, log, 20));
+    counted("a short log", flaxglimmer_thin(FLAXGLIMMER_FEET, 1, table, 24, corners, 18, log, 19));
+    counted("nothing", flaxglimmer_replay(6, NULL, 0, NULL, 0));
+
+    uint64_t from, to;
+    uint64_t which = flaxglimmer_catch_up(first, 6, first, 24, &from, &to);
+    printf("catch up %" PRIu64 " %" PRIu64 " %" PRIu64 "\n", which, from, to);
+    printf("shorter ring %" PRIu32 " %" PRIu32 "\n", flaxglimmer_shorter_ring(first, 6, first, 5), flaxglimmer_shorter_ring(first, 5, first, 5));
+
+    struct flaxglimmer_stored stored = flaxglimmer_trial_number(383);
+    printf("trial number %" PRIu64 " %" PRIu64 "\n", stored.there, stored.number);
+
+    uint8_t text[64];
+    uint64_t corner_count, rows;
+    const char *sheet = "SKIN\t4\t3\n";
+    status = flaxglimmer_read_sheet((const uint8_t *)sheet, strlen(sheet), table, 24, NULL, 0, &corner_count, &rows);
+    printf("sheet %" PRIu64 " %" PRIu64 " %" PRIu64 "\n", status, corner_count, rows);
+    struct flaxglimmer_written written = flaxglimmer_reply((const uint8_t *)sheet, strlen(sheet), text, sizeof text);
+    printf("reply %" PRIu64 " %.*s", written.status, (int)written.bytes, (const char *)text);
+    return 0;
+}

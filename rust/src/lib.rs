@@ -1,0 +1,235 @@
+//! Flaxglimmer for Rust: every public call, safe. Slices are lent for the call alone; what is handed back is the caller's own memory.
+//! `unsafe` stands round the calls of the proved functions only: a slice's pointer and length go over together, and no call asks more.
+
+#[cfg(not(target_pointer_width = "64"))]
+compile_error!("the proved functions count in 64 bits");
+
+/// The functions of the proved crate `bridge`, as `include/flaxglimmer.h` declares them.
+mod proved {
+    #[repr(C)]
+    pub struct Counted {
+        pub status: u64,
+        pub records: u64,
+    }
+
+    #[repr(C)]
+    pub struct Measure {
+        pub status: u64,
+        pub figure: i64,
+    }
+
+    #[repr(C)]
+    pub struct Centimetres {
+        pub status: u64,
+        pub whole: u64,
+    }
+
+    #[repr(C)]
+    pub struct Written {
+        pub status: u64,
+        pub bytes: u64,
+    }
+
+    #[repr(C)]
+    pub struct Stored {
+        pub there: u64,
+        pub number: u64,
+    }
+
+    extern "C" {
+        pub fn flaxglimmer_thin(unit: u32, figure: f64, table: *mut u32, table_length: usize, corners: *const i32, corners_length: usize, log: *mut u32, log_length: usize) -> Counted;
+        pub fn flaxglimmer_grow_back(rows: usize, corners: usize, room: *mut u32, room_length: usize, log: *const u32, log_length: usize) -> Counted;
+        pub fn flaxglimmer_replay(corners: usize, table: *mut u32, table_length: usize, log: *const u32, log_length: usize) -> Counted;
+        pub fn flaxglimmer_volume(table: *const u32, table_length: usize, corners: *const i32, corners_length: usize) -> Measure;
+        pub fn flaxglimmer_change(earlier: *const u32, earlier_length: usize, later: *const u32, later_length: usize, corners: *const i32, corners_length: usize) -> Measure;
+        pub fn flaxglimmer_shift(corner: u32, corners: *const i32, corners_length: usize, log: *const u32, log_length: usize, stand_in: *mut u64, count: *mut u64, squared: *mut u64) -> u64;
+        pub fn flaxglimmer_limit(unit: u32, figure: f64) -> Centimetres;
+        pub fn flaxglimmer_shorter_ring(first: *const u32, first_length: usize, second: *const u32, second_length: usize) -> u32;
+        pub fn flaxglimmer_catch_up(first: *const u32, first_length: usize, second: *const u32, second_length: usize, from: *mut u64, to: *mut u64) -> u64;
+        pub fn flaxglimmer_read_sheet(bytes: *const u8, bytes_length: usize, table: *mut u32, table_length: usize, corners: *mut i32, corners_length: usize, count: *mut u64, rows: *mut u64) -> u64;
+        pub fn flaxglimmer_trial_number(at: usize) -> Stored;
+        pub fn flaxglimmer_reply(sheet: *const u8, sheet_length: usize, text: *mut u8, text_length: usize) -> Written;
+    }
+}
+
+/// The refusals, in the order of their numbers.
+#[derive(Clone, Copy, Debug, PartialEq, Eq)]
+pub enum Refusal {
+    LimitUnusable = 1,
+    CountsOutside,
+    RoomShort,
+    CoordinateOutOfRange,
+    NumberNotBelow,
+    NumberTwice,
+    EdgeTwice,
+    ReverseMissing,
+    CornerUnused,
+    RingsMany,
+    NotConnected,
+    SheetForm,
+    RecordFails,
+}
+
+impl Refusal {
+    const ALL: [Refusal; 13] = [
+        Refusal::LimitUnusable,
+        Refusal::CountsOutside,
+        Refusal::RoomShort,
+        Refusal::CoordinateOutOfRange,
+        Refusal::NumberNotBelow,
+        Refusal::NumberTwice,
+        Refusal::EdgeTwice,
+        Refusal::ReverseMissing,
+        Refusal::CornerUnused,
+        Refusal::RingsMany,
+        Refusal::NotConnected,
+        Refusal::SheetForm,
+        Refusal::RecordFails,
+    ];
+
+    /// The refusal of a status that is not 0. The proved functions answer with no other number than these.
+    fn of(status: u64) -> Refusal {
+        Refusal::ALL[status as usize - 1]
+    }
+
+    /// Its number.
+    pub fn number(self) -> u32 {
+        self as u32
+    }
+}
+
+/// A length limit: a figure in metres, feet or centimetres.
+#[derive(Clone, Copy, Debug, PartialEq)]
+pub enum Length {
+    Metres(f64),
+    Feet(f64),
+    Centimetres(f64),
+}
+
+impl Length {
+    fn crossing(self) -> (u32, f64) {
+        match self {
+            Length::Metres(v) => (1, v),
+            Length::Feet(v) => (2, v),
+            Length::Centimetres(v) => (3, v),
+        }
+    }
+}
+
+/// Why a log was not done whole: the records before one that fails, or another refusal, which leaves all as it was.
+#[derive(Clone, Copy, Debug, PartialEq, Eq)]
+pub enum Unfinished {
+    Stopped(usize),
+    Refused(Refusal),
+}
+
+/// Where a log has led a corner, in how many steps, and how far.
+#[derive(Clone, Copy, Debug, PartialEq, Eq)]
+pub struct Shift {
+    pub stand_in: u32,
+    pub count: usize,
+    pub squared: u64,
+}
+
+/// The counts of a sheet that was read.
+#[derive(Clone, Copy, Debug, PartialEq, Eq)]
+pub struct Counts {
+    pub corners: usize,
+    pub rows: usize,
+}
+
+fn answered<T>(status: u64, value: T) -> Result<T, Refusal> {
+    if status == 0 {
+        Ok(value)
+    } else {
+        Err(Refusal::of(status))
+    }
+}
+
+fn regrown(a: proved::Counted) -> Result<usize, Unfinished> {
+    answered(a.status, a.records as usize).map_err(|refusal| match refusal {
+        Refusal::RecordFails => Unfinished::Stopped(a.records as usize),
+        other => Unfinished::Refused(other),
+    })
+}
+
+/// Thins a first table under a limit or none; answers how many records were written to the front of the log. The last stage is left in front of
+/// the table and zeros behind it.
+pub fn thin(table: &mut [u32], corners: &[i32], limit: Option<Length>, log: &mut [u32]) -> Result<usize, Refusal> {
+    let (unit, figure) = limit.map_or((0, 0.0), Length::crossing);
+    let a = unsafe { proved::flaxglimmer_thin(unit, figure, table.as_mut_ptr(), table.len(), corners.as_ptr(), corners.len(), log.as_mut_ptr(), log.len()) };
+    answered(a.status, a.records as usize)
+}
+
+/// Grows a log back on the rows that stand in front of a room, over so many corners.
+pub fn grow_back(room: &mut [u32], rows: usize, corners: usize, log: &[u32]) -> Result<usize, Unfinished> {
+    regrown(unsafe { proved::flaxglimmer_grow_back(rows, corners, room.as_mut_ptr(), room.len(), log.as_ptr(), log.len()) })
+}
+
+/// Replays a log forward on a table over so many corners.
+pub fn replay(table: &mut [u32], corners: usize, log: &[u32]) -> Result<usize, Unfinished> {
+    regrown(unsafe { proved::flaxglimmer_replay(corners, table.as_mut_ptr(), table.len(), log.as_ptr(), log.len()) })
+}
+
+/// The volume of a stage in cubic metres.
+pub fn volume(table: &[u32], corners: &[i32]) -> Result<i64, Refusal> {
+    let a = unsafe { proved::flaxglimmer_volume(table.as_ptr(), table.len(), corners.as_ptr(), corners.len()) };
+    answered(a.status, a.figure)
+}
+
+/// The change from an earlier stage to a later one over the same coordinates, in cubic metres.
+pub fn change(earlier: &[u32], later: &[u32], corners: &[i32]) -> Result<i64, Refusal> {
+    let a = unsafe { proved::flaxglimmer_change(earlier.as_ptr(), earlier.len(), later.as_ptr(), later.len(), corners.as_ptr(), corners.len()) };
+    answered(a.status, a.figure)
+}
+
+/// The shift of a corner by a log that was written over these coordinates.
+pub fn shift(corners: &[i32], log: &[u32], corner: u32) -> Result<Shift, Refusal> {
+    let (mut stand_in, mut count, mut squared) = (0, 0, 0);
+    let status = unsafe { proved::flaxglimmer_shift(corner, corners.as_ptr(), corners.len(), log.as_ptr(), log.len(), &mut stand_in, &mut count, &mut squared) };
+    answered(status, Shift { stand_in: stand_in as u32, count: count as usize, squared })
+}
+
+/// A typed limit in whole centimetres.
+pub fn read_limit(limit: Length) -> Result<u64, Refusal> {
+    let (unit, figure) = limit.crossing();
+    let a = unsafe { proved::flaxglimmer_limit(unit, figure) };
+    answered(a.status, a.whole)
+}
+
+/// The shorter of two lent rings, the first when they are equally long.
+pub fn shorter_ring<'a>(first: &'a [u32], second: &'a [u32]) -> &'a [u32] {
+    let which = unsafe { proved::flaxglimmer_shorter_ring(first.as_ptr(), first.len(), second.as_ptr(), second.len()) };
+    if which == 0 {
+        first
+    } else {
+        second
+    }
+}
+
+/// The rest of the longer of two logs where one is a beginning of the other, else an empty part of the first.
+pub fn catch_up<'a>(first: &'a [u32], second: &'a [u32]) -> &'a [u32] {
+    let (mut from, mut to) = (0, 0);
+    let which = unsafe { proved::flaxglimmer_catch_up(first.as_ptr(), first.len(), second.as_ptr(), second.len(), &mut from, &mut to) };
+    let log = if which == 0 { first } else { second };
+    &log[from as usize..to as usize]
+}
+
+/// Reads a sheet: its rows in front of the table, its coordinates in front of the corners.
+pub fn read_sheet(bytes: &[u8], table: &mut [u32], corners: &mut [i32]) -> Result<Counts, Refusal> {
+    let (mut count, mut rows) = (0, 0);
+    let status = unsafe { proved::flaxglimmer_read_sheet(bytes.as_ptr(), bytes.len(), table.as_mut_ptr(), table.len(), corners.as_mut_ptr(), corners.len(), &mut count, &mut rows) };
+    answered(status, Counts { corners: count as usize, rows: rows as usize })
+}
+
+/// The trial ring's number at a place of its table, or that there is none.
+pub fn trial_number(at: usize) -> Option<u32> {
+    let a = unsafe { proved::flaxglimmer_trial_number(at) };
+    (a.there == 1).then_some(a.number as u32)
+}
+
+/// The desk's whole answer to a sheet, in front of the text; how many bytes it has.
+pub fn reply(sheet: &[u8], text: &mut [u8]) -> Result<usize, Refusal> {
+    let a = unsafe { proved::flaxglimmer_reply(sheet.as_ptr(), sheet.len(), text.as_mut_ptr(), text.len()) };
+    answered(a.status, a.bytes as usize)
+}
