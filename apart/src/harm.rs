@@ -52,44 +52,21 @@ impl Harm {
 }
 
 /// What each call asks, in its order.
-pub fn asked(call: usize) -> &'static [Harm] {
+pub fn asked(call: usize) -> Vec<Harm> {
+    let rows = [Number, NumberTwice, EdgeTwice, Reverse];
+    let form = [SheetSize, SheetFirstLine, Counts, SheetLines];
+    let rings = [Rings, Connected];
     match call {
-        THIN => &[Limit, Counts, Room, Coordinate, Number, NumberTwice, EdgeTwice, Reverse, Unused, Rings, Connected],
-        GROW_BACK => &[Counts, Room, Number, NumberTwice, EdgeTwice, Reverse, Rings, Connected, Log],
-        REPLAY => &[Counts, Number, NumberTwice, EdgeTwice, Reverse, Rings, Connected, Log],
-        VOLUME | CHANGE => &[Counts, Coordinate, Number, NumberTwice, EdgeTwice, Reverse, Rings, Connected],
-        SHIFT => &[Counts, Coordinate, Number],
-        LIMIT => &[Limit],
-        READ_SHEET => &[
-            SheetSize,
-            SheetFirstLine,
-            Counts,
-            SheetLines,
-            Room,
-            Coordinate,
-            Number,
-            NumberTwice,
-            EdgeTwice,
-            Reverse,
-            Unused,
-            Rings,
-            Connected,
-        ],
-        DESK_ANSWER => &[
-            SheetSize,
-            SheetFirstLine,
-            Counts,
-            SheetLines,
-            Coordinate,
-            Number,
-            NumberTwice,
-            EdgeTwice,
-            Reverse,
-            Unused,
-            Rings,
-            Connected,
-        ],
-        _ => &[],
+        THIN => [&[Limit, Counts, Room, Coordinate], &rows[..], &[Unused], &rings].concat(),
+        GROW_BACK => [&[Counts, Room], &rows[..], &rings, &[Log]].concat(),
+        REPLAY => [&[Counts], &rows[..], &rings, &[Log]].concat(),
+        VOLUME | CHANGE => [&[Counts, Coordinate], &rows[..], &rings].concat(),
+        SHIFT => vec![Counts, Coordinate, Number],
+        LIMIT => vec![Limit],
+        READ_SHEET => [&form[..], &[Room, Coordinate], &rows, &[Unused], &rings].concat(),
+        // The desk lends its own rooms.
+        DESK_ANSWER => [&form[..], &[Coordinate], &rows, &[Unused], &rings].concat(),
+        _ => vec![],
     }
 }
 

@@ -39,7 +39,7 @@ fn honest(call: usize, chance: &mut Chance) -> Input {
 
 fn singles(bench: &mut Bench, call: usize, chance: &mut Chance) {
     let kind = format!("order: one refusal of {}", CALLS[call - 1].name);
-    for &one in asked(call) {
+    for one in asked(call) {
         let mut input = honest(call, chance);
         harm(&mut input, call, one, chance);
         compare(bench, &kind, &input.request(call, chance), &[one]);
@@ -101,7 +101,10 @@ fn compare(bench: &mut Bench, kind: &str, request: &Request, harms: &[Harm]) {
 /// The refusal that a response tells: its status, or the number of the `NO` line at the front of its text.
 fn refusal_told(response: &Response) -> i64 {
     let status = response.answer[0];
-    let line: String = response.lent.first().map_or(String::new(), |text| text.iter().map_while(|&byte| u8::try_from(byte).ok()).map(char::from).collect());
+    let line: String = response
+        .lent
+        .first()
+        .map_or(String::new(), |text| text.iter().map_while(|&byte| u8::try_from(byte).ok()).map(char::from).collect());
     match line.strip_prefix("NO\t").and_then(|rest| rest.split('\n').next()) {
         Some(number) if status == 0 => number.parse().unwrap_or(status),
         _ => status,

@@ -93,7 +93,7 @@ fn damaged(bench: &mut Bench, skin: &Skin, chance: &mut Chance) {
         input.table = left.concat();
     }
     for _ in 0..1 + chance.below(3) {
-        let one = chance.pick(asked(call));
+        let one = chance.pick(&asked(call));
         harm(&mut input, call, one, chance);
     }
     bench.try_call("chance: damaged", &input.request(call, chance));

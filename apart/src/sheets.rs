@@ -135,7 +135,7 @@ pub fn spoiled(bench: &mut Bench, skin: &Skin, chance: &mut Chance) {
 pub fn on_the_desk(bench: &mut Bench, skin: &Skin, chance: &mut Chance) {
     let mut input = Input::new(skin, &[]);
     if chance.one_in(2) && skin.rows.len() >= 8 {
-        let one = chance.pick(asked(DESK_ANSWER));
+        let one = chance.pick(&asked(DESK_ANSWER));
         harm(&mut input, DESK_ANSWER, one, chance);
     }
     let sheet: Vec<u8> = input.sheet(chance).into_iter().map(|word| word as u8).collect();

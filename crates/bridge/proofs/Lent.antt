@@ -9,6 +9,7 @@ use lib.Seq.{drop-append-seam}
 use denote.Ref.{RefT}
 use Rattle.link.specs.Chosen.{Chosen}
 use Rattle.catchup.specs.CatchUp.{Beginning, PartOf, CaughtUp, second-longer, first-longer, equal, neither}
+use Rattle.catchup.proofs.Beginnings.{no-rest}
 use Rattle.bridge.specs.declared.Part.{Part}
 use Rattle.bridge.specs.Lent.{the-first, the-second, RingShown, RestOf, nothing, of-second, of-first, PartShown}
 
@@ -26,10 +27,6 @@ module _ {a b r : RefT (List ℕ)} where
   ring-second (inr h) n = record { ring = r; chosen = inr h; which = the-second (h .1) (λ e. n (ap (λ x. length (x .now)) e)) refl }
 
 -- ---- parts
-
-empty : (l : List ℕ) → length l ≡ 0 → l ≡ []
-empty [] e = refl
-empty (x ∷ l) e = absurd (omega (arith, e))
 
 full : (l : List ℕ) → ¬ (length l ≡ 0) → ¬ (l ≡ [])
 full l n e = n (ap length e)
@@ -51,7 +48,7 @@ rest-of b p = record { place = p .place; holds = p .holds ∙ sym (the-rest b) }
 
 module _ {a b r : RefT (List ℕ)} where
   pub part-nothing : CaughtUp a b r → length (r .now) ≡ 0 → PartShown a b (record { log = 0; from = 0; to = 0 })
-  part-nothing h e = record { part = r; caught-up = h; places = nothing (empty (r .now) e) refl }
+  part-nothing h e = record { part = r; caught-up = h; places = nothing (no-rest (r .now) e) refl }
 
   pub part-second : CaughtUp a b r → ¬ (length (r .now) ≡ 0) → length (a .now) < length (b .now) →
       PartShown a b (record { log = 1; from = length (a .now); to = length (b .now) })

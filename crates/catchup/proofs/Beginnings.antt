@@ -59,7 +59,7 @@ at-end l m i h = rw (drop-of-length-le l h)
 beginning-length : {l m : List ℕ} (w : Beginning l m) → length m ≡ length l + length (w .rest)
 beginning-length {l} w = ap length (w .is) ∙ length-append l (w .rest)
 
-no-rest : (l : List ℕ) → length l ≡ 0 → l ≡ []
+pub no-rest : (l : List ℕ) → length l ≡ 0 → l ≡ []
 no-rest [] h = refl
 no-rest (a ∷ l) h = absurd (omega arith)
 

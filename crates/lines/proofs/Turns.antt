@@ -33,7 +33,7 @@ field-none most s at h = λ z r b. h (signed z ++ r) (b .bytes)
 
 -- ---- stores one after another
 
-sets-append : (l : List ℤ) (at : ℕ) (xs ys : List ℤ) → sets l at (xs ++ ys) ≡ sets (sets l at xs) (at + length xs) ys
+pub sets-append : {A : Type 0} (l : List A) (at : ℕ) (xs ys : List A) → sets l at (xs ++ ys) ≡ sets (sets l at xs) (at + length xs) ys
 sets-append l at [] ys = let e : at ≡ at + 0 = omega arith in ap (λ (k : ℕ). sets l k ys) e
 sets-append l at (x ∷ xs) ys =
     let e : suc at + length xs ≡ at + suc (length xs) = omega arith in

@@ -25,7 +25,7 @@ use Rattle.thin.specs.declared.Asked.{Asked}
 use Rattle.thin.specs.declared.Thinning.the-variants as thinning
 use Rattle.thin.specs.Thin.{Thinned}
 use Rattle.thin.specs.Run.{RunOf}
-use Rattle.thin.proofs.Main.{thinned-run}
+use Rattle.thin.proofs.Main.{thinned-run, last-stage}
 use Rattle.grow.specs.Room.{standing, filled}
 use Rattle.regrow.specs.declared.Regrown.{Regrown}
 use Rattle.regrow.specs.declared.Regrown.the-variants.{Done}
@@ -62,9 +62,6 @@ module _ {d : Asked} {xs : List ℤ} {t l : List ℕ} {k : ℕ} {t′ l′ : Lis
     on : Replayed T₁ q (w .last)
     on = let c = taken-cut p (rw e at (w .run .taken)) in rw (replayed-one (taken-replayed (c .1)) begun) at (taken-replayed (c .2))
 
-    last-stage : Stage (corners xs) (w .last)
-    last-stage = replayed-stage there on
-
     rows-left : length (rows t) - 2 * k ≡ length (w .last)
     rows-left =
         let a = replayed-rows first begun in
@@ -77,8 +74,8 @@ module _ {d : Asked} {xs : List ℤ} {t l : List ℕ} {k : ℕ} {t′ l′ : Lis
 
     fits : GrowFits (corners xs) (length (w .last)) (log-of q)
     fits = record {
-      rows = stage-rows last-stage;
-      corners = stage-corners last-stage;
+      rows = stage-rows (last-stage w);
+      corners = stage-corners (last-stage w);
       tens = let z = log-length q in omega arith;
       most = let a = records-many q in let b = replayed-rows there on in let c = there .most in omega arith;
     }

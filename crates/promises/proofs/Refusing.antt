@@ -1,4 +1,4 @@
--- A refusal is answered exactly when the list has it, call by call.
+-- Demand 1: a refusal is answered exactly when the list has it, call by call.
 use mathlib.Core.Path.{_≡_, refl, sym, _∙_, ap, subst}
 use mathlib.Core.Logic.{_⊎_, inl, inr}
 use mathlib.Core.List.{List, [], _∷_}
@@ -45,7 +45,7 @@ use Rattle.reply.specs.declared.Answer.{Answer}
 use Rattle.reply.specs.Answer as replies
 use Rattle.reply.specs.Outcome.{Replied}
 use Rattle.reply.proofs.Main.{reply-told}
-use Rattle.promises.specs.Refusing.{Refuses}
+use Rattle.promises.specs.Refusing.{Refuses, DemandOne}
 
 -- by one refusal of the list, or by none of it
 exactly : {l : List Clause} {v : Told} → ((e : Refusal) × First l (verdict.Refused e) × (v ≡ refused e)) ⊎ (First l Passes × ((r : Refusal) → ¬ (v ≡ refused r))) → Refuses l v
@@ -59,14 +59,11 @@ not-refused : {v : Told} {vs : List ℤ} → v ≡ done vs → (r : Refusal) →
 not-refused p r q = refused-done r (sym q ∙ p)
 
 -- a verdict and what it comes to
-pub by-verdict : {l : List Clause} {a : Told} (vs : List ℤ) (v : Verdict) → First l v → a ≡ outcome v vs → Refuses l a
+by-verdict : {l : List Clause} {a : Told} (vs : List ℤ) (v : Verdict) → First l v → a ≡ outcome v vs → Refuses l a
 by-verdict vs Passes f p = exactly (inr (f, not-refused p))
 by-verdict vs (verdict.Refused r) f p = exactly (inl (r, f, p))
 
-pub thin-exactly : (o : Order) {xs : List ℤ} {t l : List ℕ} {a : Thinning} {t′ l′ : List ℕ} → Thinned o xs t l a t′ l′ → Refuses (thin-lines (asked o) xs t (length l)) (thinnings.told a)
-thin-exactly o w = elim (thins.thin-told w) [ inl x ↦ exactly (inl x) | inr x ↦ exactly (inr (x .0, not-refused (x .3))) ]
-
-pub thin-same : (o : Order) {xs : List ℤ} {t l : List ℕ} {a : Thinning} {t′ l′ : List ℕ} → Thinned o xs t l a t′ l′ → (r : Refusal) → thinnings.told a ≡ refused r → (t′ ≡ t) × (l′ ≡ l)
+thin-same : (o : Order) {xs : List ℤ} {t l : List ℕ} {a : Thinning} {t′ l′ : List ℕ} → Thinned o xs t l a t′ l′ → (r : Refusal) → thinnings.told a ≡ refused r → (t′ ≡ t) × (l′ ≡ l)
 thin-same o {a = thinning.Done k} w r p = absurd (refused-done r (sym p))
 thin-same o {a = thinning.Refused e} w r p = thins.refused-same w
 
@@ -74,55 +71,60 @@ thin-same o {a = thinning.Refused e} w r p = thins.refused-same w
 failing-other : (k : ℕ) (r : Refusal) → ¬ (regrowths.fails-after k ≡ refused r)
 failing-other k r p = let e = ap (λ (v : Told). length (v .values)) p in omega arith
 
-pub grow-exactly : {n m : ℕ} {room log : List ℕ} {a : Regrown} {room′ : List ℕ} → GrownAs n m room log a room′ → Refuses (grow-lines n m room log) (regrowths.told a)
-grow-exactly w = elim (grows.grown-told w) [
-  | inl x ↦ exactly (inl x)
-  | inr x ↦ exactly (inr (x .0, elim (x .1) [ inl e ↦ not-refused e | inr f ↦ λ r p. failing-other (length (f .2)) r (sym (f .4) ∙ p) ]))
-]
-
-pub grow-same : {n m : ℕ} {room log : List ℕ} {a : Regrown} {room′ : List ℕ} → GrownAs n m room log a room′ → (r : Refusal) → regrowths.told a ≡ refused r → room′ ≡ room
+grow-same : {n m : ℕ} {room log : List ℕ} {a : Regrown} {room′ : List ℕ} → GrownAs n m room log a room′ → (r : Refusal) → regrowths.told a ≡ refused r → room′ ≡ room
 grow-same {a = regrown.Done k} w r p = absurd (refused-done r (sym p))
 grow-same {a = regrown.Stopped k} w r p = absurd (failing-other k r p)
 grow-same {a = regrown.Refused e} w r p = grows.refused-same w
 
-pub replay-exactly : {n : ℕ} {t log : List ℕ} {a : Regrown} {t′ : List ℕ} → ReplayedAs n t log a t′ → Refuses (replay-lines n t log) (regrowths.told a)
-replay-exactly w = elim (replays.replay-told w) [
-  | inl x ↦ exactly (inl x)
-  | inr x ↦ exactly (inr (x .0, elim (x .1) [ inl e ↦ not-refused e | inr f ↦ λ r p. failing-other (length (f .0)) r (sym (f .4) ∙ p) ]))
-]
-
-pub replay-same : {n : ℕ} {t log : List ℕ} {a : Regrown} {t′ : List ℕ} → ReplayedAs n t log a t′ → (r : Refusal) → regrowths.told a ≡ refused r → t′ ≡ t
+replay-same : {n : ℕ} {t log : List ℕ} {a : Regrown} {t′ : List ℕ} → ReplayedAs n t log a t′ → (r : Refusal) → regrowths.told a ≡ refused r → t′ ≡ t
 replay-same {a = regrown.Done k} w r p = absurd (refused-done r (sym p))
 replay-same {a = regrown.Stopped k} w r p = absurd (failing-other k r p)
 replay-same {a = regrown.Refused e} w r p = replays.refused-same w
 
-pub limit-exactly : (l : Length) → (Unfit (typed l) → limits.told (limit-of l) ≡ refused LimitUnusable) × ((r : Refusal) → limits.told (limit-of l) ≡ refused r → Unfit (typed l))
-limit-exactly l = elim (limit-told l) [
-  | inl x ↦ ((λ u. x .1), λ r p. x .0)
-  | inr x ↦ ((λ u. absurd (x .0 u)), λ r p. absurd (not-refused (x .3) r p))
-]
-
 -- a sheet
 module _ {b troom troom′ : List ℕ} {croom croom′ : List ℤ} where
-  pub sheet-form : {a : Sheet} → ReadSheet b troom troom′ croom croom′ a → (r : Refusal) → First (form-refusals b) (verdict.Refused r) → sheets.told a ≡ refused r
+  sheet-form : {a : Sheet} → ReadSheet b troom troom′ croom croom′ a → (r : Refusal) → First (form-refusals b) (verdict.Refused r) → sheets.told a ≡ refused r
   sheet-form (bad-form f e p q) r g = ap sheets.told e ∙ ap refused (verdicts.refused-one (first-one (form-refusals b) f g))
   sheet-form (bad-skin f s k e p q) r g = refused-passes (first-one (form-refusals b) g f)
   sheet-form (read f s k w e p q) r g = refused-passes (first-one (form-refusals b) g f)
 
-  pub sheet-skin : {a : Sheet} → ReadSheet b troom troom′ croom croom′ a → First (form-refusals b) Passes → {n m : ℕ} {xs : List ℤ} {t : List ℕ} → SheetOf b n m xs t →
+  sheet-skin : {a : Sheet} → ReadSheet b troom troom′ croom croom′ a → First (form-refusals b) Passes → {n m : ℕ} {xs : List ℤ} {t : List ℕ} → SheetOf b n m xs t →
       Refuses (skin-refusals troom croom xs t) (sheets.told a)
   sheet-skin (bad-form f e p q) g s = refused-passes (first-one (form-refusals b) f g)
   sheet-skin (bad-skin {r = r} f s k e p q) g s′ = exactly (inl (r, moved b troom croom (verdict.Refused r) (one-skin s s′) k, ap sheets.told e))
   sheet-skin (read f s k w e p q) g s′ = exactly (inr (moved b troom croom Passes (one-skin s s′) k, not-refused (ap sheets.told e)))
 
-  pub sheet-same : {a : Sheet} → ReadSheet b troom troom′ croom croom′ a → (r : Refusal) → sheets.told a ≡ refused r → (troom′ ≡ troom) × (croom′ ≡ croom)
+  sheet-same : {a : Sheet} → ReadSheet b troom troom′ croom croom′ a → (r : Refusal) → sheets.told a ≡ refused r → (troom′ ≡ troom) × (croom′ ≡ croom)
   sheet-same (bad-form f e p q) r g = (p, q)
   sheet-same (bad-skin f s k e p q) r g = (p, q)
   sheet-same (read f s k w e p q) r g = absurd (not-refused (ap sheets.told e) r g)
 
-pub reply-exactly : {b text : List ℕ} {a : Answer} {text′ : List ℕ} → (w : Replied b text a text′) → (length text < length (w .txt) → replies.told a ≡ refused RoomShort)
-    × ((r : Refusal) → replies.told a ≡ refused r → (length text < length (w .txt)) × (text′ ≡ text))
-reply-exactly w = elim (reply-told w) [
-  | inl x ↦ ((λ h. let k = x .0 in absurd (omega arith)), λ r p. absurd (not-refused (x .1) r p))
-  | inr x ↦ ((λ h. x .1), λ r p. (x .0, x .2))
-]
+pub demand-one : DemandOne
+demand-one = record {
+  thin = λ o w. elim (thins.thin-told w) [ inl x ↦ exactly (inl x) | inr x ↦ exactly (inr (x .0, not-refused (x .3))) ];
+  thin-same = λ o w r p. thin-same o w r p;
+  grow-back = λ w. elim (grows.grown-told w) [
+    | inl x ↦ exactly (inl x)
+    | inr x ↦ exactly (inr (x .0, elim (x .1) [ inl e ↦ not-refused e | inr f ↦ λ r p. failing-other (length (f .2)) r (sym (f .4) ∙ p) ]))
+  ];
+  grow-same = λ w r p. grow-same w r p;
+  replay = λ w. elim (replays.replay-told w) [
+    | inl x ↦ exactly (inl x)
+    | inr x ↦ exactly (inr (x .0, elim (x .1) [ inl e ↦ not-refused e | inr f ↦ λ r p. failing-other (length (f .0)) r (sym (f .4) ∙ p) ]))
+  ];
+  replay-same = λ w r p. replay-same w r p;
+  volume = λ a w. by-verdict _ (w .verdict) (w .checked .holds) (w .tells);
+  change = λ a w. by-verdict _ (w .verdict) (w .first) (w .tells);
+  shift = λ a w. by-verdict _ (w .verdict) (w .first) (w .tells);
+  limit = λ l. elim (limit-told l) [
+    | inl x ↦ ((λ u. x .1), λ r p. x .0)
+    | inr x ↦ ((λ u. absurd (x .0 u)), λ r p. absurd (not-refused (x .3) r p))
+  ];
+  sheet-form = λ w r f. sheet-form w r f;
+  sheet-skin = λ w f s. sheet-skin w f s;
+  sheet-same = λ w r p. sheet-same w r p;
+  reply = λ w. elim (reply-told w) [
+    | inl x ↦ ((λ h. let k = x .0 in absurd (omega arith)), λ r p. absurd (not-refused (x .1) r p))
+    | inr x ↦ ((λ h. x .1), λ r p. (x .0, x .2))
+  ];
+}

@@ -1,4 +1,4 @@
--- The promises whole: the three demands, and that nothing is left to choose.
+-- Demands 2 and 3, and that nothing is left to choose. Demand 1 stands in Refusing.antt.
 use mathlib.Core.Path.{_≡_, refl, sym, _∙_, ap}
 use mathlib.Core.List.{List, [], _∷_}
 use lib.IntN.{pos}
@@ -16,9 +16,7 @@ use Rattle.sheet.proofs.Promises.{one-outcome}
 use Rattle.ring.proofs.Rule.{trial-one}
 use Rattle.reply.proofs.Main.{replied-one}
 use Rattle.promises.specs.Choice.{NothingLeft}
-use Rattle.promises.specs.Refusing.{DemandOne}
 use Rattle.promises.specs.Thinning.{DemandTwo, DemandThree}
-use Rattle.promises.proofs.Refusing.{by-verdict, thin-exactly, thin-same, grow-exactly, grow-same, replay-exactly, replay-same, limit-exactly, sheet-form, sheet-skin, sheet-same, reply-exactly}
 use Rattle.promises.proofs.Back.{restored, restored-from, replayed}
 use Rattle.promises.proofs.Figures.{volume-promised, change-promised, shift-promised}
 
@@ -36,24 +34,6 @@ nothing-left = record {
   read-sheet = λ b troom croom p q. let o = one-outcome b troom croom p q in (o .answer, o .table, o .corners);
   trial-number = λ k a b p q. trial-one k a b p q;
   reply = λ p q. replied-one p q;
-}
-
-pub demand-one : DemandOne
-demand-one = record {
-  thin = λ o w. thin-exactly o w;
-  thin-same = λ o w r p. thin-same o w r p;
-  grow-back = λ w. grow-exactly w;
-  grow-same = λ w r p. grow-same w r p;
-  replay = λ w. replay-exactly w;
-  replay-same = λ w r p. replay-same w r p;
-  volume = λ a w. by-verdict _ (w .verdict) (w .checked .holds) (w .tells);
-  change = λ a w. by-verdict _ (w .verdict) (w .first) (w .tells);
-  shift = λ a w. by-verdict _ (w .verdict) (w .first) (w .tells);
-  limit = λ l. limit-exactly l;
-  sheet-form = λ w r f. sheet-form w r f;
-  sheet-skin = λ w f s. sheet-skin w f s;
-  sheet-same = λ w r p. sheet-same w r p;
-  reply = λ w. reply-exactly w;
 }
 
 pub demand-two : DemandTwo

@@ -5,7 +5,7 @@ use mathlib.Core.List.{List, [], _∷_, _++_, append-nil}
 use Prim.Native.Nat.{ℕ, suc, _+_, _-_, _*_, _/_, _≤_, _<_}
 use native.Mathlib.Omega.{arith}
 use lib.ListN.{length, take, drop, getD, take-append-drop, drop-of-length-le, length-drop}
-use lib.Seq.{drop-cons, take-at}
+use lib.Seq.{take-at}
 use Rattle.surface.specs.Rows.{Row, rows, flat}
 use Rattle.surface.specs.Stage.{Stage, StageTable}
 use Rattle.surface.specs.Record.{Record}
@@ -14,7 +14,7 @@ use Rattle.surface.proofs.Flat.{rows-flat, flat-length}
 use Rattle.surface.proofs.Main.{two-fewer}
 use Rattle.surface.proofs.Recorded.{grown-back-stage}
 use Rattle.record.specs.Layout.{width, record-at, first-records, records}
-use Rattle.record.proofs.Log.{first-at, first-length}
+use Rattle.record.proofs.Places.{records-length, records-from}
 use Rattle.grow.specs.Room.{standing, filled, GrewBack}
 use Rattle.grow.proofs.Filling.{standing-length, standing-filled, filled-standing, filled-length, filled-again}
 use Rattle.regrow.specs.declared.Regrown.the-variants.{Done, Stopped}
@@ -36,14 +36,11 @@ module _ (n m : ℕ) (room log : List ℕ) (g : Ready n m room log) where
   inside : 3 * m ≤ length room
   inside = let h = g .fits in omega arith
 
-  how-many : length (records log) ≡ count log
-  how-many = first-length (count log) log
-
   pub undone-none : Undone n m room log 0 room
   undone-none = record {
     upto = omega arith;
     table = standing m room;
-    grown = rw (drop-of-length-le (records log) {i = count log - 0} (let e = how-many in omega arith)) (no-record refl);
+    grown = rw (drop-of-length-le (records log) {i = count log - 0} (let e = records-length log in omega arith)) (no-record refl);
     many = let e = standing-length m room inside in omega arith;
     left = sym (filled-standing m room inside);
   }
@@ -69,7 +66,7 @@ module _ (n m : ℕ) (room log : List ℕ) (g : Ready n m room log) where
     pub done-all : count log ≤ done → GrownIn n m room log (Done done) room′
     done-all h = let u = w .upto in let e : done ≡ count log = omega arith in let z : count log - done ≡ 0 = omega arith in record {
       table = w .table;
-      reached = all (rw z at (w .grown)) (ap Done (e ∙ sym how-many));
+      reached = all (rw z at (w .grown)) (ap Done (e ∙ sym (records-length log)));
       left = w .left;
     }
 
@@ -85,10 +82,8 @@ module _ (n m : ℕ) (room log : List ℕ) (g : Ready n m room log) where
       before =
           let i = count log - 1 - done in
           let e : count log - (done + 1) ≡ i = omega arith in
-          let f : suc i ≡ count log - done = omega arith in
-          ap (λ z. drop z (records log)) e
-          ∙ drop-cons (records log) i next (let h = how-many in omega arith)
-          ∙ (λ j. first-at (count log) log i next (omega arith) j ∷ drop (f j) (records log))
+          let f : i + 1 ≡ count log - done = omega arith in
+          ap (λ z. drop z (records log)) e ∙ records-from log i (omega arith) ∙ ap (λ z. next ∷ drop z (records log)) f
 
       pub next-fails : {room″ : List ℕ} → GrewBack n (m + 2 * done) next room′ false room″ → GrownIn n m room log (Stopped done) room″
       unfolding GrewBack
@@ -102,7 +97,7 @@ module _ (n m : ℕ) (room log : List ℕ) (g : Ready n m room log) where
           split = sym (take-append-drop (count log - (done + 1)) (records log)) ∙ ap (λ l. take (count log - (done + 1)) (records log) ++ l) before
 
           counted : done ≡ length (drop (count log - done) (records log))
-          counted = let e = length-drop (count log - done) (records log) in let h = how-many in omega arith
+          counted = let e = length-drop (count log - done) (records log) in let h = records-length log in omega arith
 
       pub next-done : {room″ : List ℕ} → GrewBack n (m + 2 * done) next room′ true room″ → Undone n m room log (done + 1) room″
       unfolding GrewBack

@@ -12,8 +12,8 @@ pub enum Regrown {
     Refused(Refusal),
 }
 
-// Inner: grows a log back on the stage that stands in a room, from its last record on.
-pub fn grow_log(room: &mut [u32], rows: usize, corners: usize, log: &[u32]) -> Regrown
+// Grows a log back on the stage that stands in a room, from its last record on.
+fn grow_log(room: &mut [u32], rows: usize, corners: usize, log: &[u32]) -> Regrown
     requires { ⌜ Ready corners rows (now room) (now log) ⌝ }
     ensures { λ a. ⌜ GrownIn corners rows (now (room .entry)) (now (log .entry)) a (now (room .exit)) ⌝ }
 {

@@ -1,11 +1,11 @@
 -- The records done so far are the first of the log, and the stage that they lead to stands in front.
 use mathlib.Core.Path.{_≡_, refl, sym, _∙_, ap}
 use mathlib.Core.List.{List, [], _∷_, _++_, append-nil}
-use Prim.Native.Nat.{ℕ, suc, _+_, _-_, _*_, _/_, _≤_, _<_}
+use Prim.Native.Nat.{ℕ, _+_, _-_, _*_, _/_, _≤_, _<_}
 use native.Mathlib.Numerals.{add-one}
 use native.Mathlib.Omega.{arith}
-use lib.ListN.{length, getD, take, drop, replicate}
-use lib.Seq.{split-at, take-suc, take-length, length-take-le, drop-length}
+use lib.ListN.{length, take, drop, replicate, take-append-drop}
+use lib.Seq.{take-suc, take-length, length-take-le, drop-length}
 use Rattle.surface.specs.Rows.{Row, rows, flat}
 use Rattle.surface.specs.Stage.{StageTable}
 use Rattle.surface.specs.Record as surface
@@ -13,7 +13,7 @@ use Rattle.surface.specs.Record.{Replays, Replayed, no-step, one-step}
 use Rattle.run.proofs.Main.{step-one}
 use Rattle.record.specs.declared.Record.{Record}
 use Rattle.record.specs.Layout.{width, meant, record-at, records}
-use Rattle.record.proofs.Log.{first-at, first-length}
+use Rattle.record.proofs.Places.{records-length, records-at, records-from}
 use Rattle.step.specs.Front.{front, SteppedFront, Fallen}
 use Rattle.step.proofs.Front.{fallen-none, front-replays, fallen-on, fallen-left}
 use Rattle.regrow.specs.declared.Regrown.the-variants.{Done, Stopped}
@@ -32,9 +32,6 @@ pub record Redoing (n : ℕ) (t₀ log : List ℕ) (t : List ℕ) (r done : ℕ)
   pub replayed : Replayed (rows t₀) (take done (records log)) (rows (front r t))
 
 module _ (n : ℕ) (t₀ log : List ℕ) (w : StageTable n t₀) where
-  how-many : length (records log) ≡ count log
-  how-many = first-length (count log) log
-
   whole : 3 * (length t₀ / 3) ≡ length t₀
   whole = let e = w .count in omega arith
 
@@ -62,26 +59,23 @@ module _ (n : ℕ) (t₀ log : List ℕ) (w : StageTable n t₀) where
     pub redoing-all : count log ≤ done → RedoneIn t₀ log (Done done) t
     redoing-all h =
         let u = g .upto in
-        let e : done ≡ length (records log) = let k = how-many in omega arith in
+        let e : done ≡ length (records log) = let k = records-length log in omega arith in
         record { table = T; redone = all (rw (ap (λ m. take m (records log)) e ∙ take-length (records log)) at (g .replayed)) (ap Done e); left = left }
 
     module _ (h : done < count log) where
       abbrev pub next : surface.Record
       next = record-at log (width * done)
 
-      here : getD (records log) done next ≡ next
-      here = first-at (count log) log done next h
-
       inside : done < length (records log)
-      inside = let e = how-many in omega arith
+      inside = let e = records-length log in omega arith
 
-      split : records log ≡ take done (records log) ++ next ∷ drop (suc done) (records log)
-      split = split-at (records log) done next inside ∙ ap (λ k. take done (records log) ++ k ∷ drop (suc done) (records log)) here
+      split : records log ≡ take done (records log) ++ next ∷ drop (done + 1) (records log)
+      split = sym (take-append-drop done (records log)) ∙ ap (λ l. take done (records log) ++ l) (records-from log done h)
 
       pub next-fails : ¬ Accepts T next → RedoneIn t₀ log (Stopped done) t
       next-fails no-more = record {
         table = T;
-        redone = stopped (take done (records log)) next (drop (suc done) (records log)) split (g .replayed) no-more
+        redone = stopped (take done (records log)) next (drop (done + 1) (records log)) split (g .replayed) no-more
             (ap Stopped (sym (length-take-le done (records log) (omega (arith, inside)))));
         left = left;
       }
@@ -97,4 +91,4 @@ module _ (n : ℕ) (t₀ log : List ℕ) (w : StageTable n t₀) where
           }
         where
           one-longer : take (done + 1) (records log) ≡ take done (records log) ++ (next ∷ [])
-          one-longer = rw add-one (take-suc (records log) done next inside ∙ ap (λ k. take done (records log) ++ (k ∷ [])) here)
+          one-longer = rw (add-one done) (take-suc (records log) done (record-at log 0) inside ∙ ap (λ k. take done (records log) ++ (k ∷ [])) (records-at log done h))

@@ -15,7 +15,7 @@ use Rattle.sheet.specs.Form.{R}
 use Rattle.sheet.proofs.Casts.{in-front}
 use Rattle.reply.specs.Text.{OK, K}
 use Rattle.reply.specs.Inner.{head, most-told, Numbered, text-of, CanTell, run-text}
-use Rattle.reply.proofs.Writing.{sets-append}
+use Rattle.lines.proofs.Turns.{sets-append}
 
 -- a small number as the machine has it with a sign
 count-fits : (n : ℕ) → n ≤ most-told → SFits w64 (pos n)

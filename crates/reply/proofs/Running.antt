@@ -27,7 +27,7 @@ use Rattle.thin.specs.declared.Thinning.{Thinning}
 use Rattle.thin.specs.declared.Thinning.the-variants.{Done, Refused}
 use Rattle.thin.specs.Thin.{ThinnedAs}
 use Rattle.thin.specs.Run.{RunOf}
-use Rattle.thin.proofs.Main.{thinned-run, accepted}
+use Rattle.thin.proofs.Main.{thinned-run, accepted, last-stage}
 use Rattle.lines.specs.Lines.{line}
 use Rattle.sheet.specs.Form.{row-lines}
 use Rattle.reply.specs.declared.Answer.{Answer}
@@ -73,9 +73,6 @@ module _ (xs : List ℤ) (t : List ℕ) (s : SheetSkin xs t) where
     run : Run (Allowed Free xs) (rows t) (w .log) (w .last)
     run = subst (λ b. Run (Allowed b xs) (rows t) (w .log) (w .last)) (free (w .under)) (w .run)
 
-    stage : Stage (corners xs) (w .last)
-    stage = replayed-stage (s .skin .stage) (taken-replayed (run .taken))
-
     -- three numbers for each row left, ten for each record
     left-numbers : length t ≡ length (flat (w .last)) + k * 6
     left-numbers =
@@ -105,7 +102,7 @@ module _ (xs : List ℤ) (t : List ℕ) (s : SheetSkin xs t) where
       log-stands = ap (take (k * width)) (w .logged) ∙ take-at (log-of (w .log)) (drop (width * length (w .log)) (replicate most-logged 0)) (k * width) logged-numbers
 
       pub last-coordinates : WithCoordinates (rows (take (length t′ - k * 6) t′)) xs
-      last-coordinates = rw (last-stands, rows-flat (w .last)) (stage-coordinates stage (s .skin .corners) (s .skin .in-range))
+      last-coordinates = rw (last-stands, rows-flat (w .last)) (stage-coordinates (last-stage w) (s .skin .corners) (s .skin .in-range))
 
       pub can-tell : CanTell (take (length t′ - k * 6) t′) (take (k * width) l′)
       can-tell = rw (last-stands, log-stands) (

@@ -11,12 +11,12 @@ use lib.Seq.{take-at}
 use Rattle.surface.specs.Limits.{least-rows, least-corners}
 use Rattle.surface.specs.Rows.{rows}
 use Rattle.surface.specs.Stage.{Skin}
-use Rattle.refusal.specs.First.{Clause, First}
+use Rattle.refusal.specs.First.{First}
 use Rattle.refusal.specs.Number.{number}
 use Rattle.refusal.specs.declared.Refusal.{Refusal}
 use Rattle.refusal.specs.declared.Verdict.the-variants.{Passes}
 use Rattle.refusal.specs.declared.Verdict.the-variants as verdict
-use Rattle.verdicts.proofs.Laws.{first-after}
+use Rattle.verdicts.proofs.Laws.{first-after, passed}
 use Rattle.faults.specs.Counts.{corners}
 use Rattle.faults.specs.Order.{lines-after-counts}
 use Rattle.sheet.specs.declared.Sheet.{Sheet}
@@ -32,17 +32,8 @@ use Rattle.reply.specs.Text.{NO, no-text}
 use Rattle.reply.specs.Outcome.{NoSkin, bad-form, bad-skin, SkinOf, no, ok, Put, Replied}
 use Rattle.reply.specs.Inner.{most-numbers, Numbered, text-of, SheetSkin, RunPut}
 
-passes-refused : {X : Type 0} {r : Refusal} → Passes ≡ verdict.Refused r → X
-passes-refused e = let z : _≡_ {A = ℕ} 0 1 = cc in absurd (omega arith)
-
 read-refused : {X : Type 0} {n m : ℕ} {r : Refusal} → Read n m ≡ Refused r → X
 read-refused e = let z : _≡_ {A = ℕ} 0 1 = cc in absurd (omega arith)
-
--- where none of the lines holds, the first does not
-passed : (c : Clause) (l : List Clause) → First (c ∷ l) Passes → (¬ (c .given)) × First l Passes
-unfolding First
-passed c l (inl p) = passes-refused (p .1)
-passed c l (inr p) = p
 
 not-over : (a b : ℕ) → ¬ (b < a) → a ≤ b
 not-over a b h = omega arith

@@ -12,12 +12,7 @@ use Rattle.text.specs.Decimal.{signed}
 use Rattle.text.specs.Reading.{Written}
 use Rattle.text.proofs.Spell.{write-after}
 use Rattle.lines.specs.Lines.{tab, newline, fields, line, lines}
-
-pub sets-append : {A : Type 0} (l : List A) (at : ℕ) (xs ys : List A) → sets l at (xs ++ ys) ≡ sets (sets l at xs) (at + length xs) ys
-sets-append l at [] ys = let e : at ≡ at + 0 = omega arith in ap (λ (k : ℕ). sets l k ys) e
-sets-append l at (x ∷ xs) ys =
-    let e : suc at + length xs ≡ at + suc (length xs) = omega arith in
-    sets-append (set l at x) (suc at) xs ys ∙ ap (λ (k : ℕ). sets (sets (set l at x) (suc at) xs) k ys) e
+use Rattle.lines.proofs.Turns.{sets-append}
 
 -- writing w at the place k of l comes to what writing w₀ at k₀ of l₀ does
 pub record Onward (l₀ : List ℕ) (k₀ : ℕ) (w₀ : List ℕ) (l : List ℕ) (k : ℕ) (w : List ℕ) : Type 0 where

@@ -16,21 +16,15 @@ use Rattle.ints.proofs.Machine.{Is, var, kept, fits, sfits-abs, unsigned-fits}
 use Rattle.ints.proofs.Short.{not-below}
 use Rattle.text.specs.Decimal.{decimal}
 use Rattle.lines.specs.Lines.{Short}
+use Rattle.lines.proofs.Turns.{sets-append}
 use Rattle.sheet.specs.Limits.{most-digits}
 use Rattle.sheet.specs.Body.{Naturals, NoNaturals}
 use Rattle.sheet.proofs.Heading.{six-digits, six-fits, no-count, count-is}
 
 -- ---- lists
 
--- one store after others
-pub sets-after : {A : Type 0} (l : List A) (at : ℕ) (xs ys : List A) → sets l at (xs ++ ys) ≡ sets (sets l at xs) (at + length xs) ys
-sets-after l at [] ys = let e : at ≡ at + 0 = omega arith in ap (λ (k : ℕ). sets l k ys) e
-sets-after l at (x ∷ xs) ys =
-    let e : suc at + length xs ≡ at + suc (length xs) = omega arith in
-    sets-after (set l at x) (suc at) xs ys ∙ ap (λ (k : ℕ). sets (sets (set l at x) (suc at) xs) k ys) e
-
 pub store-next : {A : Type 0} (l l′ : List A) (i : ℕ) (xs : List A) (x : A) → l′ ≡ sets l 0 xs → length xs ≡ i → set l′ i x ≡ sets l 0 (xs ++ (x ∷ []))
-store-next l l′ i xs x p h = (λ k. set (p k) (sym h k) x) ∙ (let e : length xs ≡ 0 + length xs = omega arith in ap (λ (k : ℕ). set (sets l 0 xs) k x) e) ∙ sym (sets-after l 0 xs (x ∷ []))
+store-next l l′ i xs x p h = (λ k. set (p k) (sym h k) x) ∙ (let e : length xs ≡ 0 + length xs = omega arith in ap (λ (k : ℕ). set (sets l 0 xs) k x) e) ∙ sym (sets-append l 0 xs (x ∷ []))
 
 pub front : {A : Type 0} (l l′ xs : List A) (n : ℕ) → l′ ≡ sets l 0 xs → length xs ≡ n → n ≤ length l → take n l′ ≡ xs
 front l l′ xs n p h k = ap (take n) (p ∙ sets-eq xs l 0 (omega arith)) ∙ take-at xs (drop (0 + length xs) l) n h

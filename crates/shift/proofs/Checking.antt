@@ -17,7 +17,7 @@ use Rattle.faults.specs.Counts.{corners}
 use Rattle.faults.specs.Words.{OutOfRange}
 use Rattle.faults.proofs.Opposites.{in-or-out}
 use Rattle.shift.specs.Order.{ShiftFits, PastIn, kept-past, removed-past, BelowIn, Past, shift-lines, CheckedShift}
-use Rattle.shift.proofs.Places.{in-records, records-in}
+use Rattle.record.proofs.Places.{in-records, records-in}
 
 -- ---- 5 of a log
 

@@ -12,7 +12,7 @@ use Rattle.surface.proofs.Renumber.{replace-at, replace-off}
 use Rattle.record.specs.declared.Edge.{Edge}
 use Rattle.record.specs.Layout.{width, record-at, records, IsEdge}
 use Rattle.shift.specs.StandIn.{counted, stand-in, moves}
-use Rattle.shift.proofs.Places.{records-length, records-from}
+use Rattle.record.proofs.Places.{records-length, records-from}
 
 -- ---- one record
 

@@ -1,4 +1,3 @@
-pub mod Places
 pub mod Following
 pub mod Checking
 pub mod Reporting

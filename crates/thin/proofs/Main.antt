@@ -97,6 +97,10 @@ thinned-run (refused f er et el) = done-refused er
 thinned-run {a} {xs} {t} {l} (done {b = b} {log = log} {last = last} f s eb r er et el) =
     record { b = b; log = log; last = last; whole = passes-whole a xs t (length l) f; skin = s; under = eb; run = r; count = done-count er; table = et; logged = el }
 
+-- the last stage is one
+pub last-stage : {a : Asked} {xs : List ℤ} {t l : List ℕ} {k : ℕ} {t′ l′ : List ℕ} (w : RunOf a xs t l k t′ l′) → Stage (corners xs) (w .last)
+last-stage w = replayed-stage (w .skin .stage) (taken-replayed (w .run .taken))
+
 pub thinned-kept : {a : Asked} {xs : List ℤ} {t l : List ℕ} {k : ℕ} {t′ l′ : List ℕ} (w : RunOf a xs t l k t′ l′) (p q : List Record) → w .log ≡ p ++ q →
     (T₁ : List Row) × Taken (Allowed (w .b) xs) (rows t) p T₁ × KeptAfter (corners xs) (rows t) p T₁
 thinned-kept w p q e =
