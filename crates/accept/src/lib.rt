@@ -39,19 +39,20 @@ fn in_bounds(r: Record, rows: usize, corners: usize) -> bool
     true
 }
 
-// Whether a table uses a corner.
+// Whether a table uses a corner. A step of the loop does not leave it, so that many numbers are compared at once.
 fn uses(t: &[u32], v: Corner) -> bool
     requires { ⌜ Whole (now t) ⌝ }
     ensures { λ r. ⌜ Tells r (Used (rows (now (t .entry))) (v .0)) (¬ Used (rows (now (t .entry))) (v .0)) ⌝ }
 {
+    let mut found = false;
     let mut e: usize = 0;
     while e < t.len() {
         if t[e] == v.0 {
-            return true;
+            found = true;
         }
         e += 1;
     }
-    false
+    found
 }
 
 // Notes a slot by the corner next in its row, if it holds the kept one.

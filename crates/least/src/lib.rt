@@ -1,12 +1,15 @@
 // The least edge that qualifies: smallest lower number, then smallest higher number.
 use record::Corner;
 ghost use Prim.Native.Nat.{_≤_, _<_};
+ghost use lib.ListN.{length};
+ghost use Rattle.surface.specs.Limits.{most-corners};
+ghost use Rattle.surface.specs.Lists.{_∈_};
 ghost use Rattle.surface.specs.Rows.{rows};
 ghost use Rattle.run.specs.Run.{Qualifies};
 ghost use Rattle.faults.specs.Tells.{Tells};
-ghost use Rattle.link.specs.Around.{Neighbours};
+ghost use Rattle.link.specs.Around.{Neighbours, Marked};
 ghost use Rattle.least.specs.Limited.{Allowed, MeasurableAt};
-ghost use Rattle.least.specs.Search.{Searchable, SearchableAt, NextAbove, Better, FoundAt, FoundLeast};
+ghost use Rattle.least.specs.Search.{Searchable, SearchableAt, Above, Better, NextAbove, NextMarked, FoundAt, FoundLeast};
 
 // The limit of an order, as steps use it: none, or whole centimetres.
 pub enum Bound {
@@ -20,6 +23,9 @@ pub enum Found {
     Edge(Corner, Corner),
 }
 
+// No corner: above every corner number.
+const NONE: u32 = surface::MOST_CORNERS as u32;
+
 // Whether the edge ab is short enough: its squared length is at most the squared limit.
 fn allowed(xs: &[i32], bound: Bound, a: Corner, b: Corner) -> bool
     requires { ⌜ MeasurableAt bound (now xs) (a .0) × MeasurableAt bound (now xs) (b .0) ⌝ }
@@ -31,7 +37,8 @@ fn allowed(xs: &[i32], bound: Bound, a: Corner, b: Corner) -> bool
     }
 }
 
-// Whether the edge from a up to b qualifies: the limit first, since the link condition costs more.
+// Whether the edge from a up to b qualifies: the limit first, since the link condition costs more. ring lists the neighbours of a, b among
+// them, and near marks them.
 fn qualifies(
     t: &[u32],
     last: &[usize],
@@ -39,45 +46,82 @@ fn qualifies(
     xs: &[i32],
     bound: Bound,
     a: Corner,
+    ring: &[u32],
+    near: &[u8],
     b: Corner,
 ) -> bool
     requires { ⌜ a .0 < b .0 ⌝ }
     requires { ⌜ SearchableAt (now t) (now last) (now prev) bound (now xs) (a .0) ⌝ }
-    requires { ⌜ SearchableAt (now t) (now last) (now prev) bound (now xs) (b .0) ⌝ }
+    requires { ⌜ Neighbours (rows (now t)) (a .0) (now ring) × Marked (now ring) (now near) ⌝ }
+    requires { ⌜ b .0 ∈ now ring ⌝ }
     ensures { λ r. ⌜ Tells r (Qualifies (Allowed bound (now (xs .entry))) (rows (now (t .entry))) (a .0) (b .0)) (¬ Qualifies (Allowed bound (now (xs .entry))) (rows (now (t .entry))) (a .0) (b .0)) ⌝ }
 {
     if allowed(xs, bound, a, b) {
-        link::may_contract(t, last, prev, a, b)
+        link::meets_round(t, last, prev, ring, near, b)
     } else {
         false
     }
 }
 
-// The better of best and w: the lesser of those above past. While there is none, best is past itself.
-fn nearer(past: u32, best: u32, w: u32) -> u32
-    requires { ⌜ past ≤ best ⌝ }
-    ensures { λ r. ⌜ Better past best w r ⌝ }
+// w where it is above past, else none.
+fn above(past: u32, w: u32) -> u32
+    ensures { λ r. ⌜ Above past w r ⌝ }
 {
-    if w <= past {
-        return best;
-    }
-    if best == past {
-        return w;
-    }
-    if w < best { w } else { best }
+    if w <= past { NONE } else { w }
 }
 
-// The least number of a ring above past; past itself where there is none.
-fn next_above(ring: &[u32], past: u32) -> u32
+// The better of best and w: the lesser of those above past.
+fn nearer(past: u32, best: u32, w: u32) -> u32
+    requires { ⌜ best ≤ most-corners ⌝ }
+    ensures { λ r. ⌜ Better past best w r ⌝ }
+{
+    let c = above(past, w);
+    if c < best { c } else { best }
+}
+
+// The least number of a ring above past.
+fn least_above(ring: &[u32], past: u32) -> u32
     ensures { λ r. ⌜ NextAbove (now (ring .entry)) past r ⌝ }
 {
-    let mut best = past;
+    let mut best = NONE;
     let mut i: usize = 0;
     while i < ring.len() {
         best = nearer(past, best, ring[i]);
         i += 1;
     }
     best
+}
+
+// The first number above past that is marked, if it is one of the next few.
+fn next_marked(near: &[u8], past: u32, few: usize) -> u32
+    requires { ⌜ most-corners ≤ length (now near) ⌝ }
+    ensures { λ r. ⌜ NextMarked (now (near .entry)) past r ⌝ }
+{
+    let mut w = past as usize + 1;
+    let mut left = few;
+    while 0 < left {
+        if surface::MOST_CORNERS <= w {
+            return NONE;
+        }
+        if near[w] != 0 {
+            return w as u32;
+        }
+        w += 1;
+        left -= 1;
+    }
+    NONE
+}
+
+// The same number of a ring that near marks. In a long ring it is mostly one of the next few numbers; a short one is soon looked through.
+fn next_above(ring: &[u32], near: &[u8], past: u32) -> u32
+    requires { ⌜ Marked (now ring) (now near) ⌝ }
+    ensures { λ r. ⌜ NextAbove (now (ring .entry)) past r ⌝ }
+{
+    let b = next_marked(near, past, ring.len());
+    if b < NONE {
+        return b;
+    }
+    least_above(ring, past)
 }
 
 // The least edge from a upward that qualifies. The neighbours of a, which ring lists, are tried in rising order.
@@ -94,14 +138,16 @@ fn least_at(
     requires { ⌜ Neighbours (rows (now t)) (a .0) (now ring) ⌝ }
     ensures { λ r. ⌜ FoundAt (Allowed bound (now (xs .entry))) (rows (now (t .entry))) (a .0) r ⌝ }
 {
+    let mut near = [0u8; surface::MOST_CORNERS];
+    link::mark(ring, &mut near);
     let mut past = a.0;
-    let mut b = next_above(ring, past);
-    while past < b {
-        if qualifies(t, last, prev, xs, bound, a, Corner(b)) {
+    let mut b = next_above(ring, &near, past);
+    while b < NONE {
+        if qualifies(t, last, prev, xs, bound, a, ring, &near, Corner(b)) {
             return Found::Edge(a, Corner(b));
         }
         past = b;
-        b = next_above(ring, past);
+        b = next_above(ring, &near, past);
     }
     Found::Nothing
 }

@@ -5,7 +5,7 @@ use mathlib.Core.List.{List}
 use Prim.Native.Nat.{ℕ}
 use native.Mathlib.Omega.{arith}
 use denote.Ref.{RefT}
-use Rattle.surface.specs.Lists.{_∈_, Distinct}
+use Rattle.surface.specs.Lists.{_∈_}
 use Rattle.link.specs.Chosen.{Chosen}
 use Rattle.link.specs.Around.{Both}
 
@@ -18,9 +18,9 @@ chosen-one (inr h) (inr k) = h .1 ∙ sym (k .1)
 
 -- the chosen ring is one of the two
 module _ {a b r : RefT (List ℕ)} where
-  pub chosen-distinct : Chosen a b r → Distinct (a .now) → Distinct (b .now) → Distinct (r .now)
-  chosen-distinct (inl h) d e = rw (h .1) d
-  chosen-distinct (inr h) d e = rw (h .1) e
+  pub chosen-has : (P : List ℕ → Type 0) → Chosen a b r → P (a .now) → P (b .now) → P (r .now)
+  chosen-has P (inl h) p q = rw (h .1) p
+  chosen-has P (inr h) p q = rw (h .1) q
 
   pub chosen-both : Chosen a b r → (w : ℕ) → Both (a .now) (b .now) w → w ∈ r .now
   chosen-both (inl h) w z = rw (h .1) (z .0)

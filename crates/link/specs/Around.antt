@@ -1,12 +1,17 @@
 -- The neighbours of a corner, as lists of corner numbers.
+use mathlib.Core.Logic.{_≢_}
+use mathlib.Core.Bool.{Bool}
 use mathlib.Core.List.{List}
-use Prim.Native.Nat.{ℕ, _≤_}
-use lib.ListN.{length, take}
+use Prim.Native.Nat.{ℕ, _≤_, _<_}
+use lib.ListN.{length, getD, take}
+use Rattle.surface.specs.Limits.{most-corners}
 use Rattle.surface.specs.Lists.{_∈_, Distinct}
 use Rattle.surface.specs.Rows.{Row}
 use Rattle.surface.specs.Table.{Edge}
 use Rattle.surface.specs.Stage.{StageTable}
+use Rattle.surface.specs.Link.{Meets}
 use Rattle.slots.specs.Chain.{Chained}
+use Rattle.faults.specs.Tells.{Tells}
 
 -- the flat table t is a stage, and last and prev are the chains of its slots
 pub record Charted (t last prev : List ℕ) : Type 0 where
@@ -28,3 +33,22 @@ pub record Gathered (T : List Row) (v : ℕ) (ring : List ℕ) (k : ℕ) : Type 
 -- w stands in both lists: a common neighbour, where they list neighbours
 abbrev pub Both : List ℕ → List ℕ → ℕ → Type 0
 Both l m w = (w ∈ l) × (w ∈ m)
+
+-- every number of l is one that a corner may have
+abbrev pub Corners : List ℕ → Type 0
+Corners l = (w : ℕ) → w ∈ l → w < most-corners
+
+-- m marks the numbers of l and no others
+pub record Marked (l m : List ℕ) : Type 0 where
+  pub corners : Corners l
+  pub room : most-corners ≤ length m
+  pub all : {w : ℕ} → w ∈ l → getD m w 0 ≢ 0
+  pub only : {w : ℕ} → getD m w 0 ≢ 0 → w ∈ l
+
+-- w is marked in both
+abbrev pub MarkedTwice : List ℕ → List ℕ → ℕ → Type 0
+MarkedTwice m n w = (getD m w 0 ≢ 0) × (getD n w 0 ≢ 0)
+
+-- r tells whether the edge from b to a corner whose neighbours l lists may be contracted
+abbrev pub TellsEdge : List Row → List ℕ → ℕ → Bool → Type 0
+TellsEdge T l b r = (a : ℕ) → Neighbours T a l → Tells r (Meets T a b) (¬ Meets T a b)

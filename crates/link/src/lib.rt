@@ -7,8 +7,9 @@ ghost use Rattle.surface.specs.Lists.{_∈_, Distinct, Exactly};
 ghost use Rattle.surface.specs.Rows.{rows};
 ghost use Rattle.surface.specs.Link.{Meets};
 ghost use Rattle.faults.specs.Tells.{Tells};
+ghost use Rattle.slots.specs.Marks.{Blank};
 ghost use Rattle.link.specs.Chosen.{Chosen};
-ghost use Rattle.link.specs.Around.{Charted, Gathered, Both};
+ghost use Rattle.link.specs.Around.{Charted, Gathered, Corners, Marked, MarkedTwice, Both, TellsEdge};
 
 // The numbers of four rows: the tetrahedron.
 const FOUR_ROWS: usize = 12;
@@ -56,27 +57,44 @@ fn contains(l: &[u32], w: u32) -> bool
     false
 }
 
-// Whether a number stands in both lists.
-fn in_both(first: &[u32], second: &[u32], w: u32) -> bool
-    ensures { λ r. ⌜ Tells r (Both (now (first .entry)) (now (second .entry)) w) (¬ Both (now (first .entry)) (now (second .entry)) w) ⌝ }
+// Inner: marks the numbers of a ring.
+pub fn mark(ring: &[u32], m: &mut [u8])
+    requires { ⌜ Corners (now ring) ⌝ }
+    requires { ⌜ most-corners ≤ length (now m) ⌝ }
+    requires { ⌜ Blank (now m) ⌝ }
+    ensures { λ _. ⌜ Marked (now (ring .entry)) (now (m .exit)) ⌝ }
 {
-    if contains(first, w) {
-        contains(second, w)
-    } else {
-        false
+    let mut i: usize = 0;
+    while i < ring.len() {
+        let w = ring[i] as usize;
+        m[w] = 1;
+        i += 1;
     }
 }
 
-// How many numbers stand in both rings. The shorter one has them all.
-fn common<'a>(first: &'a [u32], second: &'a [u32]) -> usize
+// Whether a number is marked both times.
+fn in_both(near: &[u8], far: &[u8], w: u32) -> bool
+    requires { ⌜ (w < length (now near)) × (w < length (now far)) ⌝ }
+    ensures { λ r. ⌜ Tells r (MarkedTwice (now (near .entry)) (now (far .entry)) w) (¬ MarkedTwice (now (near .entry)) (now (far .entry)) w) ⌝ }
+{
+    let i = w as usize;
+    if near[i] == 0 {
+        return false;
+    }
+    far[i] != 0
+}
+
+// How many numbers stand in both rings, which near and far mark. The shorter one has them all.
+fn common<'a>(first: &'a [u32], second: &'a [u32], near: &[u8], far: &[u8]) -> usize
     requires { ⌜ Distinct (now first) × Distinct (now second) ⌝ }
+    requires { ⌜ Marked (now first) (now near) × Marked (now second) (now far) ⌝ }
     ensures { λ r. ⌜ Exactly (Both (now (first .entry)) (now (second .entry))) r ⌝ }
 {
     let ring = shorter_ring(first, second);
     let mut k: usize = 0;
     let mut i: usize = 0;
     while i < ring.len() {
-        if in_both(first, second, ring[i]) {
+        if in_both(near, far, ring[i]) {
             k += 1;
         }
         i += 1;
@@ -84,22 +102,44 @@ fn common<'a>(first: &'a [u32], second: &'a [u32]) -> usize
     k
 }
 
-// Inner: whether the edge ab may be contracted. On four rows none may, and past them the two corners opposite an edge are the only common
-// neighbours exactly when there are two.
+// Inner: whether the edge from b to a corner whose neighbours first lists may be contracted; b is one of them, and near marks them.
+// On four rows none may, and past them the two corners opposite an edge are the only common neighbours exactly when there are two.
+pub fn meets_round(
+    t: &[u32],
+    last: &[usize],
+    prev: &[usize],
+    first: &[u32],
+    near: &[u8],
+    b: Corner,
+) -> bool
+    requires { ⌜ Charted (now t) (now last) (now prev) ⌝ }
+    requires { ⌜ Distinct (now first) × (b .0 ∈ now first) ⌝ }
+    requires { ⌜ Marked (now first) (now near) ⌝ }
+    requires { ⌜ b .0 < length (now last) ⌝ }
+    ensures { λ r. ⌜ TellsEdge (rows (now (t .entry))) (now (first .entry)) (b .0) r ⌝ }
+{
+    if t.len() <= FOUR_ROWS {
+        return false;
+    }
+    let mut second = [0u32; surface::MOST_CORNERS];
+    let k = gather(t, last, prev, b, &mut second);
+    let mut far = [0u8; surface::MOST_CORNERS];
+    mark(&second[..k], &mut far);
+    common(first, &second[..k], near, &far) == 2
+}
+
+// Inner: whether the edge ab may be contracted.
 pub fn may_contract(t: &[u32], last: &[usize], prev: &[usize], a: Corner, b: Corner) -> bool
     requires { ⌜ Charted (now t) (now last) (now prev) ⌝ }
     requires { ⌜ (a .0 < length (now last)) × (b .0 < length (now last)) ⌝ }
     ensures { λ r. ⌜ Tells r (Meets (rows (now (t .entry))) (a .0) (b .0)) (¬ Meets (rows (now (t .entry))) (a .0) (b .0)) ⌝ }
 {
-    if t.len() <= FOUR_ROWS {
-        return false;
-    }
     let mut first = [0u32; surface::MOST_CORNERS];
     let j = gather(t, last, prev, a, &mut first);
     if !contains(&first[..j], b.0) {
         return false;
     }
-    let mut second = [0u32; surface::MOST_CORNERS];
-    let k = gather(t, last, prev, b, &mut second);
-    common(&first[..j], &second[..k]) == 2
+    let mut near = [0u8; surface::MOST_CORNERS];
+    mark(&first[..j], &mut near);
+    meets_round(t, last, prev, &first[..j], &near, b)
 }

@@ -1,32 +1,29 @@
 -- `nearer` meets its contract.
-use mathlib.Core.Path.{refl}
-use Rattle.least.specs.Search.{old, new}
+use mathlib.Core.Path.{_≡_, refl}
+use Prim.Native.Nat.{ℕ, _≤_, _<_}
+use Rattle.surface.specs.Limits.{most-corners}
+use Rattle.least.specs.Search.{Above, is, none, Better, old, new}
 use native.Mathlib.Omega.{arith}
+use borrow.Author.Needs.{needs}
 use Rattle.least.proofs.nearer.Statement.{statement}
 use Rattle.least.proofs.nearer.Tie as tie
 
+taken : {past best w c : ℕ} → best ≤ most-corners → Above past w c → c < best → Better past best w c
+taken h (is e p) k = new e p (omega arith)
+taken h (none e p) k = absurd (omega arith)
+
+left : {past best w c : ℕ} → Above past w c → best ≤ c → Better past best w best
+left (is e p) k = old refl (λ q. omega arith)
+left (none e p) k = old refl (λ q. absurd (omega arith))
+
+above-requires : tie.Need-above-requires
+above-requires c κs = search needs
+
 returns : tie.Need-returns
-returns c =
-    let h = c .if1 .taken in
-    old refl (λ k. absurd (omega arith))
+returns c = taken (c .before .before .pre) (c .before .above .ensures) (c .if1 .taken)
 
 returns-2 : tie.Need-returns-2
-returns-2 c =
-    let h = c .before .if1 .left in
-    let e = c .if2 .taken in
-    new refl (omega arith) (λ k. absurd (omega arith))
-
-returns-3 : tie.Need-returns-3
-returns-3 c =
-    let h = c .before .before .if1 .left in
-    let k = c .if3 .taken in
-    new refl (omega arith) (λ q. omega arith)
-
-returns-4 : tie.Need-returns-4
-returns-4 c =
-    let h = c .before .if2 .left in
-    let k = c .if3 .left in
-    old refl (λ q. (omega arith, omega arith))
+returns-2 c = left (c .before .above .ensures) (c .if1 .left)
 
 pub nearer-spec : {M : Type 1} → statement M
-nearer-spec = tie.close (tie.spec returns returns-2 returns-3 returns-4)
+nearer-spec = tie.close (tie.spec above-requires returns returns-2)

@@ -1,62 +1,29 @@
 -- `next_above` meets its contract.
-use Prim.Native.Nat.{_-_, _≤_}
-use lib.ListN.{length, take}
-use Rattle.least.specs.Search.{NextAbove}
-use Rattle.least.proofs.Rising.{next-none, next-more, next-end}
-use native.Mathlib.Omega.{arith}
+use Rattle.least.proofs.Rising.{marked-next}
 use borrow.Author.Needs.{needs}
 use Rattle.least.proofs.next_above.Statement.{statement}
 use Rattle.least.proofs.next_above.Tie as tie
 
-abbrev Inv-loop : tie.InvT-loop
-Inv-loop ring past best₀ i₀ best i = (i ≤ length ring) × NextAbove (take i ring) past best
+next-marked-requires : tie.Need-next-marked-requires
+next-marked-requires c κs =
+    let pre = c .before .before .pre in
+    pre .room
 
-abbrev μ-loop : tie.MeasureT-loop
-μ-loop ring past best₀ i₀ best i = length ring - i
-
-loop-holds : tie.Need-loop-holds Inv-loop μ-loop
-loop-holds c =
-    let args = c .before .args in
-    (omega arith, next-none (args .ring .now) (args .past))
-
-mul-nearer : tie.Need-mul-nearer Inv-loop μ-loop
-mul-nearer c = search needs
-
-shared-slice-read-nearer : tie.Need-shared-slice-read-nearer Inv-loop μ-loop
-shared-slice-read-nearer c = search needs
-
-nearer-requires : tie.Need-nearer-requires Inv-loop μ-loop
-nearer-requires c κs = search needs
-
-add-i : tie.Need-add-i Inv-loop μ-loop
-add-i c = search needs
-
-loop-less : tie.Need-loop-less Inv-loop μ-loop
-loop-less c = search needs
-
-loop-again : tie.Need-loop-again Inv-loop μ-loop
-loop-again c =
-    let args = c .before .before .before .before .before .args in
-    let loop = c .before .before .before .loop in
-    (omega arith, next-more (args .ring .now) (args .past) (loop .i) (loop .best) (c .before .before .loop-test .taken) (loop .inv .1) (c .nearer .ensures))
-
-returns : tie.Need-returns Inv-loop μ-loop
+returns : tie.Need-returns
 returns c =
-    let args = c .before .before .before .args in
-    let loop = c .before .loop in
-    next-end (args .ring .now) (args .past) (loop .i) (c .loop-test .left) (loop .inv .1)
+    let args = c .before .before .before .before .args in
+    let pre = c .before .before .before .before .pre in
+    let next-marked = c .before .next-marked in
+    let if1 = c .if1 in
+    marked-next (args .ring .now) (args .near .now) (args .past) _ pre (next-marked .ensures) (if1 .taken)
+
+least-above-requires : tie.Need-least-above-requires
+least-above-requires c κs = search needs
+
+returns-2 : tie.Need-returns-2
+returns-2 c =
+    let least-above = c .least-above in
+    least-above .ensures
 
 pub next-above-spec : {M : Type 1} → statement M
-next-above-spec =
-    tie.close
-    (tie.spec
-    Inv-loop
-    μ-loop
-    loop-holds
-    mul-nearer
-    shared-slice-read-nearer
-    nearer-requires
-    add-i
-    loop-less
-    loop-again
-    returns)
+next-above-spec = tie.close (tie.spec next-marked-requires returns least-above-requires returns-2)

@@ -1,20 +1,16 @@
 -- `may_contract` meets its contract.
-use mathlib.Core.Path.{sym}
+use mathlib.Core.Path.{refl, sym}
 use borrow.Author.Tests.{not-true, not-false}
 use lib.Seq.{length-take-le}
+use Rattle.surface.specs.Limits.{most-corners}
+use Rattle.slots.proofs.Marks.{no-mark}
 use Rattle.faults.proofs.Tells.{tells-false}
-use Rattle.link.proofs.Condition.{four-rows, not-beside, two-common}
+use Rattle.link.proofs.Condition.{not-beside}
+use Rattle.link.proofs.Marking.{neighbours-corners}
 use native.Mathlib.Omega.{arith}
 use borrow.Author.Needs.{needs}
 use Rattle.link.proofs.may_contract.Statement.{statement}
 use Rattle.link.proofs.may_contract.Tie as tie
-
-returns : tie.Need-returns
-returns c =
-    let args = c .before .before .before .before .args in
-    let pre = c .before .before .before .before .pre in
-    let h = c .if1 .taken in
-    tells-false (four-rows (args .t .now) (pre .0 .table) (omega arith))
 
 slice-aggregate-gather : tie.Need-slice-aggregate-gather
 slice-aggregate-gather c = search needs
@@ -26,71 +22,83 @@ array-share-prefix-first : tie.Need-array-share-prefix-first
 array-share-prefix-first c = search needs
 
 slice-aggregate-contains : tie.Need-slice-aggregate-contains
-slice-aggregate-contains c = sym (length-take-le _ _ (c .before .before .gather .ensures .fits))
+slice-aggregate-contains c =
+    let gather = c .before .before .gather in
+    sym (length-take-le _ _ (gather .ensures .fits))
 
 contains-requires : tie.Need-contains-requires
 contains-requires c κs = search needs
 
-returns-2 : tie.Need-returns-2
-returns-2 c =
-    let args = c .before .before .before .before .before .before .before .before .before .before .args in
-    let pre = c .before .before .before .before .before .before .before .before .before .before .pre in
+returns : tie.Need-returns
+returns c =
+    let args = c .before .before .before .before .before .before .before .before .before .args in
+    let pre = c .before .before .before .before .before .before .before .before .before .pre in
     let gather = c .before .before .before .before .gather in
-    tells-false (not-beside (args .t .now) (pre .0 .table) (gather .ensures .lists) (c .before .contains .ensures .when-false (not-true _ (c .if2 .taken))))
-
-slice-aggregate-gather-2 : tie.Need-slice-aggregate-gather-2
-slice-aggregate-gather-2 c = search needs
-
-gather-requires-2 : tie.Need-gather-requires-2
-gather-requires-2 c κs = search needs
+    let contains = c .before .contains in
+    let if1 = c .if1 in
+    tells-false (not-beside (args .t .now) (pre .0 .table) (gather .ensures .lists) (contains .ensures .when-false (not-true _ (if1 .taken))))
 
 array-share-prefix-first-2 : tie.Need-array-share-prefix-first-2
 array-share-prefix-first-2 c = search needs
 
-slice-aggregate-common : tie.Need-slice-aggregate-common
-slice-aggregate-common c =
-    let gather = c .before .before .before .before .before .before .before .before .gather in
+slice-aggregate-mark : tie.Need-slice-aggregate-mark
+slice-aggregate-mark c =
+    let gather = c .before .before .before .before .before .gather in
     sym (length-take-le _ _ (gather .ensures .fits))
 
-array-share-prefix-second : tie.Need-array-share-prefix-second
-array-share-prefix-second c = search needs
+slice-aggregate-mark-2 : tie.Need-slice-aggregate-mark-2
+slice-aggregate-mark-2 c = search needs
 
-slice-aggregate-common-2 : tie.Need-slice-aggregate-common-2
-slice-aggregate-common-2 c = sym (length-take-le _ _ (c .before .before .before .gather2 .ensures .fits))
+mark-requires : tie.Need-mark-requires
+mark-requires c κs =
+    let args = c .before .before .before .before .before .before .before .before .before .before .before .args in
+    let pre = c .before .before .before .before .before .before .before .before .before .before .before .pre in
+    let gather = c .before .before .before .before .before .before .gather in
+    (neighbours-corners (args .t .now) (pre .0 .table) (gather .ensures .lists), (omega arith, record { blank = no-mark most-corners }))
 
-common-requires : tie.Need-common-requires
-common-requires c κs =
+array-share-prefix-first-3 : tie.Need-array-share-prefix-first-3
+array-share-prefix-first-3 c = search needs
+
+slice-aggregate-meets-round : tie.Need-slice-aggregate-meets-round
+slice-aggregate-meets-round c =
     let gather = c .before .before .before .before .before .before .before .before .before .gather in
-    (gather .ensures .lists .distinct, c .before .before .before .gather2 .ensures .lists .distinct)
+    sym (length-take-le _ _ (gather .ensures .fits))
 
-returns-3 : tie.Need-returns-3
-returns-3 c =
-    let if1 = c .before .before .before .before .before .before .before .before .before .before .before .before .if1 in
-    let args = c .before .before .before .before .before .before .before .before .before .before .before .before .before .before .before .before .args in
-    let pre = c .before .before .before .before .before .before .before .before .before .before .before .before .before .before .before .before .pre in
+slice-aggregate-meets-round-2 : tie.Need-slice-aggregate-meets-round-2
+slice-aggregate-meets-round-2 c = search needs
+
+meets-round-requires : tie.Need-meets-round-requires
+meets-round-requires c κs =
+    let pre = c .before .before .before .before .before .before .before .before .before .before .before .before .before .before .before .pre in
     let gather = c .before .before .before .before .before .before .before .before .before .before .gather in
-    let gather2 = c .before .before .before .before .gather2 in
     let contains = c .before .before .before .before .before .before .before .contains in
-    let if2 = c .before .before .before .before .before .before .if2 in
-    let h = if1 .left in
-    two-common (args .t .now) (pre .0 .table) (gather .ensures .lists) (gather2 .ensures .lists) (omega arith) (contains .ensures .when-true (not-false _ (if2 .left))) (c .common .ensures)
+    let if1 = c .before .before .before .before .before .before .if1 in
+    let mark = c .before .before .before .mark in
+    (pre .0, ((gather .ensures .lists .distinct, contains .ensures .when-true (not-false _ (if1 .left))), (mark .ensures, pre .1 .1)))
+
+returns-2 : tie.Need-returns-2
+returns-2 c =
+    let meets-round = c .meets-round in
+    let args = c .before .before .before .before .before .before .before .before .before .before .before .before .before .before .before .before .args in
+    let gather = c .before .before .before .before .before .before .before .before .before .before .before .gather in
+    meets-round .ensures (args .a .0) (gather .ensures .lists)
 
 pub may-contract-spec : {M : Type 1} → statement M
 may-contract-spec =
     tie.close
     (tie.spec
-    returns
     slice-aggregate-gather
     gather-requires
     array-share-prefix-first
     slice-aggregate-contains
     contains-requires
-    returns-2
-    slice-aggregate-gather-2
-    gather-requires-2
+    returns
     array-share-prefix-first-2
-    slice-aggregate-common
-    array-share-prefix-second
-    slice-aggregate-common-2
-    common-requires
-    returns-3)
+    slice-aggregate-mark
+    slice-aggregate-mark-2
+    mark-requires
+    array-share-prefix-first-3
+    slice-aggregate-meets-round
+    slice-aggregate-meets-round-2
+    meets-round-requires
+    returns-2)

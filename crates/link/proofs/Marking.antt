@@ -1,0 +1,48 @@
+-- The numbers of a ring marked one by one.
+use mathlib.Core.Path.{_≡_, refl}
+use mathlib.Core.Logic.{_≢_, _⊎_, inl, inr}
+use mathlib.Core.List.{List, List·Memᴰ·not-nil}
+use Prim.Native.Nat.{ℕ, _+_, _≤_, _<_}
+use native.Mathlib.Omega.{arith}
+use lib.ListN.{length, getD, set, take}
+use lib.Seq.{take-all}
+use Rattle.surface.specs.Limits.{most-corners}
+use Rattle.surface.specs.Lists.{_∈_}
+use Rattle.surface.specs.Rows.{Row, rows}
+use Rattle.surface.specs.Table.{Edge}
+use Rattle.surface.specs.Stage.{Stage, StageTable}
+use Rattle.slots.specs.Marks.{Blank}
+use Rattle.slots.proofs.Marks.{mark-new, mark-old, mark-out}
+use Rattle.link.specs.Around.{Neighbours, Corners, Marked}
+use Rattle.link.proofs.Tally.{first-split, first-old, first-new}
+
+-- m marks the first i numbers of l and no others
+pub record MarkedTo (l : List ℕ) (i : ℕ) (m : List ℕ) : Type 0 where
+  pub all : {w : ℕ} → w ∈ take i l → getD m w 0 ≢ 0
+  pub only : {w : ℕ} → getD m w 0 ≢ 0 → w ∈ take i l
+
+module _ (l m : List ℕ) where
+  pub mark-none : Blank m → MarkedTo l 0 m
+  mark-none b = record { all = λ h. absurd (List·Memᴰ·not-nil h); only = λ {w} h. absurd (h (b .blank w)) }
+
+  pub mark-more : (i : ℕ) → i < length l → getD l i 0 < length m → MarkedTo l i m → MarkedTo l (i + 1) (set m (getD l i 0) 1)
+  mark-more i h r g = record { all = λ {w} k. all w (first-split l i h k); only = λ {w} k. only w (mark-out m (getD l i 0) w k) }
+    where
+      all : (w : ℕ) → (w ∈ take i l) ⊎ (w ≡ getD l i 0) → getD (set m (getD l i 0) 1) w 0 ≢ 0
+      all w (inl k) = mark-old m (getD l i 0) w r (g .all k)
+      all w (inr e) = mark-new m (getD l i 0) w r e
+
+      only : (w : ℕ) → (w ≡ getD l i 0) ⊎ (getD m w 0 ≢ 0) → w ∈ take (i + 1) l
+      only w (inl e) = first-new l i h e
+      only w (inr k) = first-old l i h (g .only k)
+
+  pub mark-end : (i : ℕ) → length l ≤ i → Corners l → most-corners ≤ length m → MarkedTo l i m → Marked l m
+  mark-end i h c r g = record { corners = c; room = r; all = λ k. g .all (rw (take-all i l h) k); only = λ k. rw (take-all i l h) at (g .only k) }
+
+-- both ends of an edge are corners
+pub edge-below : {n : ℕ} {T : List Row} {a b : ℕ} → Stage n T → Edge T a b → b < n
+edge-below s e = s .below (s .both e .1)
+
+-- and so are the neighbours of a corner
+pub neighbours-corners : {n : ℕ} (t : List ℕ) → StageTable n t → {v : ℕ} {l : List ℕ} → Neighbours (rows t) v l → Corners l
+neighbours-corners t s f w m = let h = edge-below (s .stage) (f .only m) in let k = s .stage .many in omega arith
