@@ -1,45 +1,15 @@
 //! The second program: works out from the client's paper what every public call must answer, makes honest, damaged
 //! and hostile inputs, drives the two compiled programs through pipes, and compares.
 
-mod answers;
-mod bench;
-mod chance;
-mod check;
-mod counts;
-mod desk;
-mod ends;
-mod figures;
-mod grow;
-mod harm;
-mod hostile;
-mod limit;
-mod logs;
-mod make;
-mod order;
-mod parts;
-mod pipe;
-mod place;
-mod protocol;
-mod round;
-mod serve;
-mod sheet;
-mod sheets;
-mod skin;
-mod step;
-mod sums;
-mod sweep;
-mod tally;
-mod trial;
-mod typed;
-
-use bench::{desk_difference, Bench, END, PATIENCE};
-use chance::Chance;
-use protocol::{bytes_of, Request};
+use apart::bench::{desk_difference, Bench, END, PATIENCE};
+use apart::chance::Chance;
+use apart::protocol::{bytes_of, Request};
+use apart::tally::{difference, words_of};
+use apart::{answers, counts, desk, ends, lines, order, round, serve, sheets, sums, sweep, trial};
 use std::io::Read;
 use std::process::ExitCode;
-use tally::{difference, words_of};
 
-const USAGE: &str = "usage: apart CALLS DESK [COUNT] [SEED]
+const USAGE: &str = "usage: apart CALLS DESK TRIALS [COUNT] [SEED]
        apart again CALLS WORDS | apart again-desk DESK WORDS   (- reads the words from standard input)
        apart serve | apart desk";
 /// A run of this many calls must have met every refusal.
@@ -56,10 +26,12 @@ fn main() -> ExitCode {
         ["desk"] => code(serve::desk().is_ok()),
         ["again", path, words] => code(again(path, words)),
         ["again-desk", path, words] => code(again_desk(path, words)),
-        [calls, desk] => code(run(calls, desk, WHOLE_RUN, SEED)),
-        [calls, desk, count] => number(count).map_or_else(usage, |n| code(run(calls, desk, n as usize, SEED))),
-        [calls, desk, count, seed] => match (number(count), number(seed)) {
-            (Some(count), Some(seed)) => code(run(calls, desk, count as usize, seed)),
+        [calls, desk, trials] => code(run([calls, desk, trials], WHOLE_RUN, SEED)),
+        [calls, desk, trials, count] => {
+            number(count).map_or_else(usage, |n| code(run([calls, desk, trials], n as usize, SEED)))
+        }
+        [calls, desk, trials, count, seed] => match (number(count), number(seed)) {
+            (Some(count), Some(seed)) => code(run([calls, desk, trials], count as usize, seed)),
             _ => usage(),
         },
         _ => usage(),
@@ -83,10 +55,11 @@ fn number(text: &str) -> Option<u64> {
     text.replace(',', "").parse().ok()
 }
 
-/// The whole run: 01's cases, the ends, the order of refusals, the sweeps, then rounds of chance up to the count.
-fn run(calls: &str, desk: &str, count: usize, seed: u64) -> bool {
+/// The whole run: the lines of `trials`, 01's cases, the ends, the order of refusals, the sweeps, then rounds of chance up to the count.
+fn run([calls, desk, trials]: [&str; 3], count: usize, seed: u64) -> bool {
     let mut bench = Bench::new(calls, desk, count);
     println!("seed {seed}");
+    lines::run(&mut bench, trials);
     let parts: [fn(&mut Bench, &mut Chance); 10] = [
         trial::run,
         order::alone,

@@ -16,9 +16,9 @@ use crate::step::Record;
 use crate::tally::difference;
 
 const T_CORNERS: [Corner; 4] = [[0, 0, 0], [300, 0, 0], [0, 300, 0], [0, 0, 300]];
-const O_CORNERS: [Corner; 6] = [[0, 0, 100], [100, 0, 0], [0, 100, 0], [-100, 0, 0], [0, -100, 0], [0, 0, -100]];
-const O_LEFT: [Row; 4] = [[0, 3, 4], [5, 3, 0], [5, 4, 3], [5, 0, 4]];
-const O_LOG: [Record; 2] = [[0, 1, 0, 0, 1, 2, 3, 0, 4, 1], [0, 2, 0, 0, 2, 3, 2, 5, 2, 0]];
+pub const O_CORNERS: [Corner; 6] = [[0, 0, 100], [100, 0, 0], [0, 100, 0], [-100, 0, 0], [0, -100, 0], [0, 0, -100]];
+pub const O_LEFT: [Row; 4] = [[0, 3, 4], [5, 3, 0], [5, 4, 3], [5, 0, 4]];
+pub const O_LOG: [Record; 2] = [[0, 1, 0, 0, 1, 2, 3, 0, 4, 1], [0, 2, 0, 0, 2, 3, 2, 5, 2, 0]];
 const O_TEXT: &str = "OK\t4\t2\t1\t0\nR\t0\t3\t4\nR\t5\t3\t0\nR\t5\t4\t3\nR\t5\t0\t4\n\
                       K\t0\t1\t0\t0\t1\t2\t3\t0\t4\t1\nK\t0\t2\t0\t0\t2\t3\t2\t5\t2\t0\n";
 
@@ -31,7 +31,7 @@ pub fn run(bench: &mut Bench, chance: &mut Chance) {
     the_trial_ring(bench, chance);
 }
 
-fn coordinates(corners: &[Corner]) -> Vec<Word> {
+pub fn coordinates(corners: &[Corner]) -> Vec<Word> {
     corners.concat().into_iter().map(Word::from).collect()
 }
 

@@ -1,11 +1,8 @@
 // The trial cases of 01, run over the proved crates. What it prints is held to the file stdout beside src/, which was written from 01.
-use figure::change_of;
-use figure::cubic_metres;
 use length::Length;
 use length::Order;
 use length::Reading;
 use length::read_limit;
-use refusal::Verdict;
 use regrow::Regrown;
 use ring::Trial;
 use thin::Thinning;
@@ -60,6 +57,9 @@ const O_CORNERS: [i32; 18] = [
     -100,
 ];
 
+// The tetrahedron.
+const T: [u32; 12] = [0, 1, 2, 0, 2, 3, 0, 3, 1, 1, 3, 2];
+
 const O_END: [u32; 12] = [0, 3, 4, 5, 3, 0, 5, 4, 3, 5, 0, 4];
 
 const O_LOG: [u32; 20] = [0, 1, 0, 0, 1, 2, 3, 0, 4, 1, 0, 2, 0, 0, 2, 3, 2, 5, 2, 0];
@@ -99,72 +99,55 @@ fn limits() {
     show_limit(b"limit 0.3 m: ", Length::Metres(0.3));
 }
 
-// The figures of 01's sums.
-fn figures() {
-    show(b"figure of -27,000,000: ", cubic_metres(-27000000));
-    show(b"figure of 8,000,000: ", cubic_metres(8000000));
-    show(b"figure of 4,000,000: ", cubic_metres(4000000));
-    show(b"figure of 2,000,000: ", cubic_metres(2000000));
-    show(
-        b"change from 8,000,000 to 4,000,000: ",
-        change_of(8000000, 4000000),
-    );
-    show(
-        b"change from 4,000,000 to 2,000,000: ",
-        change_of(4000000, 2000000),
-    );
-    show(
-        b"change from 8,000,000 to 2,000,000: ",
-        change_of(8000000, 2000000),
-    );
-    show(b"figure of 2,999,999: ", cubic_metres(2999999));
-    show(b"figure of 3,000,000: ", cubic_metres(3000000));
-    show(b"figure of -2,999,999: ", cubic_metres(-2999999));
-    show(b"figure of -3,000,000: ", cubic_metres(-3000000));
-    show(b"figure of 9,000,000: ", cubic_metres(9000000));
-    show(b"figure of -9,000,000: ", cubic_metres(-9000000));
-}
-
-// A line of a table and what the check of a first table says of it.
-fn show_check(name: &[u8], t: &[u32], xs: &[i32]) {
-    let v = skin::check_first(t, xs);
+// A line of a thinning's answer.
+fn show_thinning(name: &[u8], r: Thinning) {
     io::write_all(1, name);
-    match v {
-        Verdict::Passes => {
-            io::write_all(1, b"passes\n");
+    match r {
+        Thinning::Done(k) => {
+            io::print_decimal(1, k as u64);
+            io::write_all(1, b" records\n");
         }
-        Verdict::Refused(r) => {
+        Thinning::Refused(e) => {
             io::write_all(1, b"refused ");
-            io::print_decimal(1, refusal::number_of(r) as u64);
+            io::print_decimal(1, refusal::number_of(e) as u64);
             io::write_all(1, b"\n");
         }
     }
 }
 
-// The octahedron, without its last row, and with fewer rows than a skin has.
+// The same of a small table thinned without a limit.
+fn show_thinned(name: &[u8], t: &mut [u32], xs: &[i32]) {
+    let mut log = [0u32; 50];
+    show_thinning(name, thin::thin(t, xs, Order::NoLimit, &mut log));
+}
+
+// The octahedron without its last row, with fewer rows than a skin has, and with a coordinate missing.
 fn octahedra() {
-    let t = O;
     let xs = O_CORNERS;
-    show_check(b"O: ", &t, &xs);
-    show_check(b"O without its last row: ", &t[..21], &xs);
-    show_check(b"O's first three rows: ", &t[..9], &xs);
-    show_check(b"O without its last coordinate: ", &t, &xs[..17]);
+    let mut open = [0u32; 21];
+    copy(&O, &mut open);
+    show_thinned(b"O without its last row: ", &mut open, &xs);
+    let mut three = [0u32; 9];
+    copy(&O, &mut three);
+    show_thinned(b"O's first three rows: ", &mut three, &xs);
+    let mut t = O;
+    show_thinned(b"O without its last coordinate: ", &mut t, &xs[..17]);
 }
 
 // Coordinates at their limit and past it.
 fn far_corners() {
-    let t = [0u32, 1, 2, 0, 2, 3, 0, 3, 1, 1, 3, 2];
+    let mut t = T;
     let at = [0i32, 0, 0, 50000, 0, 0, 0, 300, 0, 0, 0, -50000];
     let past = [0i32, 0, 0, 50001, 0, 0, 0, 300, 0, 0, 0, 300];
     let below = [0i32, 0, 0, 300, 0, 0, 0, 300, 0, 0, 0, -50001];
-    show_check(b"T to 50,000 and -50,000: ", &t, &at);
-    show_check(b"T to 50,001: ", &t, &past);
-    show_check(b"T to -50,001: ", &t, &below);
+    show_thinned(b"T to 50,000 and -50,000: ", &mut t, &at);
+    show_thinned(b"T to 50,001: ", &mut t, &past);
+    show_thinned(b"T to -50,001: ", &mut t, &below);
 }
 
 // Two tetrahedra: sharing a corner, apart, and with a corner that no row uses.
 fn pairs() {
-    let shared = [
+    let mut shared = [
         0u32,
         1,
         2,
@@ -190,7 +173,7 @@ fn pairs() {
         6,
         5,
     ];
-    let apart = [
+    let mut apart = [
         0u32,
         1,
         2,
@@ -218,20 +201,14 @@ fn pairs() {
     ];
     let xs = [0i32; 24];
     let more = [0i32; 27];
-    show_check(b"two tetrahedra that share a corner: ", &shared, &xs[..21]);
-    show_check(b"and a corner that no row uses: ", &shared, &xs);
-    show_check(b"two tetrahedra apart: ", &apart, &xs);
-    show_check(b"and a corner that no row uses: ", &apart, &more);
-}
-
-// A line of a count of rows, and whether it is within the limits.
-fn show_rows(name: &[u8], rows: usize) {
-    io::write_all(1, name);
-    if counts::rows_fit(rows) {
-        io::write_all(1, b"pass the count\n");
-    } else {
-        io::write_all(1, b"do not pass the count\n");
-    }
+    show_thinned(
+        b"two tetrahedra that share a corner: ",
+        &mut shared,
+        &xs[..21],
+    );
+    show_thinned(b"and a corner that no row uses: ", &mut shared, &xs);
+    show_thinned(b"two tetrahedra apart: ", &mut apart, &xs);
+    show_thinned(b"and a corner that no row uses: ", &mut apart, &more);
 }
 
 // The numbers of a list, parted by blanks, on one line.
@@ -259,22 +236,6 @@ fn copy(from: &[u32], to: &mut [u32]) {
         }
         to[i] = from[i];
         i += 1;
-    }
-}
-
-// A line of a thinning's answer.
-fn show_thinning(name: &[u8], r: Thinning) {
-    io::write_all(1, name);
-    match r {
-        Thinning::Done(k) => {
-            io::print_decimal(1, k as u64);
-            io::write_all(1, b" records\n");
-        }
-        Thinning::Refused(e) => {
-            io::write_all(1, b"refused ");
-            io::print_decimal(1, refusal::number_of(e) as u64);
-            io::write_all(1, b"\n");
-        }
     }
 }
 
@@ -373,7 +334,7 @@ fn logs() {
 
 // T with one record, M with five and with six.
 fn too_many_records() {
-    let mut t = [0u32, 1, 2, 0, 2, 3, 0, 3, 1, 1, 3, 2];
+    let mut t = T;
     show_regrown(
         b"T with one record: ",
         replay::replay(&mut t, 4, &O_LOG[..10]),
@@ -556,6 +517,36 @@ fn show_volume(name: &[u8], r: Measured) {
     }
 }
 
+// Sums on either side of a half cubic metre, and at one and a half: the three corners of T beside the first span the sum.
+fn halves() {
+    show_span(b"the sum 2,999,999: ", 2000, 1, 1, 1500, -1);
+    show_span(b"the sum -2,999,999: ", 2000, 1, 1, 1500, 1);
+    show_span(b"the sum 3,000,000: ", 100, 0, 0, 100, -300);
+    show_span(b"the sum -3,000,000: ", 100, 0, 0, 100, 300);
+    show_span(b"the sum 9,000,000: ", 300, 0, 0, 100, -300);
+    show_span(b"the sum -9,000,000: ", 300, 0, 0, 100, 300);
+}
+
+// The volume of T with the corners (0, 0, 0), (a, b, 0), (c, d, 0) and (0, 0, e): its sum is (b x c - a x d) x e.
+fn show_span(name: &[u8], a: i32, b: i32, c: i32, d: i32, e: i32) {
+    let xs = [0i32, 0, 0, a, b, 0, c, d, 0, 0, 0, e];
+    show_volume(name, volume::volume(&T, &xs));
+}
+
+// The most rows, and one more; under a limit of 0 no edge is short enough.
+fn most_rows() {
+    let mut xs = [0i32; 1536];
+    place_torus(&mut xs, 50000);
+    let mut log = [0u32; 5080];
+    let zero = Order::Limit(Length::Centimetres(0.0));
+    let mut most = [0u32; 3072];
+    copy_torus(&mut most);
+    show_thinning(b"1,024 rows: ", thin::thin(&mut most, &xs, zero, &mut log));
+    let mut more = [0u32; 3075];
+    copy_torus(&mut more);
+    show_thinning(b"1,025 rows: ", thin::thin(&mut more, &xs, zero, &mut log));
+}
+
 // The largest sums: 512,000,000,000,000,000 either way.
 fn largest_sums() {
     let mut t = [0u32; 3072];
@@ -569,10 +560,9 @@ fn largest_sums() {
 
 fn main() {
     limits();
-    figures();
+    halves();
     octahedra();
-    show_rows(b"1,024 rows ", 1024);
-    show_rows(b"1,025 rows ", 1025);
+    most_rows();
     far_corners();
     pairs();
     thin_octahedron();

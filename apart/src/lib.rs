@@ -1,0 +1,33 @@
+//! The parts of the second program; the benchmark takes its skins from here.
+
+pub mod answers;
+pub mod bench;
+pub mod chance;
+pub mod check;
+pub mod counts;
+pub mod desk;
+pub mod ends;
+pub mod figures;
+pub mod grow;
+pub mod harm;
+pub mod hostile;
+pub mod limit;
+pub mod lines;
+pub mod logs;
+pub mod make;
+pub mod order;
+pub mod parts;
+pub mod pipe;
+pub mod place;
+pub mod protocol;
+pub mod round;
+pub mod serve;
+pub mod sheet;
+pub mod sheets;
+pub mod skin;
+pub mod step;
+pub mod sums;
+pub mod sweep;
+pub mod tally;
+pub mod trial;
+pub mod typed;
