@@ -1,0 +1,91 @@
+//! Reading a sheet in ordinary Rust: a cursor over the bytes, then the check.
+
+use crate::check::{self, Refused, CORNERS, ROWS, SLOTS};
+use crate::work::Work;
+
+const BYTES: usize = 65_536;
+const DIGITS: usize = 6;
+const FORM: Refused = 12;
+
+struct Reader<'a> {
+    left: &'a [u8],
+}
+
+impl Reader<'_> {
+    fn expect(&mut self, word: &[u8]) -> Result<(), Refused> {
+        self.left = self.left.strip_prefix(word).ok_or(FORM)?;
+        Ok(())
+    }
+
+    fn number(&mut self) -> Result<i64, Refused> {
+        let minus = self.expect(b"-").is_ok();
+        let mut digits = 0;
+        let mut value = 0;
+        while let Some(digit @ b'0'..=b'9') = self.left.get(digits) {
+            if (digits > 0 && value == 0) || digits == DIGITS {
+                return Err(FORM);
+            }
+            value = 10 * value + i64::from(digit - b'0');
+            digits += 1;
+        }
+        if digits == 0 || (minus && value == 0) {
+            return Err(FORM);
+        }
+        self.left = &self.left[digits..];
+        Ok(if minus { -value } else { value })
+    }
+
+    fn line(&mut self, word: &[u8], fields: &mut [i64]) -> Result<(), Refused> {
+        self.expect(word)?;
+        for field in fields {
+            self.expect(b"\t")?;
+            *field = self.number()?;
+        }
+        self.expect(b"\n")
+    }
+}
+
+/// The call: corner count and row count; table and coordinates go in front of the lent rooms.
+pub fn read_sheet(
+    bytes: &[u8],
+    table: &mut [u32],
+    corners: &mut [i32],
+    work: &mut impl Work,
+) -> Result<(usize, usize), Refused> {
+    if bytes.len() > BYTES {
+        return Err(FORM);
+    }
+    work.bytes(bytes.len());
+    let mut reader = Reader { left: bytes };
+    let mut counts = [0; 2];
+    reader.line(b"SKIN", &mut counts)?;
+    let [n, m] = counts;
+    if n < 0 || m < 0 {
+        return Err(FORM);
+    }
+    let (n, m) = (n as usize, m as usize);
+    if !(4..=CORNERS).contains(&n) || !(4..=ROWS).contains(&m) {
+        return Err(2);
+    }
+    let mut coordinates = [0; 3 * CORNERS];
+    for line in coordinates[..3 * n].chunks_exact_mut(3) {
+        reader.line(b"C", line)?;
+    }
+    let mut numbers = [0; SLOTS];
+    for line in numbers[..3 * m].chunks_exact_mut(3) {
+        reader.line(b"R", line)?;
+    }
+    if !reader.left.is_empty() || numbers.iter().any(|&number| number < 0) {
+        return Err(FORM);
+    }
+    let (mut xs, mut rows) = ([0; 3 * CORNERS], [0; SLOTS]);
+    xs.iter_mut().zip(coordinates).for_each(|(x, z): (&mut i32, i64)| *x = z as i32);
+    rows.iter_mut().zip(numbers).for_each(|(number, z): (&mut u32, i64)| *number = z as u32);
+    if table.len() < 3 * m || corners.len() < 3 * n {
+        return Err(3);
+    }
+    check::with_coordinates(&rows[..3 * m], &xs[..3 * n], true, work)?;
+    table[..3 * m].copy_from_slice(&rows[..3 * m]);
+    corners[..3 * n].copy_from_slice(&xs[..3 * n]);
+    Ok((n, m))
+}

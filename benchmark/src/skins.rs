@@ -1,0 +1,43 @@
+//! The skins that are measured: spheres by splits and flips, shafts eight corners round, tori eight corners across.
+
+use apart::chance::Chance;
+use apart::make::{shaft_rows, skin_of_genus, Skin};
+use apart::parts::grid;
+use apart::place;
+
+pub const SIZES: [usize; 4] = [128, 256, 512, 1_024];
+pub const AROUND: usize = 8;
+const SEED: u64 = 7;
+
+pub const KINDS: [(&str, fn(usize) -> Skin); 3] = [("shaft", shaft), ("sphere", sphere), ("torus", torus)];
+
+/// As a scan numbers it: ring by ring, from the bottom up.
+fn shaft(rows: usize) -> Skin {
+    let rings = rows / 2 / AROUND;
+    let corners = place::shaft(rings, AROUND, &mut Chance::new(SEED));
+    Skin { rows: shaft_rows(rings as u32, AROUND as u32), corners, genus: 0, name: "a shaft" }
+}
+
+/// Relabelled, its rows shuffled and turned.
+fn sphere(rows: usize) -> Skin {
+    skin_of_genus(0, rows, &mut Chance::new(SEED))
+}
+
+fn torus(rows: usize) -> Skin {
+    let down = rows / 2 / AROUND;
+    let rows = grid(down as u32, AROUND as u32);
+    let corners = place::corners(down * AROUND, &mut Chance::new(SEED));
+    Skin { rows, corners, genus: 1, name: "a torus" }
+}
+
+/// A limit in centimetres that about half of a skin's edges meet.
+pub fn middling_limit(skin: &Skin) -> u64 {
+    let squared = |a: u32, b: u32| -> u64 {
+        let gap = |axis: usize| i64::from(skin.corners[a as usize][axis] - skin.corners[b as usize][axis]);
+        (0..3).map(|axis| gap(axis).pow(2) as u64).sum()
+    };
+    let mut lengths: Vec<u64> =
+        skin.rows.iter().flat_map(|&[a, b, c]| [squared(a, b), squared(b, c), squared(c, a)]).collect();
+    lengths.sort_unstable();
+    lengths[lengths.len() / 2].isqrt()
+}

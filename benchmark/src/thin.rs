@@ -1,0 +1,168 @@
+//! Thinning in ordinary Rust: the least edge that qualifies is contracted, until none is left. The chains are built anew for each step.
+
+use crate::check::{self, next, Chains, Refused, CORNERS};
+use crate::work::Work;
+
+pub const WIDTH: usize = 10;
+const FOUR_ROWS: usize = 12;
+
+/// The neighbours of a corner, put in front of a room.
+fn gather<'a>(
+    table: &[u32],
+    chains: &Chains,
+    corner: u32,
+    room: &'a mut [u32; CORNERS],
+    work: &mut impl Work,
+) -> &'a [u32] {
+    let mut count = 0;
+    for slot in chains.slots(corner as usize) {
+        room[count] = table[next(slot)];
+        count += 1;
+    }
+    work.ring_entries(count);
+    &room[..count]
+}
+
+/// The numbers of a ring, marked.
+fn marks(ring: &[u32], work: &mut impl Work) -> [bool; CORNERS] {
+    let mut marks = [false; CORNERS];
+    for &corner in ring {
+        marks[corner as usize] = true;
+    }
+    work.ring_entries(ring.len());
+    marks
+}
+
+/// The link condition of an edge to one of the neighbours that a ring lists: more than four rows, and two common neighbours.
+fn meets_round(
+    table: &[u32],
+    chains: &Chains,
+    first: &[u32],
+    near: &[bool; CORNERS],
+    removed: u32,
+    work: &mut impl Work,
+) -> bool {
+    work.link_test();
+    if table.len() <= FOUR_ROWS {
+        return false;
+    }
+    let mut room = [0; CORNERS];
+    let second = gather(table, chains, removed, &mut room, work);
+    let far = marks(second, work);
+    let shorter = if second.len() < first.len() { second } else { first };
+    work.ring_entries(shorter.len());
+    shorter.iter().filter(|&&corner| near[corner as usize] && far[corner as usize]).count() == 2
+}
+
+/// The link condition of an edge.
+pub fn may_contract(table: &[u32], chains: &Chains, kept: u32, removed: u32, work: &mut impl Work) -> bool {
+    let mut room = [0; CORNERS];
+    let first = gather(table, chains, kept, &mut room, work);
+    first.contains(&removed) && meets_round(table, chains, first, &marks(first, work), removed, work)
+}
+
+/// The least neighbour above a number: mostly one of the next few that are marked, else by a look through the ring.
+fn next_above(ring: &[u32], near: &[bool; CORNERS], past: u32, work: &mut impl Work) -> Option<u32> {
+    let from = past as usize + 1;
+    let few = &near[from..CORNERS.min(from + ring.len())];
+    match few.iter().position(|&mark| mark) {
+        Some(at) => {
+            work.ring_entries(at + 1);
+            Some((from + at) as u32)
+        }
+        None => {
+            work.ring_entries(few.len() + ring.len());
+            ring.iter().copied().filter(|&corner| corner > past).min()
+        }
+    }
+}
+
+fn squared_distance(corners: &[i32], a: u32, b: u32) -> u64 {
+    let gap = |axis: usize| i64::from(corners[3 * a as usize + axis]) - i64::from(corners[3 * b as usize + axis]);
+    (0..3).map(|axis| (gap(axis) * gap(axis)) as u64).sum()
+}
+
+/// The least edge that qualifies.
+fn least_edge(table: &[u32], corners: &[i32], most: Option<u64>, work: &mut impl Work) -> Option<(u32, u32)> {
+    let mut chains = Chains::EMPTY;
+    chains.link(table, work);
+    let mut room = [0; CORNERS];
+    for kept in 0..(corners.len() / 3) as u32 {
+        let ring = gather(table, &chains, kept, &mut room, work);
+        let near = marks(ring, work);
+        let mut past = kept;
+        while let Some(removed) = next_above(ring, &near, past, work) {
+            let short = most.is_none_or(|most| squared_distance(corners, kept, removed) <= most * most);
+            if short && meets_round(table, &chains, ring, &near, removed, work) {
+                return Some((kept, removed));
+            }
+            past = removed;
+        }
+    }
+    None
+}
+
+/// Whether a row holds a corner.
+fn holds(row: &[u32], corner: u32) -> bool {
+    row[0] == corner || row[1] == corner || row[2] == corner
+}
+
+/// The places of the two rows that hold both ends of an edge.
+pub fn leaving(table: &[u32], kept: u32, removed: u32, work: &mut impl Work) -> [usize; 2] {
+    let mut rows = table.chunks_exact(3);
+    let mut place = || rows.position(|row| holds(row, kept) && holds(row, removed)).expect("two rows at an edge");
+    let earlier = place();
+    let later = earlier + 1 + place();
+    work.rows(later + 1);
+    [earlier, later]
+}
+
+/// The record of contracting an edge.
+pub fn record(table: &[u32], kept: u32, removed: u32, work: &mut impl Work) -> [u32; WIDTH] {
+    let [i, j] = leaving(table, kept, removed, work);
+    let (earlier, later) = (&table[3 * i..3 * i + 3], &table[3 * j..3 * j + 3]);
+    [kept, removed, i as u32, earlier[0], earlier[1], earlier[2], j as u32, later[0], later[1], later[2]]
+}
+
+/// Contracts an edge in place; the rows that stay move up, and zeros stand behind them.
+pub fn contract(table: &mut [u32], kept: u32, removed: u32, work: &mut impl Work) {
+    let mut to = 0;
+    for from in (0..table.len()).step_by(3) {
+        let row = [table[from], table[from + 1], table[from + 2]];
+        if holds(&row, kept) && holds(&row, removed) {
+            continue;
+        }
+        for (slot, corner) in row.into_iter().enumerate() {
+            table[to + slot] = if corner == removed { kept } else { corner };
+        }
+        to += 3;
+    }
+    work.rows(table.len() / 3);
+    table[to..].fill(0);
+}
+
+/// The call: how many records were written.
+pub fn thin(
+    table: &mut [u32],
+    corners: &[i32],
+    most: Option<u64>,
+    log: &mut [u32],
+    work: &mut impl Work,
+) -> Result<usize, Refused> {
+    if corners.len() % 3 != 0 || !check::counts_fit(table, corners.len() / 3) {
+        return Err(2);
+    }
+    if log.len() < WIDTH * (corners.len() / 3 - 4) {
+        return Err(3);
+    }
+    check::with_coordinates(table, corners, true, work)?;
+    let (mut end, mut records) = (table.len(), 0);
+    while let Some((kept, removed)) = least_edge(&table[..end], corners, most, work) {
+        let written = record(&table[..end], kept, removed, work);
+        contract(&mut table[..end], kept, removed, work);
+        log[WIDTH * records..][..WIDTH].copy_from_slice(&written);
+        end -= 6;
+        records += 1;
+    }
+    Ok(records)
+}
