@@ -62,9 +62,10 @@ same-length-3 c = search needs
 
 returns-3 : tie.Need-returns-3
 returns-3 c =
+    let e = c .before .before .before .before .e in
     let args = c .before .before .before .before .before .before .before .before .before .before .before .before .before .before .before .before .before .before .before .args in
     let pre = c .before .before .before .before .before .before .before .before .before .before .before .before .before .before .before .before .before .before .before .pre in
-    let is-e = c .before .before .before .before .e in
+    let is-e = e in
     let ends-of = c .before .before .before .before .before .before .ends-of in
     let note-round = c .before .before .before .before .before .before .before .before .before .before .before .before .before .note-round in
     let is-at = c .before .before .before .before .before .before .before .before .before .before .before .before .at in
@@ -93,9 +94,10 @@ same-length-5 c = search needs
 
 returns-5 : tie.Need-returns-5
 returns-5 c =
+    let e = c .before .before .before .before .e in
     let args = c .before .before .before .before .before .before .before .before .before .before .before .before .before .before .before .before .before .before .before .args in
     let pre = c .before .before .before .before .before .before .before .before .before .before .before .before .before .before .before .before .before .before .before .pre in
-    let is-e = c .before .before .before .before .e in
+    let is-e = e in
     let ends-of = c .before .before .before .before .before .before .ends-of in
     let note-round = c .before .before .before .before .before .before .before .before .before .before .before .before .before .note-round in
     let is-at = c .before .before .before .before .before .before .before .before .before .before .before .before .at in

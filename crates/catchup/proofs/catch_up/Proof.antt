@@ -23,7 +23,12 @@ part-result-end : tie.Need-part-result-end
 part-result-end c = search needs
 
 returns : tie.Need-returns
-returns c = rest-of-second (c .before .before .before .before .before .before .args .first) (c .before .before .before .before .before .before .args .second) _ (c .before .before .before .if1 .taken) (sym (c .before .before .is-beginning .ensures) ∙ c .before .if2 .taken) (record { place = refl; holds = refl })
+returns c =
+    let args = c .before .before .before .before .before .before .args in
+    let if1 = c .before .before .before .if1 in
+    let is-beginning = c .before .before .is-beginning in
+    let if2 = c .before .if2 in
+    rest-of-second (args .first) (args .second) _ (if1 .taken) (sym (is-beginning .ensures) ∙ if2 .taken) (record { place = refl; holds = refl })
 
 sub-result-2 : tie.Need-sub-result-2
 sub-result-2 c = search needs
@@ -35,7 +40,12 @@ part-result-end-2 : tie.Need-part-result-end-2
 part-result-end-2 c = search needs
 
 returns-2 : tie.Need-returns-2
-returns-2 c = not-second (c .before .before .before .before .before .before .args .first) (c .before .before .before .before .before .before .args .second) _ (c .before .before .before .if1 .taken) (sym (c .before .before .is-beginning .ensures) ∙ c .before .if2 .left) (record { place = refl; holds = refl })
+returns-2 c =
+    let args = c .before .before .before .before .before .before .args in
+    let if1 = c .before .before .before .if1 in
+    let is-beginning = c .before .before .is-beginning in
+    let if2 = c .before .if2 in
+    not-second (args .first) (args .second) _ (if1 .taken) (sym (is-beginning .ensures) ∙ if2 .left) (record { place = refl; holds = refl })
 
 is-beginning-requires-2 : tie.Need-is-beginning-requires-2
 is-beginning-requires-2 c κs = search needs
@@ -50,7 +60,12 @@ part-result-end-3 : tie.Need-part-result-end-3
 part-result-end-3 c = search needs
 
 returns-3 : tie.Need-returns-3
-returns-3 c = rest-of-first (c .before .before .before .before .before .before .before .args .first) (c .before .before .before .before .before .before .before .args .second) _ (c .before .before .before .if3 .taken) (sym (c .before .before .is-beginning2 .ensures) ∙ c .before .if4 .taken) (record { place = refl; holds = refl })
+returns-3 c =
+    let args = c .before .before .before .before .before .before .before .args in
+    let if3 = c .before .before .before .if3 in
+    let is-beginning2 = c .before .before .is-beginning2 in
+    let if4 = c .before .if4 in
+    rest-of-first (args .first) (args .second) _ (if3 .taken) (sym (is-beginning2 .ensures) ∙ if4 .taken) (record { place = refl; holds = refl })
 
 sub-result-3 : tie.Need-sub-result-3
 sub-result-3 c = search needs
@@ -62,7 +77,12 @@ part-result-end-4 : tie.Need-part-result-end-4
 part-result-end-4 c = search needs
 
 returns-4 : tie.Need-returns-4
-returns-4 c = not-first (c .before .before .before .before .before .before .before .args .first) (c .before .before .before .before .before .before .before .args .second) _ (c .before .before .before .if3 .taken) (sym (c .before .before .is-beginning2 .ensures) ∙ c .before .if4 .left) (record { place = refl; holds = refl })
+returns-4 c =
+    let args = c .before .before .before .before .before .before .before .args in
+    let if3 = c .before .before .before .if3 in
+    let is-beginning2 = c .before .before .is-beginning2 in
+    let if4 = c .before .if4 in
+    not-first (args .first) (args .second) _ (if3 .taken) (sym (is-beginning2 .ensures) ∙ if4 .left) (record { place = refl; holds = refl })
 
 sub-result-4 : tie.Need-sub-result-4
 sub-result-4 c = search needs

@@ -34,7 +34,10 @@ shared-slice-read-if2-2 : tie.Need-shared-slice-read-if2-2 Inv-loop μ-loop
 shared-slice-read-if2-2 c = search needs
 
 returns-2 : tie.Need-returns-2 Inv-loop μ-loop
-returns-2 c = sym (differ (c .before .before .before .before .before .before .args .l .now) (c .before .before .before .before .before .before .args .m .now) (c .before .before .before .before .before .loop .i) (omega arith) (omega arith) (c .if2 .taken)) ∙ c .before .before .before .before .before .loop .inv .1
+returns-2 c =
+    let args = c .before .before .before .before .before .before .args in
+    let loop = c .before .before .before .before .before .loop in
+    sym (differ (args .l .now) (args .m .now) (loop .i) (omega arith) (omega arith) (c .if2 .taken)) ∙ loop .inv .1
 
 add-i : tie.Need-add-i Inv-loop μ-loop
 add-i c = search needs
@@ -43,7 +46,10 @@ loop-less : tie.Need-loop-less Inv-loop μ-loop
 loop-less c = search needs
 
 loop-again : tie.Need-loop-again Inv-loop μ-loop
-loop-again c = (search needs, go-on (c .before .before .before .before .before .before .args .l .now) (c .before .before .before .before .before .before .args .m .now) (c .before .before .before .before .before .loop .i) (omega arith) (omega arith) (c .if2 .left) ∙ c .before .before .before .before .before .loop .inv .1)
+loop-again c =
+    let args = c .before .before .before .before .before .before .args in
+    let loop = c .before .before .before .before .before .loop in
+    (search needs, go-on (args .l .now) (args .m .now) (loop .i) (omega arith) (omega arith) (c .if2 .left) ∙ loop .inv .1)
 
 returns-3 : tie.Need-returns-3 Inv-loop μ-loop
 returns-3 c = sym (at-end (c .before .before .args .l .now) (c .before .before .args .m .now) (c .before .loop .i) (omega arith)) ∙ c .before .loop .inv .1

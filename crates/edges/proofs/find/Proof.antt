@@ -46,18 +46,20 @@ next-requires-2 c κs =
 
 mul-q : tie.Need-mul-q Inv-loop μ-loop
 mul-q c =
+    let next = c .before .next in
     let loop = c .before .before .before .loop in
     let args = c .before .before .before .before .before .before .before .before .before .before .args in
     let pre = c .before .before .before .before .before .before .before .before .before .before .pre in
-    let up = loop .inv .1 .upto in omega (arith, (c .next2 .ensures ∙ ap next-slot (c .before .next .ensures)), (next-inside (length (args .t .now)) (next-slot (loop .x - 1)) (pre .0 .threes) (next-inside (length (args .t .now)) (loop .x - 1) (pre .0 .threes) (omega arith))))
+    let up = loop .inv .1 .upto in omega (arith, (c .next2 .ensures ∙ ap next-slot (next .ensures)), (next-inside (length (args .t .now)) (next-slot (loop .x - 1)) (pre .0 .threes) (next-inside (length (args .t .now)) (loop .x - 1) (pre .0 .threes) (omega arith))))
 
 shared-slice-read-q : tie.Need-shared-slice-read-q Inv-loop μ-loop
 shared-slice-read-q c =
+    let next2 = c .before .next2 in
     let loop = c .before .before .before .before .loop in
     let next = c .before .before .next in
     let args = c .before .before .before .before .before .before .before .before .before .before .before .args in
     let pre = c .before .before .before .before .before .before .before .before .before .before .before .pre in
-    let up = loop .inv .1 .upto in omega (arith, (c .before .next2 .ensures ∙ ap next-slot (next .ensures)), (next-inside (length (args .t .now)) (next-slot (loop .x - 1)) (pre .0 .threes) (next-inside (length (args .t .now)) (loop .x - 1) (pre .0 .threes) (omega arith))))
+    let up = loop .inv .1 .upto in omega (arith, (next2 .ensures ∙ ap next-slot (next .ensures)), (next-inside (length (args .t .now)) (next-slot (loop .x - 1)) (pre .0 .threes) (next-inside (length (args .t .now)) (loop .x - 1) (pre .0 .threes) (omega arith))))
 
 cast-q : tie.Need-cast-q Inv-loop μ-loop
 cast-q c = omega (arith, c .shared-slice-known6 .given (c .before .next2 .result))

@@ -42,32 +42,65 @@ same-length-2 : tie.Need-same-length-2 Inv-loop μ-loop
 same-length-2 c = search needs
 
 returns : tie.Need-returns Inv-loop μ-loop
-returns c = go-end (c .before .before .before .before .loop .table) (c .before .before .before .before .loop .log) (c .before .before .before .before .loop .r) (c .before .before .before .before .loop .k) (c .before .before .before .before .loop .inv) (rw (c .enum-told .given .1) at (c .before .before .next-edge .ensures))
+returns c =
+    let loop = c .before .before .before .before .loop in
+    let next-edge = c .before .before .next-edge in
+    go-end (loop .table) (loop .log) (loop .r) (loop .k) (loop .inv) (rw (c .enum-told .given .1) at (next-edge .ensures))
 
 enum-known-found : tie.Need-enum-known-found Inv-loop μ-loop
 enum-known-found c = search needs
 
 contract-front-requires : tie.Need-contract-front-requires Inv-loop μ-loop
-contract-front-requires c κs = let w = (rw (c .before .before .found .given .1) at (c .before .before .before .before .next-edge .ensures)) in
-    (c .before .before .before .before .before .before .loop .inv .fallen .inside, record { corners = c .before .before .before .before .before .before .before .before .before .args .n; table = c .before .before .before .before .before .before .loop .inv .fallen .table; rises = w .does .rises; meets = w .does .meets })
+contract-front-requires c κs =
+    let args = c .before .before .before .before .before .before .before .before .before .args in
+    let loop = c .before .before .before .before .before .before .loop in
+    let next-edge = c .before .before .before .before .next-edge in
+    let found = c .before .before .found in
+    let w = (rw (found .given .1) at (next-edge .ensures)) in
+    (loop .inv .fallen .inside, record { corners = args .n; table = loop .inv .fallen .table; rises = w .does .rises; meets = w .does .meets })
 
 mul-write-record : tie.Need-mul-write-record Inv-loop μ-loop
-mul-write-record c = omega (arith, room-left (c .before .before .before .before .before .before .before .before .before .before .loop .table) (c .before .before .before .before .before .before .before .before .before .before .loop .log) (c .before .before .before .before .before .before .before .before .before .before .loop .r) (c .before .before .before .before .before .before .before .before .before .before .loop .k) (c .before .before .before .before .before .before .before .before .before .before .loop .inv) (rw (c .before .before .before .before .before .before .found .given .1) at (c .before .before .before .before .before .before .before .before .next-edge .ensures)), c .before .before .before .before .before .before .before .before .before .before .loop .inv .same-log, c .before .before .before .before .before .before .before .before .before .before .before .before .before .good .1 .1 .1 .1 .1 .0 .0)
+mul-write-record c =
+    let good = c .before .before .before .before .before .before .before .before .before .before .before .before .before .good in
+    let loop = c .before .before .before .before .before .before .before .before .before .before .loop in
+    let next-edge = c .before .before .before .before .before .before .before .before .next-edge in
+    let found = c .before .before .before .before .before .before .found in
+    omega (arith, room-left (loop .table) (loop .log) (loop .r) (loop .k) (loop .inv) (rw (found .given .1) at (next-edge .ensures)), loop .inv .same-log, good .1 .1 .1 .1 .1 .0 .0)
 
 write-record-requires : tie.Need-write-record-requires Inv-loop μ-loop
-write-record-requires c κs = room-left (c .before .before .before .before .before .before .before .before .before .before .loop .table) (c .before .before .before .before .before .before .before .before .before .before .loop .log) (c .before .before .before .before .before .before .before .before .before .before .loop .r) (c .before .before .before .before .before .before .before .before .before .before .loop .k) (c .before .before .before .before .before .before .before .before .before .before .loop .inv) (rw (c .before .before .before .before .before .before .found .given .1) at (c .before .before .before .before .before .before .before .before .next-edge .ensures))
+write-record-requires c κs =
+    let loop = c .before .before .before .before .before .before .before .before .before .before .loop in
+    let next-edge = c .before .before .before .before .before .before .before .before .next-edge in
+    let found = c .before .before .before .before .before .before .found in
+    room-left (loop .table) (loop .log) (loop .r) (loop .k) (loop .inv) (rw (found .given .1) at (next-edge .ensures))
 
 sub-r : tie.Need-sub-r Inv-loop μ-loop
-sub-r c = omega (arith, rows-four (c .before .before .before .before .before .before .before .before .before .before .before .before .before .loop .table) (c .before .before .before .before .before .before .before .before .before .before .before .before .before .loop .r) (c .before .before .before .before .before .before .before .before .before .before .before .before .before .loop .inv .fallen))
+sub-r c =
+    let loop = c .before .before .before .before .before .before .before .before .before .before .before .before .before .loop in
+    omega (arith, rows-four (loop .table) (loop .r) (loop .inv .fallen))
 
 add-k : tie.Need-add-k Inv-loop μ-loop
-add-k c = omega (arith, room-left (c .before .before .before .before .before .before .before .before .before .before .before .before .before .loop .table) (c .before .before .before .before .before .before .before .before .before .before .before .before .before .loop .log) (c .before .before .before .before .before .before .before .before .before .before .before .before .before .loop .r) (c .before .before .before .before .before .before .before .before .before .before .before .before .before .loop .k) (c .before .before .before .before .before .before .before .before .before .before .before .before .before .loop .inv) (rw (c .before .before .before .before .before .before .before .before .before .found .given .1) at (c .before .before .before .before .before .before .before .before .before .before .before .next-edge .ensures)), c .before .before .before .before .before .before .before .before .before .before .before .before .before .loop .inv .same-log, c .before .before .before .before .before .before .before .before .before .before .before .before .before .before .before .before .good .1 .1 .1 .1 .1 .0 .0)
+add-k c =
+    let good = c .before .before .before .before .before .before .before .before .before .before .before .before .before .before .before .before .good in
+    let loop = c .before .before .before .before .before .before .before .before .before .before .before .before .before .loop in
+    let next-edge = c .before .before .before .before .before .before .before .before .before .before .before .next-edge in
+    let found = c .before .before .before .before .before .before .before .before .before .found in
+    omega (arith, room-left (loop .table) (loop .log) (loop .r) (loop .k) (loop .inv) (rw (found .given .1) at (next-edge .ensures)), loop .inv .same-log, good .1 .1 .1 .1 .1 .0 .0)
 
 loop-less : tie.Need-loop-less Inv-loop μ-loop
-loop-less c = omega (arith, rows-four (c .before .before .before .before .before .before .before .before .before .before .before .before .before .loop .table) (c .before .before .before .before .before .before .before .before .before .before .before .before .before .loop .r) (c .before .before .before .before .before .before .before .before .before .before .before .before .before .loop .inv .fallen))
+loop-less c =
+    let loop = c .before .before .before .before .before .before .before .before .before .before .before .before .before .loop in
+    omega (arith, rows-four (loop .table) (loop .r) (loop .inv .fallen))
 
 loop-again : tie.Need-loop-again Inv-loop μ-loop
-loop-again c = go-on (c .before .before .before .before .before .before .before .before .before .before .before .before .before .loop .table) (c .before .before .before .before .before .before .before .before .before .before .before .before .before .loop .log) (c .before .before .before .before .before .before .before .before .before .before .before .before .before .loop .r) (c .before .before .before .before .before .before .before .before .before .before .before .before .before .loop .k) (c .before .before .before .before .before .before .before .before .before .before .before .before .before .loop .inv) _ _ _ (rw (c .before .before .before .before .before .before .before .before .before .found .given .1) at (c .before .before .before .before .before .before .before .before .before .before .before .next-edge .ensures)) (c .before .before .before .before .before .before .contract-front .ensures) (c .before .before .before .before .before .table .given) (c .before .before .write-record .ensures)
+loop-again c =
+    let loop = c .before .before .before .before .before .before .before .before .before .before .before .before .before .loop in
+    let next-edge = c .before .before .before .before .before .before .before .before .before .before .before .next-edge in
+    let found = c .before .before .before .before .before .before .before .before .before .found in
+    let contract-front = c .before .before .before .before .before .before .contract-front in
+    let table = c .before .before .before .before .before .table in
+    let write-record = c .before .before .write-record in
+    go-on (loop .table) (loop .log) (loop .r) (loop .k) (loop .inv) _ _ _ (rw (found .given .1) at (next-edge .ensures)) (contract-front .ensures) (table .given) (write-record .ensures)
 
 pub go-on-spec : {M : Type 1} → statement M
 go-on-spec =

@@ -24,7 +24,11 @@ slice-aggregate-least-edge-2 : tie.Need-slice-aggregate-least-edge-2
 slice-aggregate-least-edge-2 c = search needs
 
 least-edge-requires : tie.Need-least-edge-requires
-least-edge-requires c κs = record { table = c .before .before .before .before .before .before .before .before .pre .0; chained = c .before .before .before .before .chains .ensures; room = let m = c .before .before .before .before .before .before .before .before .pre .0 .stage .many in omega (arith, c .before .before .before .last2 .given); measured = c .before .before .before .before .before .before .before .before .pre .1 }
+least-edge-requires c κs =
+    let pre = c .before .before .before .before .before .before .before .before .pre in
+    let chains = c .before .before .before .before .chains in
+    let last2 = c .before .before .before .last2 in
+    record { table = pre .0; chained = chains .ensures; room = let m = pre .0 .stage .many in omega (arith, last2 .given); measured = pre .1 }
 
 returns : tie.Need-returns
 returns c = c .least-edge .ensures

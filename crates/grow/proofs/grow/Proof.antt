@@ -44,18 +44,20 @@ slice-aggregate-rename-2 c = search needs
 
 rename-requires : tie.Need-rename-requires
 rename-requires c κs =
+    let e = c .before .before .before .e in
     let args = c .before .before .before .before .before .before .before .before .before .before .args in
     let pre = c .before .before .before .before .before .before .before .before .before .before .pre in
-    let is-e = c .before .before .before .e in
+    let is-e = e in
     let accepts = c .before .before .before .before .before .before .accepts in
     let at2 = c .before .before .before .before .before .at2 in
     walkable (args .corners) (args .rows) (meant (args .r)) (args .room .now) (pre .0) (pre .1) (is-e .given .0 .0) (is-e .given .0 .1 .0) (rw (is-e .given .1) at (accepts .ensures .0)) (accepts .last .1 .1 .1 .0) (omega (arith, at2 .given, pre .0 .stage .many)) (accepts .ensures .1)
 
 put-rows-requires : tie.Need-put-rows-requires
 put-rows-requires c κs =
+    let e = c .before .before .before .before .before .before .before .e in
     let args = c .before .before .before .before .before .before .before .before .before .before .before .before .before .before .args in
     let pre = c .before .before .before .before .before .before .before .before .before .before .before .before .before .before .pre in
-    let is-e = c .before .before .before .before .before .before .before .e in
+    let is-e = e in
     let accepts = c .before .before .before .before .before .before .before .before .before .before .accepts in
     let room = c .before .before .room in
     (earlier-inside (args .corners) (args .rows) (meant (args .r)) (args .room .now) (pre .0) (pre .1) (is-e .given .0 .0) (is-e .given .0 .1 .0) (rw (is-e .given .1) at (accepts .ensures .0)), (later-inside (args .corners) (args .rows) (meant (args .r)) (args .room .now) (pre .0) (pre .1) (is-e .given .0 .0) (is-e .given .0 .1 .0) (rw (is-e .given .1) at (accepts .ensures .0)), rw (room .given .1) (pre .1)))
@@ -76,9 +78,10 @@ same-length-2 c = search needs
 
 returns-2 : tie.Need-returns-2
 returns-2 c =
+    let e = c .before .before .before .before .before .before .before .before .before .before .e in
     let args = c .before .before .before .before .before .before .before .before .before .before .before .before .before .before .before .before .before .args in
     let pre = c .before .before .before .before .before .before .before .before .before .before .before .before .before .before .before .before .before .pre in
-    let is-e = c .before .before .before .before .before .before .before .before .before .before .e in
+    let is-e = e in
     let accepts = c .before .before .before .before .before .before .before .before .before .before .before .before .before .accepts in
     let rename = c .before .before .before .before .before .before .rename in
     let room = c .before .before .before .before .before .room in

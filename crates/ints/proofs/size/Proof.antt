@@ -13,16 +13,23 @@ use Rattle.ints.proofs.size.Statement.{statement}
 use Rattle.ints.proofs.size.Tie as tie
 
 add-short : tie.Need-add-short
-add-short c = fits w64 (one-on (c .before .args .z) (c .before .fits .z) (below (c .before .args .z) (c .before .fits .z) (sym (ap (λ k. ltZ k (pos 0)) (toZ-ofZ w64 (c .before .args .z) (c .before .fits .z))) ∙ c .if1 .taken))) (omega arith)
+add-short c =
+    let args = c .before .args in
+    fits w64 (one-on (args .z) (c .before .fits .z) (below (args .z) (c .before .fits .z) (sym (ap (λ k. ltZ k (pos 0)) (toZ-ofZ w64 (args .z) (c .before .fits .z))) ∙ c .if1 .taken))) (omega arith)
 
 sub-short : tie.Need-sub-short
 sub-short c = fits w64 (short (c .before .args .z) (c .before .fits .z) (below (c .before .args .z) (c .before .fits .z) (sym (ap (λ k. ltZ k (pos 0)) (toZ-ofZ w64 (c .before .args .z) (c .before .fits .z))) ∙ c .if1 .taken))) (omega arith)
 
 cast-result : tie.Need-cast-result
-cast-result c = unsigned-fits w64 (short-kept (c .before .args .z) (c .before .fits .z) (below (c .before .args .z) (c .before .fits .z) (sym (ap (λ k. ltZ k (pos 0)) (toZ-ofZ w64 (c .before .args .z) (c .before .fits .z))) ∙ c .if1 .taken))) (omega arith)
+cast-result c =
+    let args = c .before .args in
+    let fits = c .before .fits in
+    unsigned-fits w64 (short-kept (args .z) (fits .z) (below (args .z) (fits .z) (sym (ap (λ k. ltZ k (pos 0)) (toZ-ofZ w64 (args .z) (fits .z))) ∙ c .if1 .taken))) (omega arith)
 
 add-result : tie.Need-add-result
-add-result c = let b = below (c .before .args .z) (c .before .fits .z) (sym (ap (λ k. ltZ k (pos 0)) (toZ-ofZ w64 (c .before .args .z) (c .before .fits .z))) ∙ c .if1 .taken) in let s = b .small in record { fits = omega (arith, unsigned (short-kept (c .before .args .z) (c .before .fits .z) b)) }
+add-result c =
+    let args = c .before .args in
+    let b = below (args .z) (c .before .fits .z) (sym (ap (λ k. ltZ k (pos 0)) (toZ-ofZ w64 (args .z) (c .before .fits .z))) ∙ c .if1 .taken) in let s = b .small in record { fits = omega (arith, unsigned (short-kept (args .z) (c .before .fits .z) b)) }
 
 returns : tie.Need-returns
 returns c = short-size (c .before .args .z) (c .before .fits .z) (below (c .before .args .z) (c .before .fits .z) (sym (ap (λ k. ltZ k (pos 0)) (toZ-ofZ w64 (c .before .args .z) (c .before .fits .z))) ∙ c .if1 .taken))

@@ -26,11 +26,17 @@ enum-told c = search needs
 
 returns : tie.Need-returns
 unfolding Expected
-returns c = field-read (c .before .before .before .before .before .before .before .args .most) (c .before .before .before .before .before .before .before .args .s .now) (c .before .before .before .before .before .before .before .args .from .at) (c .before .before .tab .given .0 .0 .at) (subst (Expected (tab ∷ []) (c .before .before .before .before .before .before .before .args .s .now) (c .before .before .before .before .before .before .before .args .from .at)) (c .before .before .tab .given .1) (c .before .before .before .before .expect .ensures)) (c .read-signed .result) (c .read-signed .ensures)
+returns c =
+    let args = c .before .before .before .before .before .before .before .args in
+    let expect = c .before .before .before .before .expect in
+    field-read (args .most) (args .s .now) (args .from .at) (c .before .before .tab .given .0 .0 .at) (subst (Expected (tab ∷ []) (args .s .now) (args .from .at)) (c .before .before .tab .given .1) (expect .ensures)) (c .read-signed .result) (c .read-signed .ensures)
 
 returns-2 : tie.Need-returns-2
 unfolding Expected
-returns-2 c = field-none (c .before .before .before .before .before .args .most) (c .before .before .before .before .before .args .s .now) (c .before .before .before .before .before .args .from .at) (subst (Expected (tab ∷ []) (c .before .before .before .before .before .args .s .now) (c .before .before .before .before .before .args .from .at)) (c .enum-told .given .1) (c .before .before .expect .ensures))
+returns-2 c =
+    let args = c .before .before .before .before .before .args in
+    let expect = c .before .before .expect in
+    field-none (args .most) (args .s .now) (args .from .at) (subst (Expected (tab ∷ []) (args .s .now) (args .from .at)) (c .enum-told .given .1) (expect .ensures))
 
 pub read-field-spec : {M : Type 1} → statement M
 read-field-spec =

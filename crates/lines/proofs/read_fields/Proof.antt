@@ -34,7 +34,12 @@ same-length c = put-length (c .before .before .before .before .loop .inv .put)
 
 returns : tie.Need-returns Inv-loop μ-loop
 unfolding ReadField ReadInto
-returns c = fields-stop (c .before .before .before .before .before .before .args .most) (c .before .before .before .before .before .before .args .count) (c .before .before .before .before .before .before .args .s .now) (c .before .before .before .before .before .before .args .from .at) (c .before .before .before .before .before .before .args .room .now) (c .before .before .before .before .before .before .args .start) (c .before .before .before .before .loop .room) (c .before .before .before .before .loop .k) (c .before .before .before .before .loop .i) (c .before .before .before .before .loop .inv) (c .before .before .before .loop-test .taken) (subst (ReadField (c .before .before .before .before .before .before .args .most) (c .before .before .before .before .before .before .args .s .now) (c .before .before .before .before .loop .k)) (c .enum-told .given .1) (c .before .before .read-field .ensures))
+returns c =
+    let args = c .before .before .before .before .before .before .args in
+    let loop = c .before .before .before .before .loop in
+    let loop-test = c .before .before .before .loop-test in
+    let read-field = c .before .before .read-field in
+    fields-stop (args .most) (args .count) (args .s .now) (args .from .at) (args .room .now) (args .start) (loop .room) (loop .k) (loop .i) (loop .inv) (loop-test .taken) (subst (ReadField (args .most) (args .s .now) (loop .k)) (c .enum-told .given .1) (read-field .ensures))
 
 add-z : tie.Need-add-z Inv-loop μ-loop
 add-z c = let h = c .before .before .before .before .loop-test .taken in let p = c .before .before .before .before .before .before .before .pre .2 in omega arith
@@ -43,7 +48,11 @@ mul-z : tie.Need-mul-z Inv-loop μ-loop
 mul-z c = let h = c .before .before .before .before .loop-test .taken in let p = c .before .before .before .before .before .before .before .pre .2 in omega (arith, put-length (c .before .before .before .before .before .loop .inv .put))
 
 slice-set-from-z : tie.Need-slice-set-from-z Inv-loop μ-loop
-slice-set-from-z c = let h = c .before .before .before .before .loop-test .taken in let p = c .before .before .before .before .before .before .before .pre .2 in omega (arith, put-length (c .before .before .before .before .before .loop .inv .put))
+slice-set-from-z c =
+    let pre = c .before .before .before .before .before .before .before .pre in
+    let loop = c .before .before .before .before .before .loop in
+    let loop-test = c .before .before .before .before .loop-test in
+    let h = loop-test .taken in let p = pre .2 in omega (arith, put-length (loop .inv .put))
 
 add-i : tie.Need-add-i Inv-loop μ-loop
 add-i c = search needs
@@ -53,14 +62,24 @@ loop-less c = search needs
 
 loop-again : tie.Need-loop-again Inv-loop μ-loop
 unfolding ReadField
-loop-again c = fields-stored (c .before .before .before .before .before .before .before .args .most) (c .before .before .before .before .before .before .before .args .count) (c .before .before .before .before .before .before .before .args .s .now) (c .before .before .before .before .before .before .before .args .from .at) (c .before .before .before .before .before .before .before .args .room .now) (c .before .before .before .before .before .before .before .args .start) (c .before .before .before .before .before .loop .room) (c .before .before .before .before .before .loop .k) (c .before .before .before .before .before .loop .i) (c .before .before .before .before .before .loop .inv) (toZ w64 (ofZ w64 (c .before .field .given .0 .0))) (c .before .field .given .0 .0) (c .before .field .given .0 .1 .0 .at) (toZ-ofZ w64 (c .before .field .given .0 .0) (field-small (c .before .before .before .before .before .before .before .args .most) (c .before .before .before .before .before .before .before .args .count) (c .before .before .before .before .before .before .before .args .s .now) (c .before .before .before .before .before .before .before .args .from .at) (c .before .before .before .before .before .before .before .args .room .now) (c .before .before .before .before .before .before .before .args .start) (c .before .before .before .before .before .loop .room) (c .before .before .before .before .before .loop .k) (c .before .before .before .before .before .loop .i) (c .before .before .before .before .before .loop .inv) (c .before .before .before .before .before .before .before .pre .1) (subst (ReadField (c .before .before .before .before .before .before .before .args .most) (c .before .before .before .before .before .before .before .args .s .now) (c .before .before .before .before .before .loop .k)) (c .before .field .given .1) (c .before .before .before .read-field .ensures)))) (c .before .before .before .before .loop-test .taken) (subst (ReadField (c .before .before .before .before .before .before .before .args .most) (c .before .before .before .before .before .before .before .args .s .now) (c .before .before .before .before .before .loop .k)) (c .before .field .given .1) (c .before .before .before .read-field .ensures))
+loop-again c =
+    let args = c .before .before .before .before .before .before .before .args in
+    let pre = c .before .before .before .before .before .before .before .pre in
+    let loop = c .before .before .before .before .before .loop in
+    let loop-test = c .before .before .before .before .loop-test in
+    let read-field = c .before .before .before .read-field in
+    let field = c .before .field in
+    fields-stored (args .most) (args .count) (args .s .now) (args .from .at) (args .room .now) (args .start) (loop .room) (loop .k) (loop .i) (loop .inv) (toZ w64 (ofZ w64 (field .given .0 .0))) (field .given .0 .0) (field .given .0 .1 .0 .at) (toZ-ofZ w64 (field .given .0 .0) (field-small (args .most) (args .count) (args .s .now) (args .from .at) (args .room .now) (args .start) (loop .room) (loop .k) (loop .i) (loop .inv) (pre .1) (subst (ReadField (args .most) (args .s .now) (loop .k)) (field .given .1) (read-field .ensures)))) (loop-test .taken) (subst (ReadField (args .most) (args .s .now) (loop .k)) (field .given .1) (read-field .ensures))
 
 same-length-2 : tie.Need-same-length-2 Inv-loop μ-loop
 same-length-2 c = put-length (c .before .loop .inv .put)
 
 returns-2 : tie.Need-returns-2 Inv-loop μ-loop
 unfolding ReadInto
-returns-2 c = fields-end (c .before .before .before .args .most) (c .before .before .before .args .count) (c .before .before .before .args .s .now) (c .before .before .before .args .from .at) (c .before .before .before .args .room .now) (c .before .before .before .args .start) (c .before .loop .room) (c .before .loop .k) (c .before .loop .i) (c .before .loop .inv) (c .loop-test .left)
+returns-2 c =
+    let args = c .before .before .before .args in
+    let loop = c .before .loop in
+    fields-end (args .most) (args .count) (args .s .now) (args .from .at) (args .room .now) (args .start) (loop .room) (loop .k) (loop .i) (loop .inv) (c .loop-test .left)
 
 pub read-fields-spec : {M : Type 1} → statement M
 read-fields-spec =

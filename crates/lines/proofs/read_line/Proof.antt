@@ -20,7 +20,10 @@ enum-told c = search needs
 
 returns : tie.Need-returns
 unfolding Expected ReadInto
-returns c = no-word (c .before .before .before .before .before .args .most) (c .before .before .before .before .before .args .count) (c .before .before .before .before .before .args .s .now) (c .before .before .before .before .before .args .from .at) (c .before .before .before .before .before .args .w .now) (c .before .before .before .before .before .args .room .now) (c .before .before .before .before .before .args .start) (subst (Expected (c .before .before .before .before .before .args .w .now) (c .before .before .before .before .before .args .s .now) (c .before .before .before .before .before .args .from .at)) (c .enum-told .given .1) (c .before .before .expect .ensures))
+returns c =
+    let args = c .before .before .before .before .before .args in
+    let expect = c .before .before .expect in
+    no-word (args .most) (args .count) (args .s .now) (args .from .at) (args .w .now) (args .room .now) (args .start) (subst (Expected (args .w .now) (args .s .now) (args .from .at)) (c .enum-told .given .1) (expect .ensures))
 
 read-fields-requires : tie.Need-read-fields-requires
 read-fields-requires c κs = search needs
@@ -36,7 +39,12 @@ same-length c = search needs
 
 returns-2 : tie.Need-returns-2
 unfolding Expected ReadInto
-returns-2 c = no-fields (c .before .before .before .before .before .before .before .before .before .before .before .args .most) (c .before .before .before .before .before .before .before .before .before .before .before .args .count) (c .before .before .before .before .before .before .before .before .before .before .before .args .s .now) (c .before .before .before .before .before .before .before .before .before .before .before .args .from .at) (c .before .before .before .before .before .before .before .before .before .before .before .args .w .now) (c .before .before .before .before .before .before .before .before .before .before .before .args .room .now) (c .before .before .before .before .before .before .before .before .before .before .before .args .start) (c .before .before .before .before .before .before .word .given .0 .0 .at) (subst (Expected (c .before .before .before .before .before .before .before .before .before .before .before .args .w .now) (c .before .before .before .before .before .before .before .before .before .before .before .args .s .now) (c .before .before .before .before .before .before .before .before .before .before .before .args .from .at)) (c .before .before .before .before .before .before .word .given .1) (c .before .before .before .before .before .before .before .before .expect .ensures)) (subst (ReadInto (FieldsAt (c .before .before .before .before .before .before .before .before .before .before .before .args .most) (drop (c .before .before .before .before .before .before .word .given .0 .0 .at) (c .before .before .before .before .before .before .before .before .before .before .before .args .s .now))) (c .before .before .before .before .before .before .before .before .before .before .before .args .count) (c .before .before .before .before .before .before .before .before .before .before .before .args .s .now) (c .before .before .before .before .before .before .before .before .before .before .before .args .room .now) (c .before .before .before .before .before .before .before .before .before .before .before .args .start) (c .before .before .before .read-fields .last .1 .1 .1 .0)) (c .enum-told2 .given .1) (c .before .before .before .read-fields .ensures))
+returns-2 c =
+    let args = c .before .before .before .before .before .before .before .before .before .before .before .args in
+    let expect = c .before .before .before .before .before .before .before .before .expect in
+    let word = c .before .before .before .before .before .before .word in
+    let read-fields = c .before .before .before .read-fields in
+    no-fields (args .most) (args .count) (args .s .now) (args .from .at) (args .w .now) (args .room .now) (args .start) (word .given .0 .0 .at) (subst (Expected (args .w .now) (args .s .now) (args .from .at)) (word .given .1) (expect .ensures)) (subst (ReadInto (FieldsAt (args .most) (drop (word .given .0 .0 .at) (args .s .now))) (args .count) (args .s .now) (args .room .now) (args .start) (read-fields .last .1 .1 .1 .0)) (c .enum-told2 .given .1) (read-fields .ensures))
 
 slice-aggregate-expect : tie.Need-slice-aggregate-expect
 slice-aggregate-expect c = search needs
@@ -49,7 +57,13 @@ same-length-2 c = search needs
 
 returns-3 : tie.Need-returns-3
 unfolding Expected ReadInto
-returns-3 c = line-end (c .before .before .before .before .before .before .before .before .before .before .before .before .before .before .args .most) (c .before .before .before .before .before .before .before .before .before .before .before .before .before .before .args .count) (c .before .before .before .before .before .before .before .before .before .before .before .before .before .before .args .s .now) (c .before .before .before .before .before .before .before .before .before .before .before .before .before .before .args .from .at) (c .before .before .before .before .before .before .before .before .before .before .before .before .before .before .args .w .now) (c .before .before .before .before .before .before .before .before .before .before .before .before .before .before .args .room .now) (c .before .before .before .before .before .before .before .before .before .before .before .before .before .before .args .start) (c .before .before .before .before .before .before .before .before .before .word .given .0 .0 .at) (subst (Expected (c .before .before .before .before .before .before .before .before .before .before .before .before .before .before .args .w .now) (c .before .before .before .before .before .before .before .before .before .before .before .before .before .before .args .s .now) (c .before .before .before .before .before .before .before .before .before .before .before .before .before .before .args .from .at)) (c .before .before .before .before .before .before .before .before .before .word .given .1) (c .before .before .before .before .before .before .before .before .before .before .before .expect .ensures)) (c .before .before .before .before .before .before .read-fields .last .1 .1 .1 .0) (c .before .before .before .numbers .given .0 .0 .at) (subst (ReadInto (FieldsAt (c .before .before .before .before .before .before .before .before .before .before .before .before .before .before .args .most) (drop (c .before .before .before .before .before .before .before .before .before .word .given .0 .0 .at) (c .before .before .before .before .before .before .before .before .before .before .before .before .before .before .args .s .now))) (c .before .before .before .before .before .before .before .before .before .before .before .before .before .before .args .count) (c .before .before .before .before .before .before .before .before .before .before .before .before .before .before .args .s .now) (c .before .before .before .before .before .before .before .before .before .before .before .before .before .before .args .room .now) (c .before .before .before .before .before .before .before .before .before .before .before .before .before .before .args .start) (c .before .before .before .before .before .before .read-fields .last .1 .1 .1 .0)) (c .before .before .before .numbers .given .1) (c .before .before .before .before .before .before .read-fields .ensures)) (c .expect2 .result) (c .expect2 .ensures)
+returns-3 c =
+    let args = c .before .before .before .before .before .before .before .before .before .before .before .before .before .before .args in
+    let expect = c .before .before .before .before .before .before .before .before .before .before .before .expect in
+    let word = c .before .before .before .before .before .before .before .before .before .word in
+    let read-fields = c .before .before .before .before .before .before .read-fields in
+    let numbers = c .before .before .before .numbers in
+    line-end (args .most) (args .count) (args .s .now) (args .from .at) (args .w .now) (args .room .now) (args .start) (word .given .0 .0 .at) (subst (Expected (args .w .now) (args .s .now) (args .from .at)) (word .given .1) (expect .ensures)) (read-fields .last .1 .1 .1 .0) (numbers .given .0 .0 .at) (subst (ReadInto (FieldsAt (args .most) (drop (word .given .0 .0 .at) (args .s .now))) (args .count) (args .s .now) (args .room .now) (args .start) (read-fields .last .1 .1 .1 .0)) (numbers .given .1) (read-fields .ensures)) (c .expect2 .result) (c .expect2 .ensures)
 
 pub read-line-spec : {M : Type 1} → statement M
 read-line-spec =

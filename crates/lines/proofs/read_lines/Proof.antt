@@ -16,10 +16,17 @@ abbrev μ-loop : tie.MeasureT-loop
 μ-loop s w most room₀ width count k₀ start₀ i₀ room k start i = count - i
 
 loop-holds : tie.Need-loop-holds Inv-loop μ-loop
-loop-holds c = lines-start (c .before .before .args .most) (c .before .before .args .width) (c .before .before .args .count) (c .before .before .args .s .now) (c .before .before .args .from .at) (c .before .before .args .w .now) (c .before .before .args .room .now)
+loop-holds c =
+    let args = c .before .before .args in
+    lines-start (args .most) (args .width) (args .count) (args .s .now) (args .from .at) (args .w .now) (args .room .now)
 
 read-line-requires : tie.Need-read-line-requires Inv-loop μ-loop
-read-line-requires c κs = (c .before .before .before .before .before .pre .0, c .before .before .before .before .before .pre .1, line-room (c .before .before .before .before .before .args .most) (c .before .before .before .before .before .args .width) (c .before .before .before .before .before .args .count) (c .before .before .before .before .before .args .s .now) (c .before .before .before .before .before .args .from .at) (c .before .before .before .before .before .args .w .now) (c .before .before .before .before .before .args .room .now) (c .before .before .loop .room) (c .before .before .loop .k) (c .before .before .loop .start) (c .before .before .loop .i) (c .before .before .loop .inv) (c .before .before .before .before .before .pre .2) (c .before .loop-test .taken))
+read-line-requires c κs =
+    let pre = c .before .before .before .before .before .pre in
+    let args = c .before .before .before .before .before .args in
+    let loop = c .before .before .loop in
+    let loop-test = c .before .loop-test in
+    (pre .0, pre .1, line-room (args .most) (args .width) (args .count) (args .s .now) (args .from .at) (args .w .now) (args .room .now) (loop .room) (loop .k) (loop .start) (loop .i) (loop .inv) (pre .2) (loop-test .taken))
 
 enum-known-read : tie.Need-enum-known-read Inv-loop μ-loop
 enum-known-read c = search needs
@@ -32,10 +39,20 @@ same-length c = c .before .before .room .given ∙ put-length (c .before .before
 
 returns : tie.Need-returns Inv-loop μ-loop
 unfolding ReadInto
-returns c = lines-stop (c .before .before .before .before .before .before .before .before .before .args .most) (c .before .before .before .before .before .before .before .before .before .args .width) (c .before .before .before .before .before .before .before .before .before .args .count) (c .before .before .before .before .before .before .before .before .before .args .s .now) (c .before .before .before .before .before .before .before .before .before .args .from .at) (c .before .before .before .before .before .before .before .before .before .args .w .now) (c .before .before .before .before .before .before .before .before .before .args .room .now) (c .before .before .before .before .before .before .loop .room) (c .before .before .before .before .before .before .loop .k) (c .before .before .before .before .before .before .loop .start) (c .before .before .before .before .before .before .loop .i) (c .before .before .before .before .before .before .loop .inv) (c .before .before .before .before .before .loop-test .taken) (subst (ReadInto (LineAt (c .before .before .before .before .before .before .before .before .before .args .most) (c .before .before .before .before .before .before .before .before .before .args .w .now) (drop (c .before .before .before .before .before .before .loop .k) (c .before .before .before .before .before .before .before .before .before .args .s .now))) (c .before .before .before .before .before .before .before .before .before .args .width) (c .before .before .before .before .before .before .before .before .before .args .s .now) (c .before .before .before .before .before .before .loop .room) (c .before .before .before .before .before .before .loop .start) (c .before .before .before .read-line .last .1 .1 .1 .1 .0)) (c .enum-told .given .1) (c .before .before .before .read-line .ensures))
+returns c =
+    let args = c .before .before .before .before .before .before .before .before .before .args in
+    let loop = c .before .before .before .before .before .before .loop in
+    let loop-test = c .before .before .before .before .before .loop-test in
+    let read-line = c .before .before .before .read-line in
+    lines-stop (args .most) (args .width) (args .count) (args .s .now) (args .from .at) (args .w .now) (args .room .now) (loop .room) (loop .k) (loop .start) (loop .i) (loop .inv) (loop-test .taken) (subst (ReadInto (LineAt (args .most) (args .w .now) (drop (loop .k) (args .s .now))) (args .width) (args .s .now) (loop .room) (loop .start) (read-line .last .1 .1 .1 .1 .0)) (c .enum-told .given .1) (read-line .ensures))
 
 add-start : tie.Need-add-start Inv-loop μ-loop
-add-start c = let h = line-room (c .before .before .before .before .before .before .before .before .before .before .args .most) (c .before .before .before .before .before .before .before .before .before .before .args .width) (c .before .before .before .before .before .before .before .before .before .before .args .count) (c .before .before .before .before .before .before .before .before .before .before .args .s .now) (c .before .before .before .before .before .before .before .before .before .before .args .from .at) (c .before .before .before .before .before .before .before .before .before .before .args .w .now) (c .before .before .before .before .before .before .before .before .before .before .args .room .now) (c .before .before .before .before .before .before .before .loop .room) (c .before .before .before .before .before .before .before .loop .k) (c .before .before .before .before .before .before .before .loop .start) (c .before .before .before .before .before .before .before .loop .i) (c .before .before .before .before .before .before .before .loop .inv) (c .before .before .before .before .before .before .before .before .before .before .pre .2) (c .before .before .before .before .before .before .loop-test .taken) in omega (arith, put-length (c .before .before .before .before .before .before .before .loop .inv .put))
+add-start c =
+    let args = c .before .before .before .before .before .before .before .before .before .before .args in
+    let pre = c .before .before .before .before .before .before .before .before .before .before .pre in
+    let loop = c .before .before .before .before .before .before .before .loop in
+    let loop-test = c .before .before .before .before .before .before .loop-test in
+    let h = line-room (args .most) (args .width) (args .count) (args .s .now) (args .from .at) (args .w .now) (args .room .now) (loop .room) (loop .k) (loop .start) (loop .i) (loop .inv) (pre .2) (loop-test .taken) in omega (arith, put-length (loop .inv .put))
 
 add-i : tie.Need-add-i Inv-loop μ-loop
 add-i c = search needs
@@ -45,14 +62,23 @@ loop-less c = search needs
 
 loop-again : tie.Need-loop-again Inv-loop μ-loop
 unfolding ReadInto
-loop-again c = lines-next (c .before .before .before .before .before .before .before .before .before .before .args .most) (c .before .before .before .before .before .before .before .before .before .before .args .width) (c .before .before .before .before .before .before .before .before .before .before .args .count) (c .before .before .before .before .before .before .before .before .before .before .args .s .now) (c .before .before .before .before .before .before .before .before .before .before .args .from .at) (c .before .before .before .before .before .before .before .before .before .before .args .w .now) (c .before .before .before .before .before .before .before .before .before .before .args .room .now) (c .before .before .before .before .before .before .before .loop .room) (c .before .before .before .before .before .before .before .loop .k) (c .before .before .before .before .before .before .before .loop .start) (c .before .before .before .before .before .before .before .loop .i) (c .before .before .before .before .before .before .before .loop .inv) (c .before .before .before .before .read-line .last .1 .1 .1 .1 .0) (c .before .read .given .0 .0 .at) (c .before .before .before .before .before .before .loop-test .taken) (subst (ReadInto (LineAt (c .before .before .before .before .before .before .before .before .before .before .args .most) (c .before .before .before .before .before .before .before .before .before .before .args .w .now) (drop (c .before .before .before .before .before .before .before .loop .k) (c .before .before .before .before .before .before .before .before .before .before .args .s .now))) (c .before .before .before .before .before .before .before .before .before .before .args .width) (c .before .before .before .before .before .before .before .before .before .before .args .s .now) (c .before .before .before .before .before .before .before .loop .room) (c .before .before .before .before .before .before .before .loop .start) (c .before .before .before .before .read-line .last .1 .1 .1 .1 .0)) (c .before .read .given .1) (c .before .before .before .before .read-line .ensures))
+loop-again c =
+    let args = c .before .before .before .before .before .before .before .before .before .before .args in
+    let loop = c .before .before .before .before .before .before .before .loop in
+    let loop-test = c .before .before .before .before .before .before .loop-test in
+    let read-line = c .before .before .before .before .read-line in
+    let read = c .before .read in
+    lines-next (args .most) (args .width) (args .count) (args .s .now) (args .from .at) (args .w .now) (args .room .now) (loop .room) (loop .k) (loop .start) (loop .i) (loop .inv) (read-line .last .1 .1 .1 .1 .0) (read .given .0 .0 .at) (loop-test .taken) (subst (ReadInto (LineAt (args .most) (args .w .now) (drop (loop .k) (args .s .now))) (args .width) (args .s .now) (loop .room) (loop .start) (read-line .last .1 .1 .1 .1 .0)) (read .given .1) (read-line .ensures))
 
 same-length-2 : tie.Need-same-length-2 Inv-loop μ-loop
 same-length-2 c = put-length (c .before .loop .inv .put)
 
 returns-2 : tie.Need-returns-2 Inv-loop μ-loop
 unfolding ReadInto
-returns-2 c = lines-end (c .before .before .before .before .args .most) (c .before .before .before .before .args .width) (c .before .before .before .before .args .count) (c .before .before .before .before .args .s .now) (c .before .before .before .before .args .from .at) (c .before .before .before .before .args .w .now) (c .before .before .before .before .args .room .now) (c .before .loop .room) (c .before .loop .k) (c .before .loop .start) (c .before .loop .i) (c .before .loop .inv) (c .loop-test .left)
+returns-2 c =
+    let args = c .before .before .before .before .args in
+    let loop = c .before .loop in
+    lines-end (args .most) (args .width) (args .count) (args .s .now) (args .from .at) (args .w .now) (args .room .now) (loop .room) (loop .k) (loop .start) (loop .i) (loop .inv) (c .loop-test .left)
 
 pub read-lines-spec : {M : Type 1} → statement M
 read-lines-spec =

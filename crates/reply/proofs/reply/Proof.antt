@@ -91,10 +91,11 @@ same-length c = search needs
 
 returns : tie.Need-returns
 returns c =
+    let tell = c .before .before .tell in
     let read = c .before .before .before .before .before .before .before .before .read in
     let number-of = c .before .before .before .before .before .before .number-of in
     let read-sheet = c .before .before .before .before .before .before .before .before .before .before .before .before .read-sheet in
-    replied-no (read .given .0 .0) (let f = number-of .ok in toZ-ofZ w64 (pos (number-of .result)) (record { sfits = omega arith }) ∙ ap pos (number-of .ensures)) (sheet-refused (read .given .1) (read-sheet .ensures)) (c .before .before .tell .ensures)
+    replied-no (read .given .0 .0) (let f = number-of .ok in toZ-ofZ w64 (pos (number-of .result)) (record { sfits = omega arith }) ∙ ap pos (number-of .ensures)) (sheet-refused (read .given .1) (read-sheet .ensures)) (tell .ensures)
 
 same-length-2 : tie.Need-same-length-2
 same-length-2 c = search needs

@@ -60,10 +60,11 @@ slice-aggregate-write-line c =
 
 write-line-requires : tie.Need-write-line-requires
 write-line-requires c κs =
+    let if1 = c .before .before .if1 in
     let args = c .before .before .before .before .before .before .args in
     let pre = c .before .before .before .before .before .before .pre in
     let fields-length = c .before .before .before .fields-length in
-    first-fits (args .w .now) (args .zs .now) (args .head) (args .rows) (args .records) (args .out .now) (let e = text-length (args .w .now) (args .zs .now) (args .head) (args .rows) (args .records) pre in let f = fields-length .ensures .0 in let t = c .before .before .if1 .left in omega arith)
+    first-fits (args .w .now) (args .zs .now) (args .head) (args .rows) (args .records) (args .out .now) (let e = text-length (args .w .now) (args .zs .now) (args .head) (args .rows) (args .records) pre in let f = fields-length .ensures .0 in let t = if1 .left in omega arith)
 
 slice-aggregate-write-lines : tie.Need-slice-aggregate-write-lines
 slice-aggregate-write-lines c = refl
@@ -135,13 +136,14 @@ same-length c = search needs
 
 returns-2 : tie.Need-returns-2
 returns-2 c =
+    let write-lines2 = c .before .before .write-lines2 in
     let args = c .before .before .before .before .before .before .before .before .before .before .before .before .before .before .before .before .before .before .before .before .before .args in
     let pre = c .before .before .before .before .before .before .before .before .before .before .before .before .before .before .before .before .before .before .before .before .before .pre in
     let fields-length = c .before .before .before .before .before .before .before .before .before .before .before .before .before .before .before .before .before .before .fields-length in
     let if1 = c .before .before .before .before .before .before .before .before .before .before .before .before .before .before .before .before .before .if1 in
     let write-line = c .before .before .before .before .before .before .before .before .before .before .before .before .before .before .write-line in
     let write-lines = c .before .before .before .before .before .before .before .before .write-lines in
-    text-written (args .w .now) (args .zs .now) (args .head) (args .rows) (args .records) (args .out .now) (let e = text-length (args .w .now) (args .zs .now) (args .head) (args .rows) (args .records) pre in let f = fields-length .ensures .0 in let t = if1 .left in omega arith) (write-line .ensures) (rw (part-from (args .head) (args .zs .now)) at (write-lines .ensures)) (rw (part-from (args .head + args .rows * 3) (args .zs .now)) at (c .before .before .write-lines2 .ensures))
+    text-written (args .w .now) (args .zs .now) (args .head) (args .rows) (args .records) (args .out .now) (let e = text-length (args .w .now) (args .zs .now) (args .head) (args .rows) (args .records) pre in let f = fields-length .ensures .0 in let t = if1 .left in omega arith) (write-line .ensures) (rw (part-from (args .head) (args .zs .now)) at (write-lines .ensures)) (rw (part-from (args .head + args .rows * 3) (args .zs .now)) at (write-lines2 .ensures))
 
 pub tell-spec : {M : Type 1} → statement M
 tell-spec =

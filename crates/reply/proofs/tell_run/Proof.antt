@@ -84,12 +84,13 @@ same-length c = search needs
 
 returns : tie.Need-returns
 returns c =
+    let tell = c .before .before .tell in
     let args = c .before .before .before .before .before .before .before .before .before .before .before .before .before .before .before .args in
     let pre = c .before .before .before .before .before .before .before .before .before .before .before .before .before .before .before .pre in
     let fits = c .before .before .before .before .before .before .before .before .before .before .before .before .before .before .before .fits in
     let widen = c .before .before .before .before .before .before .before .before .before .before .widen in
     let widen2 = c .before .before .before .before .before .before .before .widen2 in
-    rw (gathered-text (args .last .now) (args .log .now) (args .before) (args .after) pre (count-is _ (few-rows (args .last .now) (args .log .now) (args .before) (args .after) pre)) (count-is _ (few-records (args .last .now) (args .log .now) (args .before) (args .after) pre)) (toZ-ofZ w64 (args .before) (fits .before)) (toZ-ofZ w64 (args .after) (fits .after)) (replicate most-told (pos 0)) (length-replicate most-told (pos 0)) (widen .ensures) (widen2 .ensures)) at (c .before .before .tell .ensures)
+    rw (gathered-text (args .last .now) (args .log .now) (args .before) (args .after) pre (count-is _ (few-rows (args .last .now) (args .log .now) (args .before) (args .after) pre)) (count-is _ (few-records (args .last .now) (args .log .now) (args .before) (args .after) pre)) (toZ-ofZ w64 (args .before) (fits .before)) (toZ-ofZ w64 (args .after) (fits .after)) (replicate most-told (pos 0)) (length-replicate most-told (pos 0)) (widen .ensures) (widen2 .ensures)) at (tell .ensures)
 
 pub tell-run-spec : {M : Type 1} → statement M
 tell-run-spec =

@@ -127,6 +127,7 @@ same-length-3 c = search needs
 
 returns-2 : tie.Need-returns-2
 returns-2 c =
+    let tell-run = c .before .before .tell-run in
     let args = c .before .before .before .before .before .before .before .before .before .before .before .before .before .before .before .before .before .before .before .before .before .args in
     let pre = c .before .before .before .before .before .before .before .before .before .before .before .before .before .before .before .before .before .before .before .before .before .pre in
     let done = c .before .before .before .before .before .before .before .before .before .done in
@@ -135,7 +136,7 @@ returns-2 c =
     let table = c .before .before .before .before .before .before .before .before .before .before .before .before .before .table in
     let metres = c .before .before .before .before .before .before .before .before .before .before .before .before .before .before .before .before .before .metres in
     let metres2 = c .before .before .before .before .before .before .metres2 in
-    run-put (args .corners .now) (args .table .now) pre (done .given .1) (thin .ensures) (log2 .given) (table .given) (toZ-ofZ w64 _ (record { sfits = metres .ok }) ∙ metres .ensures) (toZ-ofZ w64 _ (record { sfits = metres2 .ok }) ∙ metres2 .ensures) (c .before .before .tell-run .ensures)
+    run-put (args .corners .now) (args .table .now) pre (done .given .1) (thin .ensures) (log2 .given) (table .given) (toZ-ofZ w64 _ (record { sfits = metres .ok }) ∙ metres .ensures) (toZ-ofZ w64 _ (record { sfits = metres2 .ok }) ∙ metres2 .ensures) (tell-run .ensures)
 
 pub thinned-spec : {M : Type 1} → statement M
 thinned-spec =

@@ -44,10 +44,11 @@ shared-slice-copy-out-write-signed c = search needs
 
 write-signed-requires : tie.Need-write-signed-requires Inv-loop μ-loop
 write-signed-requires c κs =
+    let loop-test = c .before .before .loop-test in
     let args = c .before .before .before .before .before .args in
     let loop = c .before .before .before .loop in
     let pre = c .before .before .before .before .before .pre in
-    let q : SFits w64 (getD (args .zs .now) (loop .i) (pos 0)) = record { sfits = c .write-signed-arg2 .given } in simp length-set (rw (toZ-ofZ w64 _ q) (field-fits (args .zs .now) (loop .i) (c .before .before .loop-test .taken) (loop .inv .1) pre))
+    let q : SFits w64 (getD (args .zs .now) (loop .i) (pos 0)) = record { sfits = c .write-signed-arg2 .given } in simp length-set (rw (toZ-ofZ w64 _ q) (field-fits (args .zs .now) (loop .i) (loop-test .taken) (loop .inv .1) pre))
 
 add-i : tie.Need-add-i Inv-loop μ-loop
 add-i c = search needs

@@ -50,10 +50,11 @@ part-write-line-end c =
 
 write-line-requires : tie.Need-write-line-requires Inv-loop μ-loop
 write-line-requires c κs =
+    let loop-test = c .before .before .loop-test in
     let loop = c .before .before .before .loop in
     let args = c .before .before .before .before .before .before .args in
     let pre = c .before .before .before .before .before .before .pre in
-    let e : loop .from + args .width - loop .from ≡ args .width = omega arith in rw e (line-fits (args .out .now) (args .at) (args .w .now) (args .zs .now) (args .width) (args .count) (loop .inv) (c .before .before .loop-test .taken) (pre .1))
+    let e : loop .from + args .width - loop .from ≡ args .width = omega arith in rw e (line-fits (args .out .now) (args .at) (args .w .now) (args .zs .now) (args .width) (args .count) (loop .inv) (loop-test .taken) (pre .1))
 
 add-i : tie.Need-add-i Inv-loop μ-loop
 add-i c = search needs
@@ -63,10 +64,11 @@ loop-less c = search needs
 
 loop-again : tie.Need-loop-again Inv-loop μ-loop
 loop-again c =
+    let write-line = c .before .before .write-line in
     let loop = c .before .before .before .before .before .before .loop in
     let args = c .before .before .before .before .before .before .before .before .before .args in
     let loop-test = c .before .before .before .before .before .loop-test in
-    let e : loop .from + args .width - loop .from ≡ args .width = omega arith in lining-more (args .out .now) (args .at) (args .w .now) (args .zs .now) (args .width) (args .count) (loop .inv) (loop-test .taken) (rw e at (c .before .before .write-line .ensures))
+    let e : loop .from + args .width - loop .from ≡ args .width = omega arith in lining-more (args .out .now) (args .at) (args .w .now) (args .zs .now) (args .width) (args .count) (loop .inv) (loop-test .taken) (rw e at (write-line .ensures))
 
 same-length : tie.Need-same-length Inv-loop μ-loop
 same-length c = c .before .loop .inv .left .room

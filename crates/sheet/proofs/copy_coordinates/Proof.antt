@@ -31,7 +31,12 @@ mul-t9 : tie.Need-mul-t9 Inv-loop μ-loop
 mul-t9 c = let h = c .before .loop-test .taken in let p = c .before .before .before .pre .1 in omega arith
 
 slice-set-from-corners : tie.Need-slice-set-from-corners Inv-loop μ-loop
-slice-set-from-corners c = let h = c .before .loop-test .taken in let p = c .before .before .before .pre .1 in omega (arith, ap length (c .before .before .loop .inv .1) ∙ length-sets (c .before .before .before .args .corners .now) 0 (take (c .before .before .loop .i) (c .before .before .before .args .xs .now)))
+slice-set-from-corners c =
+    let pre = c .before .before .before .pre in
+    let args = c .before .before .before .args in
+    let loop = c .before .before .loop in
+    let loop-test = c .before .loop-test in
+    let h = loop-test .taken in let p = pre .1 in omega (arith, ap length (loop .inv .1) ∙ length-sets (args .corners .now) 0 (take (loop .i) (args .xs .now)))
 
 add-i : tie.Need-add-i Inv-loop μ-loop
 add-i c = search needs

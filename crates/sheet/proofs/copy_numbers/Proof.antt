@@ -28,7 +28,12 @@ mul-table-2 : tie.Need-mul-table-2 Inv-loop μ-loop
 mul-table-2 c = let h = c .before .loop-test .taken in let p = c .before .before .before .pre .1 in omega arith
 
 slice-write-table : tie.Need-slice-write-table Inv-loop μ-loop
-slice-write-table c = let h = c .before .loop-test .taken in let p = c .before .before .before .pre .1 in omega (arith, ap length (c .before .before .loop .inv .1) ∙ length-sets (c .before .before .before .args .table .now) 0 (take (c .before .before .loop .i) (c .before .before .before .args .t .now)))
+slice-write-table c =
+    let pre = c .before .before .before .pre in
+    let args = c .before .before .before .args in
+    let loop = c .before .before .loop in
+    let loop-test = c .before .loop-test in
+    let h = loop-test .taken in let p = pre .1 in omega (arith, ap length (loop .inv .1) ∙ length-sets (args .table .now) 0 (take (loop .i) (args .t .now)))
 
 add-i : tie.Need-add-i Inv-loop μ-loop
 add-i c = search needs

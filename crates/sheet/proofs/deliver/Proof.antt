@@ -13,19 +13,28 @@ mul-rows : tie.Need-mul-rows
 mul-rows c = search needs
 
 returns : tie.Need-returns
-returns c = no-table-room (c .before .before .before .args .n) (c .before .before .before .args .m) (c .before .before .before .pre .0) (take (c .before .before .before .args .n * 3) (c .before .before .before .args .xs .now)) (take (c .before .before .before .args .m * 3) (c .before .before .before .args .t .now)) (length-take-le (c .before .before .before .args .n * 3) (c .before .before .before .args .xs .now) (c .before .before .before .pre .1)) (length-take-le (c .before .before .before .args .m * 3) (c .before .before .before .args .t .now) (c .before .before .before .pre .2)) (c .before .before .before .args .table .now) (c .before .before .before .args .corners .now) (c .if1 .taken)
+returns c =
+    let args = c .before .before .before .args in
+    let pre = c .before .before .before .pre in
+    no-table-room (args .n) (args .m) (pre .0) (take (args .n * 3) (args .xs .now)) (take (args .m * 3) (args .t .now)) (length-take-le (args .n * 3) (args .xs .now) (pre .1)) (length-take-le (args .m * 3) (args .t .now) (pre .2)) (args .table .now) (args .corners .now) (c .if1 .taken)
 
 mul-coordinates : tie.Need-mul-coordinates
 mul-coordinates c = search needs
 
 returns-2 : tie.Need-returns-2
-returns-2 c = no-corner-room (c .before .before .before .before .args .n) (c .before .before .before .before .args .m) (c .before .before .before .before .pre .0) (take (c .before .before .before .before .args .n * 3) (c .before .before .before .before .args .xs .now)) (take (c .before .before .before .before .args .m * 3) (c .before .before .before .before .args .t .now)) (length-take-le (c .before .before .before .before .args .n * 3) (c .before .before .before .before .args .xs .now) (c .before .before .before .before .pre .1)) (length-take-le (c .before .before .before .before .args .m * 3) (c .before .before .before .before .args .t .now) (c .before .before .before .before .pre .2)) (c .before .before .before .before .args .table .now) (c .before .before .before .before .args .corners .now) (c .if2 .taken)
+returns-2 c =
+    let args = c .before .before .before .before .args in
+    let pre = c .before .before .before .before .pre in
+    no-corner-room (args .n) (args .m) (pre .0) (take (args .n * 3) (args .xs .now)) (take (args .m * 3) (args .t .now)) (length-take-le (args .n * 3) (args .xs .now) (pre .1)) (length-take-le (args .m * 3) (args .t .now) (pre .2)) (args .table .now) (args .corners .now) (c .if2 .taken)
 
 slice-aggregate-check-first : tie.Need-slice-aggregate-check-first
 slice-aggregate-check-first c = sym (length-take-le (c .before .before .before .before .before .args .m * 3) (c .before .before .before .before .before .args .t .now) (c .before .before .before .before .before .pre .2))
 
 slice-aggregate-check-first-2 : tie.Need-slice-aggregate-check-first-2
-slice-aggregate-check-first-2 c = sym (length-take-le (c .before .before .before .before .before .before .args .n * 3) (c .before .before .before .before .before .before .args .xs .now) (c .before .before .before .before .before .before .pre .1))
+slice-aggregate-check-first-2 c =
+    let args = c .before .before .before .before .before .before .args in
+    let pre = c .before .before .before .before .before .before .pre in
+    sym (length-take-le (args .n * 3) (args .xs .now) (pre .1))
 
 check-first-requires : tie.Need-check-first-requires
 check-first-requires c κs = search needs
@@ -43,7 +52,14 @@ copy-coordinates-requires : tie.Need-copy-coordinates-requires
 copy-coordinates-requires c κs = search needs
 
 returns-3 : tie.Need-returns-3
-returns-3 c = refused-skin (c .before .before .before .before .before .before .before .before .before .before .args .n) (c .before .before .before .before .before .before .before .before .before .before .args .m) (c .before .before .before .before .before .before .before .before .before .before .pre .0) (take (c .before .before .before .before .before .before .before .before .before .before .args .n * 3) (c .before .before .before .before .before .before .before .before .before .before .args .xs .now)) (take (c .before .before .before .before .before .before .before .before .before .before .args .m * 3) (c .before .before .before .before .before .before .before .before .before .before .args .t .now)) (length-take-le (c .before .before .before .before .before .before .before .before .before .before .args .n * 3) (c .before .before .before .before .before .before .before .before .before .before .args .xs .now) (c .before .before .before .before .before .before .before .before .before .before .pre .1)) (length-take-le (c .before .before .before .before .before .before .before .before .before .before .args .m * 3) (c .before .before .before .before .before .before .before .before .before .before .args .t .now) (c .before .before .before .before .before .before .before .before .before .before .pre .2)) (c .before .before .before .before .before .before .before .before .before .before .args .table .now) (c .before .before .before .before .before .before .before .before .before .before .args .corners .now) (c .before .before .before .before .before .before .before .if1 .left) (c .before .before .before .before .before .before .if2 .left) (c .before .before .before .check-first .result) (c .before .verdict .given .0 .0) (c .before .before .before .check-first .ensures) (c .before .verdict .given .1)
+returns-3 c =
+    let args = c .before .before .before .before .before .before .before .before .before .before .args in
+    let pre = c .before .before .before .before .before .before .before .before .before .before .pre in
+    let if1 = c .before .before .before .before .before .before .before .if1 in
+    let if2 = c .before .before .before .before .before .before .if2 in
+    let check-first = c .before .before .before .check-first in
+    let verdict = c .before .verdict in
+    refused-skin (args .n) (args .m) (pre .0) (take (args .n * 3) (args .xs .now)) (take (args .m * 3) (args .t .now)) (length-take-le (args .n * 3) (args .xs .now) (pre .1)) (length-take-le (args .m * 3) (args .t .now) (pre .2)) (args .table .now) (args .corners .now) (if1 .left) (if2 .left) (check-first .result) (verdict .given .0 .0) (check-first .ensures) (verdict .given .1)
 
 same-length : tie.Need-same-length
 same-length c = search needs
@@ -52,7 +68,16 @@ same-length-2 : tie.Need-same-length-2
 same-length-2 c = search needs
 
 returns-4 : tie.Need-returns-4
-returns-4 c = skin-put (c .before .before .before .before .before .before .before .before .before .before .before .before .before .before .before .before .args .n) (c .before .before .before .before .before .before .before .before .before .before .before .before .before .before .before .before .args .m) (c .before .before .before .before .before .before .before .before .before .before .before .before .before .before .before .before .pre .0) (take (c .before .before .before .before .before .before .before .before .before .before .before .before .before .before .before .before .args .n * 3) (c .before .before .before .before .before .before .before .before .before .before .before .before .before .before .before .before .args .xs .now)) (take (c .before .before .before .before .before .before .before .before .before .before .before .before .before .before .before .before .args .m * 3) (c .before .before .before .before .before .before .before .before .before .before .before .before .before .before .before .before .args .t .now)) (length-take-le (c .before .before .before .before .before .before .before .before .before .before .before .before .before .before .before .before .args .n * 3) (c .before .before .before .before .before .before .before .before .before .before .before .before .before .before .before .before .args .xs .now) (c .before .before .before .before .before .before .before .before .before .before .before .before .before .before .before .before .pre .1)) (length-take-le (c .before .before .before .before .before .before .before .before .before .before .before .before .before .before .before .before .args .m * 3) (c .before .before .before .before .before .before .before .before .before .before .before .before .before .before .before .before .args .t .now) (c .before .before .before .before .before .before .before .before .before .before .before .before .before .before .before .before .pre .2)) (c .before .before .before .before .before .before .before .before .before .before .before .before .before .before .before .before .args .table .now) (c .before .before .before .before .before .before .before .before .before .before .before .before .before .before .before .before .args .corners .now) (c .before .before .before .before .before .before .before .before .before .before .before .before .before .if1 .left) (c .before .before .before .before .before .before .before .before .before .before .before .before .if2 .left) (c .before .before .before .before .before .before .before .before .before .check-first .result) (c .before .before .before .before .before .before .before .before .before .check-first .ensures) (c .before .before .before .before .before .before .before .enum-told .given .1) (c .before .before .before .before .before .copy-numbers .last .1 .0) (c .before .copy-coordinates .last .1 .0) (c .before .before .before .before .before .copy-numbers .ensures) (c .before .copy-coordinates .ensures)
+returns-4 c =
+    let args = c .before .before .before .before .before .before .before .before .before .before .before .before .before .before .before .before .args in
+    let pre = c .before .before .before .before .before .before .before .before .before .before .before .before .before .before .before .before .pre in
+    let if1 = c .before .before .before .before .before .before .before .before .before .before .before .before .before .if1 in
+    let if2 = c .before .before .before .before .before .before .before .before .before .before .before .before .if2 in
+    let check-first = c .before .before .before .before .before .before .before .before .before .check-first in
+    let enum-told = c .before .before .before .before .before .before .before .enum-told in
+    let copy-numbers = c .before .before .before .before .before .copy-numbers in
+    let copy-coordinates = c .before .copy-coordinates in
+    skin-put (args .n) (args .m) (pre .0) (take (args .n * 3) (args .xs .now)) (take (args .m * 3) (args .t .now)) (length-take-le (args .n * 3) (args .xs .now) (pre .1)) (length-take-le (args .m * 3) (args .t .now) (pre .2)) (args .table .now) (args .corners .now) (if1 .left) (if2 .left) (check-first .result) (check-first .ensures) (enum-told .given .1) (copy-numbers .last .1 .0) (copy-coordinates .last .1 .0) (copy-numbers .ensures) (copy-coordinates .ensures)
 
 pub deliver-spec : {M : Type 1} → statement M
 deliver-spec =

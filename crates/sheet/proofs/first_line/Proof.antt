@@ -27,7 +27,10 @@ enum-told c = search needs
 
 returns : tie.Need-returns
 unfolding ReadFirst ReadInto
-returns c = no-two (c .before .before .before .before .before .before .before .before .args .bytes .now) (subst (ReadInto (LineAt most-digits SKIN (c .before .before .before .before .before .before .before .before .args .bytes .now)) 2 (c .before .before .before .before .before .before .before .before .args .bytes .now) (pos 0 ∷ pos 0 ∷ []) 0 (c .before .before .before .read-line .last .1 .1 .1 .1 .0)) (c .enum-told .given .1) (c .before .before .before .read-line .ensures))
+returns c =
+    let args = c .before .before .before .before .before .before .before .before .args in
+    let read-line = c .before .before .before .read-line in
+    no-two (args .bytes .now) (subst (ReadInto (LineAt most-digits SKIN (args .bytes .now)) 2 (args .bytes .now) (pos 0 ∷ pos 0 ∷ []) 0 (read-line .last .1 .1 .1 .1 .0)) (c .enum-told .given .1) (read-line .ensures))
 
 array-copy-out-n : tie.Need-array-copy-out-n
 array-copy-out-n c = search needs
@@ -37,23 +40,45 @@ array-copy-out-m c = search needs
 
 returns-2 : tie.Need-returns-2
 unfolding ReadFirst ReadInto
-returns-2 c = corners-below (c .before .before .before .before .before .before .before .before .before .before .before .before .args .bytes .now) (c .before .before .before .before .before .before .before .read-line .last .1 .1 .1 .1 .0) (drop (c .before .before .before .before .end .given .0 .0 .at) (c .before .before .before .before .before .before .before .before .before .before .before .before .args .bytes .now)) (subst (ReadInto (LineAt most-digits SKIN (c .before .before .before .before .before .before .before .before .before .before .before .before .args .bytes .now)) 2 (c .before .before .before .before .before .before .before .before .before .before .before .before .args .bytes .now) (pos 0 ∷ pos 0 ∷ []) 0 (c .before .before .before .before .before .before .before .read-line .last .1 .1 .1 .1 .0)) (c .before .before .before .before .end .given .1) (c .before .before .before .before .before .before .before .read-line .ensures)) (c .if1 .taken)
+returns-2 c =
+    let args = c .before .before .before .before .before .before .before .before .before .before .before .before .args in
+    let read-line = c .before .before .before .before .before .before .before .read-line in
+    let end = c .before .before .before .before .end in
+    corners-below (args .bytes .now) (read-line .last .1 .1 .1 .1 .0) (drop (end .given .0 .0 .at) (args .bytes .now)) (subst (ReadInto (LineAt most-digits SKIN (args .bytes .now)) 2 (args .bytes .now) (pos 0 ∷ pos 0 ∷ []) 0 (read-line .last .1 .1 .1 .1 .0)) (end .given .1) (read-line .ensures)) (c .if1 .taken)
 
 returns-3 : tie.Need-returns-3
 unfolding ReadFirst ReadInto
-returns-3 c = rows-below (c .before .before .before .before .before .before .before .before .before .before .before .before .before .args .bytes .now) (c .before .before .before .before .before .before .before .before .read-line .last .1 .1 .1 .1 .0) (drop (c .before .before .before .before .before .end .given .0 .0 .at) (c .before .before .before .before .before .before .before .before .before .before .before .before .before .args .bytes .now)) (subst (ReadInto (LineAt most-digits SKIN (c .before .before .before .before .before .before .before .before .before .before .before .before .before .args .bytes .now)) 2 (c .before .before .before .before .before .before .before .before .before .before .before .before .before .args .bytes .now) (pos 0 ∷ pos 0 ∷ []) 0 (c .before .before .before .before .before .before .before .before .read-line .last .1 .1 .1 .1 .0)) (c .before .before .before .before .before .end .given .1) (c .before .before .before .before .before .before .before .before .read-line .ensures)) (c .if2 .taken)
+returns-3 c =
+    let args = c .before .before .before .before .before .before .before .before .before .before .before .before .before .args in
+    let read-line = c .before .before .before .before .before .before .before .before .read-line in
+    let end = c .before .before .before .before .before .end in
+    rows-below (args .bytes .now) (read-line .last .1 .1 .1 .1 .0) (drop (end .given .0 .0 .at) (args .bytes .now)) (subst (ReadInto (LineAt most-digits SKIN (args .bytes .now)) 2 (args .bytes .now) (pos 0 ∷ pos 0 ∷ []) 0 (read-line .last .1 .1 .1 .1 .0)) (end .given .1) (read-line .ensures)) (c .if2 .taken)
 
 cast-t20 : tie.Need-cast-t20
 unfolding ReadInto
-cast-t20 c = count-fits (x (c .before .before .before .before .before .before .before .before .before .before .before .before .before .args .bytes .now) (c .before .before .before .before .before .before .before .before .read-line .last .1 .1 .1 .1 .0) (drop (c .before .before .before .before .before .end .given .0 .0 .at) (c .before .before .before .before .before .before .before .before .before .before .before .before .before .args .bytes .now)) (subst (ReadInto (LineAt most-digits SKIN (c .before .before .before .before .before .before .before .before .before .before .before .before .before .args .bytes .now)) 2 (c .before .before .before .before .before .before .before .before .before .before .before .before .before .args .bytes .now) (pos 0 ∷ pos 0 ∷ []) 0 (c .before .before .before .before .before .before .before .before .read-line .last .1 .1 .1 .1 .0)) (c .before .before .before .before .before .end .given .1) (c .before .before .before .before .before .before .before .before .read-line .ensures))) (x-fits (c .before .before .before .before .before .before .before .before .before .before .before .before .before .args .bytes .now) (c .before .before .before .before .before .before .before .before .read-line .last .1 .1 .1 .1 .0) (drop (c .before .before .before .before .before .end .given .0 .0 .at) (c .before .before .before .before .before .before .before .before .before .before .before .before .before .args .bytes .now)) (subst (ReadInto (LineAt most-digits SKIN (c .before .before .before .before .before .before .before .before .before .before .before .before .before .args .bytes .now)) 2 (c .before .before .before .before .before .before .before .before .before .before .before .before .before .args .bytes .now) (pos 0 ∷ pos 0 ∷ []) 0 (c .before .before .before .before .before .before .before .before .read-line .last .1 .1 .1 .1 .0)) (c .before .before .before .before .before .end .given .1) (c .before .before .before .before .before .before .before .before .read-line .ensures))) (c .before .if1 .left)
+cast-t20 c =
+    let args = c .before .before .before .before .before .before .before .before .before .before .before .before .before .args in
+    let read-line = c .before .before .before .before .before .before .before .before .read-line in
+    let end = c .before .before .before .before .before .end in
+    let if1 = c .before .if1 in
+    count-fits (x (args .bytes .now) (read-line .last .1 .1 .1 .1 .0) (drop (end .given .0 .0 .at) (args .bytes .now)) (subst (ReadInto (LineAt most-digits SKIN (args .bytes .now)) 2 (args .bytes .now) (pos 0 ∷ pos 0 ∷ []) 0 (read-line .last .1 .1 .1 .1 .0)) (end .given .1) (read-line .ensures))) (x-fits (args .bytes .now) (read-line .last .1 .1 .1 .1 .0) (drop (end .given .0 .0 .at) (args .bytes .now)) (subst (ReadInto (LineAt most-digits SKIN (args .bytes .now)) 2 (args .bytes .now) (pos 0 ∷ pos 0 ∷ []) 0 (read-line .last .1 .1 .1 .1 .0)) (end .given .1) (read-line .ensures))) (if1 .left)
 
 cast-t21 : tie.Need-cast-t21
 unfolding ReadInto
-cast-t21 c = count-fits (y (c .before .before .before .before .before .before .before .before .before .before .before .before .before .args .bytes .now) (c .before .before .before .before .before .before .before .before .read-line .last .1 .1 .1 .1 .0) (drop (c .before .before .before .before .before .end .given .0 .0 .at) (c .before .before .before .before .before .before .before .before .before .before .before .before .before .args .bytes .now)) (subst (ReadInto (LineAt most-digits SKIN (c .before .before .before .before .before .before .before .before .before .before .before .before .before .args .bytes .now)) 2 (c .before .before .before .before .before .before .before .before .before .before .before .before .before .args .bytes .now) (pos 0 ∷ pos 0 ∷ []) 0 (c .before .before .before .before .before .before .before .before .read-line .last .1 .1 .1 .1 .0)) (c .before .before .before .before .before .end .given .1) (c .before .before .before .before .before .before .before .before .read-line .ensures))) (y-fits (c .before .before .before .before .before .before .before .before .before .before .before .before .before .args .bytes .now) (c .before .before .before .before .before .before .before .before .read-line .last .1 .1 .1 .1 .0) (drop (c .before .before .before .before .before .end .given .0 .0 .at) (c .before .before .before .before .before .before .before .before .before .before .before .before .before .args .bytes .now)) (subst (ReadInto (LineAt most-digits SKIN (c .before .before .before .before .before .before .before .before .before .before .before .before .before .args .bytes .now)) 2 (c .before .before .before .before .before .before .before .before .before .before .before .before .before .args .bytes .now) (pos 0 ∷ pos 0 ∷ []) 0 (c .before .before .before .before .before .before .before .before .read-line .last .1 .1 .1 .1 .0)) (c .before .before .before .before .before .end .given .1) (c .before .before .before .before .before .before .before .before .read-line .ensures))) (c .if2 .left)
+cast-t21 c =
+    let args = c .before .before .before .before .before .before .before .before .before .before .before .before .before .args in
+    let read-line = c .before .before .before .before .before .before .before .before .read-line in
+    let end = c .before .before .before .before .before .end in
+    count-fits (y (args .bytes .now) (read-line .last .1 .1 .1 .1 .0) (drop (end .given .0 .0 .at) (args .bytes .now)) (subst (ReadInto (LineAt most-digits SKIN (args .bytes .now)) 2 (args .bytes .now) (pos 0 ∷ pos 0 ∷ []) 0 (read-line .last .1 .1 .1 .1 .0)) (end .given .1) (read-line .ensures))) (y-fits (args .bytes .now) (read-line .last .1 .1 .1 .1 .0) (drop (end .given .0 .0 .at) (args .bytes .now)) (subst (ReadInto (LineAt most-digits SKIN (args .bytes .now)) 2 (args .bytes .now) (pos 0 ∷ pos 0 ∷ []) 0 (read-line .last .1 .1 .1 .1 .0)) (end .given .1) (read-line .ensures))) (c .if2 .left)
 
 returns-4 : tie.Need-returns-4
 unfolding ReadFirst ReadInto
-returns-4 c = both-counts (c .before .before .before .before .before .before .before .before .before .before .before .before .before .args .bytes .now) (c .before .before .before .before .before .before .before .before .read-line .last .1 .1 .1 .1 .0) (drop (c .before .before .before .before .before .end .given .0 .0 .at) (c .before .before .before .before .before .before .before .before .before .before .before .before .before .args .bytes .now)) (subst (ReadInto (LineAt most-digits SKIN (c .before .before .before .before .before .before .before .before .before .before .before .before .before .args .bytes .now)) 2 (c .before .before .before .before .before .before .before .before .before .before .before .before .before .args .bytes .now) (pos 0 ∷ pos 0 ∷ []) 0 (c .before .before .before .before .before .before .before .before .read-line .last .1 .1 .1 .1 .0)) (c .before .before .before .before .before .end .given .1) (c .before .before .before .before .before .before .before .before .read-line .ensures)) (c .before .if1 .left) (c .if2 .left)
+returns-4 c =
+    let args = c .before .before .before .before .before .before .before .before .before .before .before .before .before .args in
+    let read-line = c .before .before .before .before .before .before .before .before .read-line in
+    let end = c .before .before .before .before .before .end in
+    let if1 = c .before .if1 in
+    both-counts (args .bytes .now) (read-line .last .1 .1 .1 .1 .0) (drop (end .given .0 .0 .at) (args .bytes .now)) (subst (ReadInto (LineAt most-digits SKIN (args .bytes .now)) 2 (args .bytes .now) (pos 0 ∷ pos 0 ∷ []) 0 (read-line .last .1 .1 .1 .1 .0)) (end .given .1) (read-line .ensures)) (if1 .left) (c .if2 .left)
 
 pub first-line-spec : {M : Type 1} → statement M
 first-line-spec =

@@ -30,7 +30,10 @@ enum-told c = search needs
 
 returns : tie.Need-returns
 unfolding ReadInto
-returns c = tells-false (no-corners (c .before .before .before .before .before .before .before .before .args .bytes .now) (c .before .before .before .before .before .before .before .before .args .from .at) (c .before .before .before .before .before .before .before .before .args .n) (c .before .before .before .before .before .before .before .before .args .m) (subst (ReadInto (LinesAt most-digits C 3 (c .before .before .before .before .before .before .before .before .args .n) (drop (c .before .before .before .before .before .before .before .before .args .from .at) (c .before .before .before .before .before .before .before .before .args .bytes .now))) (c .before .before .before .before .before .before .before .before .args .n * 3) (c .before .before .before .before .before .before .before .before .args .bytes .now) (replicate 1542 (pos 0)) 0 (c .before .before .before .read-lines .last .1 .1 .1 .1 .0)) (c .enum-told .given .1) (c .before .before .before .read-lines .ensures)))
+returns c =
+    let args = c .before .before .before .before .before .before .before .before .args in
+    let read-lines = c .before .before .before .read-lines in
+    tells-false (no-corners (args .bytes .now) (args .from .at) (args .n) (args .m) (subst (ReadInto (LinesAt most-digits C 3 (args .n) (drop (args .from .at) (args .bytes .now))) (args .n * 3) (args .bytes .now) (replicate 1542 (pos 0)) 0 (read-lines .last .1 .1 .1 .1 .0)) (c .enum-told .given .1) (read-lines .ensures)))
 
 slice-aggregate-read-lines-3 : tie.Need-slice-aggregate-read-lines-3
 slice-aggregate-read-lines-3 c = search needs
@@ -49,11 +52,22 @@ enum-told-2 c = search needs
 
 returns-2 : tie.Need-returns-2
 unfolding ReadInto
-returns-2 c = tells-false (no-rows (c .before .before .before .before .before .before .before .before .before .before .before .before .before .before .before .args .bytes .now) (c .before .before .before .before .before .before .before .before .before .before .before .before .before .before .before .args .from .at) (c .before .before .before .before .before .before .before .before .before .before .before .before .before .before .before .args .n) (c .before .before .before .before .before .before .before .before .before .before .before .before .before .before .before .args .m) (replicate 1542 (pos 0)) (c .before .before .before .before .before .before .before .before .before .before .read-lines .last .1 .1 .1 .1 .0) (c .before .before .before .before .before .before .before .corners .given .0 .0 .at) (subst (ReadInto (LinesAt most-digits C 3 (c .before .before .before .before .before .before .before .before .before .before .before .before .before .before .before .args .n) (drop (c .before .before .before .before .before .before .before .before .before .before .before .before .before .before .before .args .from .at) (c .before .before .before .before .before .before .before .before .before .before .before .before .before .before .before .args .bytes .now))) (c .before .before .before .before .before .before .before .before .before .before .before .before .before .before .before .args .n * 3) (c .before .before .before .before .before .before .before .before .before .before .before .before .before .before .before .args .bytes .now) (replicate 1542 (pos 0)) 0 (c .before .before .before .before .before .before .before .before .before .before .read-lines .last .1 .1 .1 .1 .0)) (c .before .before .before .before .before .before .before .corners .given .1) (c .before .before .before .before .before .before .before .before .before .before .read-lines .ensures)) (subst (ReadInto (LinesAt most-digits R 3 (c .before .before .before .before .before .before .before .before .before .before .before .before .before .before .before .args .m) (drop (c .before .before .before .before .before .before .before .corners .given .0 .0 .at) (c .before .before .before .before .before .before .before .before .before .before .before .before .before .before .before .args .bytes .now))) (c .before .before .before .before .before .before .before .before .before .before .before .before .before .before .before .args .m * 3) (c .before .before .before .before .before .before .before .before .before .before .before .before .before .before .before .args .bytes .now) (replicate 3072 (pos 0)) 0 (c .before .before .before .read-lines2 .last .1 .1 .1 .1 .0)) (c .enum-told2 .given .1) (c .before .before .before .read-lines2 .ensures)))
+returns-2 c =
+    let args = c .before .before .before .before .before .before .before .before .before .before .before .before .before .before .before .args in
+    let read-lines = c .before .before .before .before .before .before .before .before .before .before .read-lines in
+    let corners = c .before .before .before .before .before .before .before .corners in
+    let read-lines2 = c .before .before .before .read-lines2 in
+    tells-false (no-rows (args .bytes .now) (args .from .at) (args .n) (args .m) (replicate 1542 (pos 0)) (read-lines .last .1 .1 .1 .1 .0) (corners .given .0 .0 .at) (subst (ReadInto (LinesAt most-digits C 3 (args .n) (drop (args .from .at) (args .bytes .now))) (args .n * 3) (args .bytes .now) (replicate 1542 (pos 0)) 0 (read-lines .last .1 .1 .1 .1 .0)) (corners .given .1) (read-lines .ensures)) (subst (ReadInto (LinesAt most-digits R 3 (args .m) (drop (corners .given .0 .0 .at) (args .bytes .now))) (args .m * 3) (args .bytes .now) (replicate 3072 (pos 0)) 0 (read-lines2 .last .1 .1 .1 .1 .0)) (c .enum-told2 .given .1) (read-lines2 .ensures)))
 
 returns-3 : tie.Need-returns-3
 unfolding ReadInto
-returns-3 c = tells-false (more-follows (c .before .before .before .before .before .before .before .before .before .before .before .before .before .before .before .before .before .args .bytes .now) (c .before .before .before .before .before .before .before .before .before .before .before .before .before .before .before .before .before .args .from .at) (c .before .before .before .before .before .before .before .before .before .before .before .before .before .before .before .before .before .args .n) (c .before .before .before .before .before .before .before .before .before .before .before .before .before .before .before .before .before .args .m) (replicate 1542 (pos 0)) (c .before .before .before .before .before .before .before .before .before .before .before .before .read-lines .last .1 .1 .1 .1 .0) (c .before .before .before .before .before .before .before .before .before .corners .given .0 .0 .at) (subst (ReadInto (LinesAt most-digits C 3 (c .before .before .before .before .before .before .before .before .before .before .before .before .before .before .before .before .before .args .n) (drop (c .before .before .before .before .before .before .before .before .before .before .before .before .before .before .before .before .before .args .from .at) (c .before .before .before .before .before .before .before .before .before .before .before .before .before .before .before .before .before .args .bytes .now))) (c .before .before .before .before .before .before .before .before .before .before .before .before .before .before .before .before .before .args .n * 3) (c .before .before .before .before .before .before .before .before .before .before .before .before .before .before .before .before .before .args .bytes .now) (replicate 1542 (pos 0)) 0 (c .before .before .before .before .before .before .before .before .before .before .before .before .read-lines .last .1 .1 .1 .1 .0)) (c .before .before .before .before .before .before .before .before .before .corners .given .1) (c .before .before .before .before .before .before .before .before .before .before .before .before .read-lines .ensures)) (replicate 3072 (pos 0)) (c .before .before .before .before .before .read-lines2 .last .1 .1 .1 .1 .0) (c .before .before .rows .given .0 .0 .at) (subst (ReadInto (LinesAt most-digits R 3 (c .before .before .before .before .before .before .before .before .before .before .before .before .before .before .before .before .before .args .m) (drop (c .before .before .before .before .before .before .before .before .before .corners .given .0 .0 .at) (c .before .before .before .before .before .before .before .before .before .before .before .before .before .before .before .before .before .args .bytes .now))) (c .before .before .before .before .before .before .before .before .before .before .before .before .before .before .before .before .before .args .m * 3) (c .before .before .before .before .before .before .before .before .before .before .before .before .before .before .before .before .before .args .bytes .now) (replicate 3072 (pos 0)) 0 (c .before .before .before .before .before .read-lines2 .last .1 .1 .1 .1 .0)) (c .before .before .rows .given .1) (c .before .before .before .before .before .read-lines2 .ensures)) (c .if1 .taken))
+returns-3 c =
+    let args = c .before .before .before .before .before .before .before .before .before .before .before .before .before .before .before .before .before .args in
+    let read-lines = c .before .before .before .before .before .before .before .before .before .before .before .before .read-lines in
+    let corners = c .before .before .before .before .before .before .before .before .before .corners in
+    let read-lines2 = c .before .before .before .before .before .read-lines2 in
+    let rows = c .before .before .rows in
+    tells-false (more-follows (args .bytes .now) (args .from .at) (args .n) (args .m) (replicate 1542 (pos 0)) (read-lines .last .1 .1 .1 .1 .0) (corners .given .0 .0 .at) (subst (ReadInto (LinesAt most-digits C 3 (args .n) (drop (args .from .at) (args .bytes .now))) (args .n * 3) (args .bytes .now) (replicate 1542 (pos 0)) 0 (read-lines .last .1 .1 .1 .1 .0)) (corners .given .1) (read-lines .ensures)) (replicate 3072 (pos 0)) (read-lines2 .last .1 .1 .1 .1 .0) (rows .given .0 .0 .at) (subst (ReadInto (LinesAt most-digits R 3 (args .m) (drop (corners .given .0 .0 .at) (args .bytes .now))) (args .m * 3) (args .bytes .now) (replicate 3072 (pos 0)) 0 (read-lines2 .last .1 .1 .1 .1 .0)) (rows .given .1) (read-lines2 .ensures)) (c .if1 .taken))
 
 slice-aggregate-to-coordinates : tie.Need-slice-aggregate-to-coordinates
 slice-aggregate-to-coordinates c = search needs
@@ -63,10 +77,15 @@ mul-to-coordinates c = search needs
 
 to-coordinates-requires : tie.Need-to-coordinates-requires
 unfolding ReadInto
-to-coordinates-requires c κs = let a = c .before .before .before .before .before .before .before .before .before .before .before .before .before .before .before .before .before .before .before .pre .0 .many in
-    let p = (subst (ReadInto (LinesAt most-digits C 3 (c .before .before .before .before .before .before .before .before .before .before .before .before .before .before .before .before .before .before .before .args .n) (drop (c .before .before .before .before .before .before .before .before .before .before .before .before .before .before .before .before .before .before .before .args .from .at) (c .before .before .before .before .before .before .before .before .before .before .before .before .before .before .before .before .before .before .before .args .bytes .now))) (c .before .before .before .before .before .before .before .before .before .before .before .before .before .before .before .before .before .before .before .args .n * 3) (c .before .before .before .before .before .before .before .before .before .before .before .before .before .before .before .before .before .before .before .args .bytes .now) (replicate 1542 (pos 0)) 0 (c .before .before .before .before .before .before .before .before .before .before .before .before .before .before .read-lines .last .1 .1 .1 .1 .0)) (c .before .before .before .before .before .before .before .before .before .before .before .corners .given .1) (c .before .before .before .before .before .before .before .before .before .before .before .before .before .before .read-lines .ensures)) in
-    let h : c .before .before .before .before .before .before .before .before .before .before .before .before .before .before .before .before .before .before .before .args .n * 3 ≤ 1542 = omega arith in
-    (search needs, search needs, subst (Short most-digits) (sym (corners-front (c .before .before .before .before .before .before .before .before .before .before .before .before .before .before .before .before .before .before .before .args .bytes .now) (c .before .before .before .before .before .before .before .before .before .before .before .before .before .before .before .before .before .before .before .args .from .at) (c .before .before .before .before .before .before .before .before .before .before .before .before .before .before .before .before .before .before .before .args .n) (c .before .before .before .before .before .before .before .before .before .before .before .before .before .before .before .before .before .before .before .args .m) (replicate 1542 (pos 0)) (c .before .before .before .before .before .before .before .before .before .before .before .before .before .before .read-lines .last .1 .1 .1 .1 .0) (c .before .before .before .before .before .before .before .before .before .before .before .corners .given .0 .0 .at) (subst (ReadInto (LinesAt most-digits C 3 (c .before .before .before .before .before .before .before .before .before .before .before .before .before .before .before .before .before .before .before .args .n) (drop (c .before .before .before .before .before .before .before .before .before .before .before .before .before .before .before .before .before .before .before .args .from .at) (c .before .before .before .before .before .before .before .before .before .before .before .before .before .before .before .before .before .before .before .args .bytes .now))) (c .before .before .before .before .before .before .before .before .before .before .before .before .before .before .before .before .before .before .before .args .n * 3) (c .before .before .before .before .before .before .before .before .before .before .before .before .before .before .before .before .before .before .before .args .bytes .now) (replicate 1542 (pos 0)) 0 (c .before .before .before .before .before .before .before .before .before .before .before .before .before .before .read-lines .last .1 .1 .1 .1 .0)) (c .before .before .before .before .before .before .before .before .before .before .before .corners .given .1) (c .before .before .before .before .before .before .before .before .before .before .before .before .before .before .read-lines .ensures)) h)) (p .here .short))
+to-coordinates-requires c κs =
+    let pre = c .before .before .before .before .before .before .before .before .before .before .before .before .before .before .before .before .before .before .before .pre in
+    let args = c .before .before .before .before .before .before .before .before .before .before .before .before .before .before .before .before .before .before .before .args in
+    let read-lines = c .before .before .before .before .before .before .before .before .before .before .before .before .before .before .read-lines in
+    let corners = c .before .before .before .before .before .before .before .before .before .before .before .corners in
+    let a = pre .0 .many in
+    let p = (subst (ReadInto (LinesAt most-digits C 3 (args .n) (drop (args .from .at) (args .bytes .now))) (args .n * 3) (args .bytes .now) (replicate 1542 (pos 0)) 0 (read-lines .last .1 .1 .1 .1 .0)) (corners .given .1) (read-lines .ensures)) in
+    let h : args .n * 3 ≤ 1542 = omega arith in
+    (search needs, search needs, subst (Short most-digits) (sym (corners-front (args .bytes .now) (args .from .at) (args .n) (args .m) (replicate 1542 (pos 0)) (read-lines .last .1 .1 .1 .1 .0) (corners .given .0 .0 .at) (subst (ReadInto (LinesAt most-digits C 3 (args .n) (drop (args .from .at) (args .bytes .now))) (args .n * 3) (args .bytes .now) (replicate 1542 (pos 0)) 0 (read-lines .last .1 .1 .1 .1 .0)) (corners .given .1) (read-lines .ensures)) h)) (p .here .short))
 
 slice-aggregate-to-numbers : tie.Need-slice-aggregate-to-numbers
 slice-aggregate-to-numbers c = search needs
@@ -76,10 +95,17 @@ mul-to-numbers c = search needs
 
 to-numbers-requires : tie.Need-to-numbers-requires
 unfolding ReadInto
-to-numbers-requires c κs = let a = c .before .before .before .before .before .before .before .before .before .before .before .before .before .before .before .before .before .before .before .before .before .before .before .pre .0 .most in
-    let q = (subst (ReadInto (LinesAt most-digits R 3 (c .before .before .before .before .before .before .before .before .before .before .before .before .before .before .before .before .before .before .before .before .before .before .before .args .m) (drop (c .before .before .before .before .before .before .before .before .before .before .before .before .before .before .before .corners .given .0 .0 .at) (c .before .before .before .before .before .before .before .before .before .before .before .before .before .before .before .before .before .before .before .before .before .before .before .args .bytes .now))) (c .before .before .before .before .before .before .before .before .before .before .before .before .before .before .before .before .before .before .before .before .before .before .before .args .m * 3) (c .before .before .before .before .before .before .before .before .before .before .before .before .before .before .before .before .before .before .before .before .before .before .before .args .bytes .now) (replicate 3072 (pos 0)) 0 (c .before .before .before .before .before .before .before .before .before .before .before .read-lines2 .last .1 .1 .1 .1 .0)) (c .before .before .before .before .before .before .before .before .rows .given .1) (c .before .before .before .before .before .before .before .before .before .before .before .read-lines2 .ensures)) in
-    let h : c .before .before .before .before .before .before .before .before .before .before .before .before .before .before .before .before .before .before .before .before .before .before .before .args .m * 3 ≤ 3072 = omega arith in
-    (search needs, search needs, subst (Short most-digits) (sym (rows-front (c .before .before .before .before .before .before .before .before .before .before .before .before .before .before .before .before .before .before .before .before .before .before .before .args .bytes .now) (c .before .before .before .before .before .before .before .before .before .before .before .before .before .before .before .before .before .before .before .before .before .before .before .args .from .at) (c .before .before .before .before .before .before .before .before .before .before .before .before .before .before .before .before .before .before .before .before .before .before .before .args .n) (c .before .before .before .before .before .before .before .before .before .before .before .before .before .before .before .before .before .before .before .before .before .before .before .args .m) (replicate 1542 (pos 0)) (c .before .before .before .before .before .before .before .before .before .before .before .before .before .before .before .before .before .before .read-lines .last .1 .1 .1 .1 .0) (c .before .before .before .before .before .before .before .before .before .before .before .before .before .before .before .corners .given .0 .0 .at) (subst (ReadInto (LinesAt most-digits C 3 (c .before .before .before .before .before .before .before .before .before .before .before .before .before .before .before .before .before .before .before .before .before .before .before .args .n) (drop (c .before .before .before .before .before .before .before .before .before .before .before .before .before .before .before .before .before .before .before .before .before .before .before .args .from .at) (c .before .before .before .before .before .before .before .before .before .before .before .before .before .before .before .before .before .before .before .before .before .before .before .args .bytes .now))) (c .before .before .before .before .before .before .before .before .before .before .before .before .before .before .before .before .before .before .before .before .before .before .before .args .n * 3) (c .before .before .before .before .before .before .before .before .before .before .before .before .before .before .before .before .before .before .before .before .before .before .before .args .bytes .now) (replicate 1542 (pos 0)) 0 (c .before .before .before .before .before .before .before .before .before .before .before .before .before .before .before .before .before .before .read-lines .last .1 .1 .1 .1 .0)) (c .before .before .before .before .before .before .before .before .before .before .before .before .before .before .before .corners .given .1) (c .before .before .before .before .before .before .before .before .before .before .before .before .before .before .before .before .before .before .read-lines .ensures)) (replicate 3072 (pos 0)) (c .before .before .before .before .before .before .before .before .before .before .before .read-lines2 .last .1 .1 .1 .1 .0) (c .before .before .before .before .before .before .before .before .rows .given .0 .0 .at) (subst (ReadInto (LinesAt most-digits R 3 (c .before .before .before .before .before .before .before .before .before .before .before .before .before .before .before .before .before .before .before .before .before .before .before .args .m) (drop (c .before .before .before .before .before .before .before .before .before .before .before .before .before .before .before .corners .given .0 .0 .at) (c .before .before .before .before .before .before .before .before .before .before .before .before .before .before .before .before .before .before .before .before .before .before .before .args .bytes .now))) (c .before .before .before .before .before .before .before .before .before .before .before .before .before .before .before .before .before .before .before .before .before .before .before .args .m * 3) (c .before .before .before .before .before .before .before .before .before .before .before .before .before .before .before .before .before .before .before .before .before .before .before .args .bytes .now) (replicate 3072 (pos 0)) 0 (c .before .before .before .before .before .before .before .before .before .before .before .read-lines2 .last .1 .1 .1 .1 .0)) (c .before .before .before .before .before .before .before .before .rows .given .1) (c .before .before .before .before .before .before .before .before .before .before .before .read-lines2 .ensures)) h)) (q .here .short))
+to-numbers-requires c κs =
+    let pre = c .before .before .before .before .before .before .before .before .before .before .before .before .before .before .before .before .before .before .before .before .before .before .before .pre in
+    let args = c .before .before .before .before .before .before .before .before .before .before .before .before .before .before .before .before .before .before .before .before .before .before .before .args in
+    let read-lines = c .before .before .before .before .before .before .before .before .before .before .before .before .before .before .before .before .before .before .read-lines in
+    let corners = c .before .before .before .before .before .before .before .before .before .before .before .before .before .before .before .corners in
+    let read-lines2 = c .before .before .before .before .before .before .before .before .before .before .before .read-lines2 in
+    let rows = c .before .before .before .before .before .before .before .before .rows in
+    let a = pre .0 .most in
+    let q = (subst (ReadInto (LinesAt most-digits R 3 (args .m) (drop (corners .given .0 .0 .at) (args .bytes .now))) (args .m * 3) (args .bytes .now) (replicate 3072 (pos 0)) 0 (read-lines2 .last .1 .1 .1 .1 .0)) (rows .given .1) (read-lines2 .ensures)) in
+    let h : args .m * 3 ≤ 3072 = omega arith in
+    (search needs, search needs, subst (Short most-digits) (sym (rows-front (args .bytes .now) (args .from .at) (args .n) (args .m) (replicate 1542 (pos 0)) (read-lines .last .1 .1 .1 .1 .0) (corners .given .0 .0 .at) (subst (ReadInto (LinesAt most-digits C 3 (args .n) (drop (args .from .at) (args .bytes .now))) (args .n * 3) (args .bytes .now) (replicate 1542 (pos 0)) 0 (read-lines .last .1 .1 .1 .1 .0)) (corners .given .1) (read-lines .ensures)) (replicate 3072 (pos 0)) (read-lines2 .last .1 .1 .1 .1 .0) (rows .given .0 .0 .at) (subst (ReadInto (LinesAt most-digits R 3 (args .m) (drop (corners .given .0 .0 .at) (args .bytes .now))) (args .m * 3) (args .bytes .now) (replicate 3072 (pos 0)) 0 (read-lines2 .last .1 .1 .1 .1 .0)) (rows .given .1) (read-lines2 .ensures)) h)) (q .here .short))
 
 same-length : tie.Need-same-length
 same-length c = search needs
@@ -89,13 +115,23 @@ same-length-2 c = search needs
 
 returns-4 : tie.Need-returns-4
 unfolding ReadInto
-returns-4 c = let a = c .before .before .before .before .before .before .before .before .before .before .before .before .before .before .before .before .before .before .before .before .before .before .before .before .before .before .pre .0 .many in
-    let b = c .before .before .before .before .before .before .before .before .before .before .before .before .before .before .before .before .before .before .before .before .before .before .before .before .before .before .pre .0 .most in
-    let h : c .before .before .before .before .before .before .before .before .before .before .before .before .before .before .before .before .before .before .before .before .before .before .before .before .before .before .args .n * 3 ≤ 1542 = omega arith in
-    let k : c .before .before .before .before .before .before .before .before .before .before .before .before .before .before .before .before .before .before .before .before .before .before .before .before .before .before .args .m * 3 ≤ 3072 = omega arith in
+returns-4 c =
+    let pre = c .before .before .before .before .before .before .before .before .before .before .before .before .before .before .before .before .before .before .before .before .before .before .before .before .before .before .pre in
+    let args = c .before .before .before .before .before .before .before .before .before .before .before .before .before .before .before .before .before .before .before .before .before .before .before .before .before .before .args in
+    let read-lines = c .before .before .before .before .before .before .before .before .before .before .before .before .before .before .before .before .before .before .before .before .before .read-lines in
+    let corners = c .before .before .before .before .before .before .before .before .before .before .before .before .before .before .before .before .before .before .corners in
+    let read-lines2 = c .before .before .before .before .before .before .before .before .before .before .before .before .before .before .read-lines2 in
+    let rows = c .before .before .before .before .before .before .before .before .before .before .before .rows in
+    let if1 = c .before .before .before .before .before .before .before .before .before .if1 in
+    let to-coordinates = c .before .before .before .before .before .before .to-coordinates in
+    let to-numbers = c .before .before .to-numbers in
+    let a = pre .0 .many in
+    let b = pre .0 .most in
+    let h : args .n * 3 ≤ 1542 = omega arith in
+    let k : args .m * 3 ≤ 3072 = omega arith in
     record {
-      when-true = λ f. body-read (c .before .before .before .before .before .before .before .before .before .before .before .before .before .before .before .before .before .before .before .before .before .before .before .before .before .before .args .bytes .now) (c .before .before .before .before .before .before .before .before .before .before .before .before .before .before .before .before .before .before .before .before .before .before .before .before .before .before .args .from .at) (c .before .before .before .before .before .before .before .before .before .before .before .before .before .before .before .before .before .before .before .before .before .before .before .before .before .before .args .n) (c .before .before .before .before .before .before .before .before .before .before .before .before .before .before .before .before .before .before .before .before .before .before .before .before .before .before .args .m) (replicate 1542 (pos 0)) (c .before .before .before .before .before .before .before .before .before .before .before .before .before .before .before .before .before .before .before .before .before .read-lines .last .1 .1 .1 .1 .0) (c .before .before .before .before .before .before .before .before .before .before .before .before .before .before .before .before .before .before .corners .given .0 .0 .at) (subst (ReadInto (LinesAt most-digits C 3 (c .before .before .before .before .before .before .before .before .before .before .before .before .before .before .before .before .before .before .before .before .before .before .before .before .before .before .args .n) (drop (c .before .before .before .before .before .before .before .before .before .before .before .before .before .before .before .before .before .before .before .before .before .before .before .before .before .before .args .from .at) (c .before .before .before .before .before .before .before .before .before .before .before .before .before .before .before .before .before .before .before .before .before .before .before .before .before .before .args .bytes .now))) (c .before .before .before .before .before .before .before .before .before .before .before .before .before .before .before .before .before .before .before .before .before .before .before .before .before .before .args .n * 3) (c .before .before .before .before .before .before .before .before .before .before .before .before .before .before .before .before .before .before .before .before .before .before .before .before .before .before .args .bytes .now) (replicate 1542 (pos 0)) 0 (c .before .before .before .before .before .before .before .before .before .before .before .before .before .before .before .before .before .before .before .before .before .read-lines .last .1 .1 .1 .1 .0)) (c .before .before .before .before .before .before .before .before .before .before .before .before .before .before .before .before .before .before .corners .given .1) (c .before .before .before .before .before .before .before .before .before .before .before .before .before .before .before .before .before .before .before .before .before .read-lines .ensures)) (replicate 3072 (pos 0)) (c .before .before .before .before .before .before .before .before .before .before .before .before .before .before .read-lines2 .last .1 .1 .1 .1 .0) (c .before .before .before .before .before .before .before .before .before .before .before .rows .given .0 .0 .at) (subst (ReadInto (LinesAt most-digits R 3 (c .before .before .before .before .before .before .before .before .before .before .before .before .before .before .before .before .before .before .before .before .before .before .before .before .before .before .args .m) (drop (c .before .before .before .before .before .before .before .before .before .before .before .before .before .before .before .before .before .before .corners .given .0 .0 .at) (c .before .before .before .before .before .before .before .before .before .before .before .before .before .before .before .before .before .before .before .before .before .before .before .before .before .before .args .bytes .now))) (c .before .before .before .before .before .before .before .before .before .before .before .before .before .before .before .before .before .before .before .before .before .before .before .before .before .before .args .m * 3) (c .before .before .before .before .before .before .before .before .before .before .before .before .before .before .before .before .before .before .before .before .before .before .before .before .before .before .args .bytes .now) (replicate 3072 (pos 0)) 0 (c .before .before .before .before .before .before .before .before .before .before .before .before .before .before .read-lines2 .last .1 .1 .1 .1 .0)) (c .before .before .before .before .before .before .before .before .before .before .before .rows .given .1) (c .before .before .before .before .before .before .before .before .before .before .before .before .before .before .read-lines2 .ensures)) h k (c .before .before .before .before .before .before .before .before .before .if1 .left) (c .before .before .before .before .before .before .before .before .before .before .before .before .before .before .before .before .before .before .before .before .before .before .before .before .before .before .args .xs .now) (c .before .before .before .before .before .before .to-coordinates .last .1 .0) (c .before .before .before .before .before .before .before .before .before .before .before .before .before .before .before .before .before .before .before .before .before .before .before .before .before .before .args .t .now) (c .before .before .to-numbers .last .1 .0) (c .before .before .before .before .before .before .to-coordinates .ensures) (c .before .before .to-numbers .ensures .when-true f);
-      when-false = λ f. minus-in-row (c .before .before .before .before .before .before .before .before .before .before .before .before .before .before .before .before .before .before .before .before .before .before .before .before .before .before .args .bytes .now) (c .before .before .before .before .before .before .before .before .before .before .before .before .before .before .before .before .before .before .before .before .before .before .before .before .before .before .args .from .at) (c .before .before .before .before .before .before .before .before .before .before .before .before .before .before .before .before .before .before .before .before .before .before .before .before .before .before .args .n) (c .before .before .before .before .before .before .before .before .before .before .before .before .before .before .before .before .before .before .before .before .before .before .before .before .before .before .args .m) (replicate 1542 (pos 0)) (c .before .before .before .before .before .before .before .before .before .before .before .before .before .before .before .before .before .before .before .before .before .read-lines .last .1 .1 .1 .1 .0) (c .before .before .before .before .before .before .before .before .before .before .before .before .before .before .before .before .before .before .corners .given .0 .0 .at) (subst (ReadInto (LinesAt most-digits C 3 (c .before .before .before .before .before .before .before .before .before .before .before .before .before .before .before .before .before .before .before .before .before .before .before .before .before .before .args .n) (drop (c .before .before .before .before .before .before .before .before .before .before .before .before .before .before .before .before .before .before .before .before .before .before .before .before .before .before .args .from .at) (c .before .before .before .before .before .before .before .before .before .before .before .before .before .before .before .before .before .before .before .before .before .before .before .before .before .before .args .bytes .now))) (c .before .before .before .before .before .before .before .before .before .before .before .before .before .before .before .before .before .before .before .before .before .before .before .before .before .before .args .n * 3) (c .before .before .before .before .before .before .before .before .before .before .before .before .before .before .before .before .before .before .before .before .before .before .before .before .before .before .args .bytes .now) (replicate 1542 (pos 0)) 0 (c .before .before .before .before .before .before .before .before .before .before .before .before .before .before .before .before .before .before .before .before .before .read-lines .last .1 .1 .1 .1 .0)) (c .before .before .before .before .before .before .before .before .before .before .before .before .before .before .before .before .before .before .corners .given .1) (c .before .before .before .before .before .before .before .before .before .before .before .before .before .before .before .before .before .before .before .before .before .read-lines .ensures)) (replicate 3072 (pos 0)) (c .before .before .before .before .before .before .before .before .before .before .before .before .before .before .read-lines2 .last .1 .1 .1 .1 .0) (c .before .before .before .before .before .before .before .before .before .before .before .rows .given .0 .0 .at) (subst (ReadInto (LinesAt most-digits R 3 (c .before .before .before .before .before .before .before .before .before .before .before .before .before .before .before .before .before .before .before .before .before .before .before .before .before .before .args .m) (drop (c .before .before .before .before .before .before .before .before .before .before .before .before .before .before .before .before .before .before .corners .given .0 .0 .at) (c .before .before .before .before .before .before .before .before .before .before .before .before .before .before .before .before .before .before .before .before .before .before .before .before .before .before .args .bytes .now))) (c .before .before .before .before .before .before .before .before .before .before .before .before .before .before .before .before .before .before .before .before .before .before .before .before .before .before .args .m * 3) (c .before .before .before .before .before .before .before .before .before .before .before .before .before .before .before .before .before .before .before .before .before .before .before .before .before .before .args .bytes .now) (replicate 3072 (pos 0)) 0 (c .before .before .before .before .before .before .before .before .before .before .before .before .before .before .read-lines2 .last .1 .1 .1 .1 .0)) (c .before .before .before .before .before .before .before .before .before .before .before .rows .given .1) (c .before .before .before .before .before .before .before .before .before .before .before .before .before .before .read-lines2 .ensures)) k (c .before .before .to-numbers .ensures .when-false f);
+      when-true = λ f. body-read (args .bytes .now) (args .from .at) (args .n) (args .m) (replicate 1542 (pos 0)) (read-lines .last .1 .1 .1 .1 .0) (corners .given .0 .0 .at) (subst (ReadInto (LinesAt most-digits C 3 (args .n) (drop (args .from .at) (args .bytes .now))) (args .n * 3) (args .bytes .now) (replicate 1542 (pos 0)) 0 (read-lines .last .1 .1 .1 .1 .0)) (corners .given .1) (read-lines .ensures)) (replicate 3072 (pos 0)) (read-lines2 .last .1 .1 .1 .1 .0) (rows .given .0 .0 .at) (subst (ReadInto (LinesAt most-digits R 3 (args .m) (drop (corners .given .0 .0 .at) (args .bytes .now))) (args .m * 3) (args .bytes .now) (replicate 3072 (pos 0)) 0 (read-lines2 .last .1 .1 .1 .1 .0)) (rows .given .1) (read-lines2 .ensures)) h k (if1 .left) (args .xs .now) (to-coordinates .last .1 .0) (args .t .now) (to-numbers .last .1 .0) (to-coordinates .ensures) (to-numbers .ensures .when-true f);
+      when-false = λ f. minus-in-row (args .bytes .now) (args .from .at) (args .n) (args .m) (replicate 1542 (pos 0)) (read-lines .last .1 .1 .1 .1 .0) (corners .given .0 .0 .at) (subst (ReadInto (LinesAt most-digits C 3 (args .n) (drop (args .from .at) (args .bytes .now))) (args .n * 3) (args .bytes .now) (replicate 1542 (pos 0)) 0 (read-lines .last .1 .1 .1 .1 .0)) (corners .given .1) (read-lines .ensures)) (replicate 3072 (pos 0)) (read-lines2 .last .1 .1 .1 .1 .0) (rows .given .0 .0 .at) (subst (ReadInto (LinesAt most-digits R 3 (args .m) (drop (corners .given .0 .0 .at) (args .bytes .now))) (args .m * 3) (args .bytes .now) (replicate 3072 (pos 0)) 0 (read-lines2 .last .1 .1 .1 .1 .0)) (rows .given .1) (read-lines2 .ensures)) k (to-numbers .ensures .when-false f);
     }
 
 pub read-body-spec : {M : Type 1} → statement M

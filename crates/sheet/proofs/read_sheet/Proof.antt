@@ -33,14 +33,24 @@ slice-aggregate-deliver-2 c = search needs
 
 deliver-requires : tie.Need-deliver-requires
 unfolding ReadForm
-deliver-requires c κs = let f = (subst (ReadForm (c .before .before .before .before .before .before .before .before .before .before .before .before .before .before .args .bytes .now) (replicate 1542 (pos 0)) (c .before .before .before .before .before .before .before .before .before .read-form .last .1 .0) (replicate 3072 0) (c .before .before .before .before .before .before .before .before .before .read-form .last .1 .1 .0)) (c .before .before .before .before .before .form2 .given .1) (c .before .before .before .before .before .before .before .before .before .read-form .ensures)) in
+deliver-requires c κs =
+    let args = c .before .before .before .before .before .before .before .before .before .before .before .before .before .before .args in
+    let read-form = c .before .before .before .before .before .before .before .before .before .read-form in
+    let xs2 = c .before .before .before .before .before .before .before .before .xs2 in
+    let t2 = c .before .before .before .before .before .before .before .t2 in
+    let form2 = c .before .before .before .before .before .form2 in
+    let f = (subst (ReadForm (args .bytes .now) (replicate 1542 (pos 0)) (read-form .last .1 .0) (replicate 3072 0) (read-form .last .1 .1 .0)) (form2 .given .1) (read-form .ensures)) in
     let a = f .counts .many in
     let b = f .counts .most in
-    (f .counts, omega (arith, c .before .before .before .before .before .before .before .before .xs2 .given), omega (arith, c .before .before .before .before .before .before .before .t2 .given))
+    (f .counts, omega (arith, xs2 .given), omega (arith, t2 .given))
 
 returns : tie.Need-returns
 unfolding ReadForm
-returns c = bad-form (subst (ReadForm (c .before .before .before .before .before .before .before .before .before .before .args .bytes .now) (replicate 1542 (pos 0)) (c .before .before .before .before .before .read-form .last .1 .0) (replicate 3072 0) (c .before .before .before .before .before .read-form .last .1 .1 .0)) (c .before .form .given .1) (c .before .before .before .before .before .read-form .ensures)) refl refl refl
+returns c =
+    let args = c .before .before .before .before .before .before .before .before .before .before .args in
+    let read-form = c .before .before .before .before .before .read-form in
+    let form = c .before .form in
+    bad-form (subst (ReadForm (args .bytes .now) (replicate 1542 (pos 0)) (read-form .last .1 .0) (replicate 3072 0) (read-form .last .1 .1 .0)) (form .given .1) (read-form .ensures)) refl refl refl
 
 same-length : tie.Need-same-length
 same-length c = search needs
@@ -50,12 +60,17 @@ same-length-2 c = search needs
 
 returns-2 : tie.Need-returns-2
 unfolding ReadForm
-returns-2 c = let f = (subst (ReadForm (c .before .before .before .before .before .before .before .before .before .before .before .before .before .before .before .before .before .before .args .bytes .now) (replicate 1542 (pos 0)) (c .before .before .before .before .before .before .before .before .before .before .before .before .before .read-form .last .1 .0) (replicate 3072 0) (c .before .before .before .before .before .before .before .before .before .before .before .before .before .read-form .last .1 .1 .0)) (c .before .before .before .before .before .before .before .before .before .form2 .given .1) (c .before .before .before .before .before .before .before .before .before .before .before .before .before .read-form .ensures)) in
+returns-2 c =
+    let args = c .before .before .before .before .before .before .before .before .before .before .before .before .before .before .before .before .before .before .args in
+    let read-form = c .before .before .before .before .before .before .before .before .before .before .before .before .before .read-form in
+    let form2 = c .before .before .before .before .before .before .before .before .before .form2 in
+    let deliver = c .before .before .before .deliver in
+    let f = (subst (ReadForm (args .bytes .now) (replicate 1542 (pos 0)) (read-form .last .1 .0) (replicate 3072 0) (read-form .last .1 .1 .0)) (form2 .given .1) (read-form .ensures)) in
     let a = f .counts .many in
     let b = f .counts .most in
-    let h : (c .before .before .before .before .before .before .before .before .before .form2 .given .0 .0) * 3 ≤ 1542 = omega arith in
-    let k : (c .before .before .before .before .before .before .before .before .before .form2 .given .0 .1 .0) * 3 ≤ 3072 = omega arith in
-    whole-outcome (c .before .before .before .before .before .before .before .before .before .before .before .before .before .before .before .before .before .before .args .bytes .now) (c .before .before .before .before .before .before .before .before .before .before .before .before .before .before .before .before .before .before .args .table .now) (c .before .before .before .deliver .last .1 .1 .1 .1 .0) (c .before .before .before .before .before .before .before .before .before .before .before .before .before .before .before .before .before .before .args .corners .now) (c .before .before .before .deliver .last .1 .1 .1 .1 .1 .0) (c .before .before .before .deliver .result) (c .before .before .before .before .before .before .before .before .before .form2 .given .0 .0) (c .before .before .before .before .before .before .before .before .before .form2 .given .0 .1 .0) (replicate 1542 (pos 0)) (c .before .before .before .before .before .before .before .before .before .before .before .before .before .read-form .last .1 .0) (replicate 3072 0) (c .before .before .before .before .before .before .before .before .before .before .before .before .before .read-form .last .1 .1 .0) f h k (c .before .before .before .deliver .ensures)
+    let h : (form2 .given .0 .0) * 3 ≤ 1542 = omega arith in
+    let k : (form2 .given .0 .1 .0) * 3 ≤ 3072 = omega arith in
+    whole-outcome (args .bytes .now) (args .table .now) (deliver .last .1 .1 .1 .1 .0) (args .corners .now) (deliver .last .1 .1 .1 .1 .1 .0) (deliver .result) (form2 .given .0 .0) (form2 .given .0 .1 .0) (replicate 1542 (pos 0)) (read-form .last .1 .0) (replicate 3072 0) (read-form .last .1 .1 .0) f h k (deliver .ensures)
 
 pub read-sheet-spec : {M : Type 1} → statement M
 read-sheet-spec =

@@ -31,7 +31,12 @@ mul-t7 : tie.Need-mul-t7 Inv-loop μ-loop
 mul-t7 c = let h = c .before .loop-test .taken in let p = c .before .before .before .pre .1 in omega arith
 
 slice-set-from-xs : tie.Need-slice-set-from-xs Inv-loop μ-loop
-slice-set-from-xs c = let h = c .before .loop-test .taken in let p = c .before .before .before .pre .1 in omega (arith, ap length (c .before .before .loop .inv .1) ∙ length-sets (c .before .before .before .args .xs .now) 0 (take (c .before .before .loop .i) (c .before .before .before .args .zs .now)))
+slice-set-from-xs c =
+    let pre = c .before .before .before .pre in
+    let args = c .before .before .before .args in
+    let loop = c .before .before .loop in
+    let loop-test = c .before .loop-test in
+    let h = loop-test .taken in let p = pre .1 in omega (arith, ap length (loop .inv .1) ∙ length-sets (args .xs .now) 0 (take (loop .i) (args .zs .now)))
 
 add-i : tie.Need-add-i Inv-loop μ-loop
 add-i c = search needs
@@ -40,7 +45,12 @@ loop-less : tie.Need-loop-less Inv-loop μ-loop
 loop-less c = search needs
 
 loop-again : tie.Need-loop-again Inv-loop μ-loop
-loop-again c = (omega arith, corner-stored (c .before .before .before .args .zs .now) (c .before .before .before .args .count) (c .before .before .before .pre .2) (c .before .before .before .pre .0) (c .before .before .loop .i) (c .before .loop-test .taken) (c .before .before .before .args .xs .now) (c .before .before .loop .xs) (c .before .before .loop .inv .1))
+loop-again c =
+    let args = c .before .before .before .args in
+    let pre = c .before .before .before .pre in
+    let loop = c .before .before .loop in
+    let loop-test = c .before .loop-test in
+    (omega arith, corner-stored (args .zs .now) (args .count) (pre .2) (pre .0) (loop .i) (loop-test .taken) (args .xs .now) (loop .xs) (loop .inv .1))
 
 same-length : tie.Need-same-length Inv-loop μ-loop
 same-length c = ap length (c .before .loop .inv .1) ∙ length-sets (c .before .before .args .xs .now) 0 (take (c .before .loop .i) (c .before .before .args .zs .now))

@@ -29,10 +29,20 @@ same-length : tie.Need-same-length Inv-loop μ-loop
 same-length c = naturals-length (c .before .before .before .loop .inv .1)
 
 returns : tie.Need-returns Inv-loop μ-loop
-returns c = tells-false (minus-there (c .before .before .before .before .args .zs .now) (c .before .before .before .before .args .count) (c .before .before .before .before .pre .2) (c .before .before .before .before .pre .0) (c .before .before .before .loop .i) (c .before .before .loop-test .taken) (c .if1 .taken))
+returns c =
+    let args = c .before .before .before .before .args in
+    let pre = c .before .before .before .before .pre in
+    let loop = c .before .before .before .loop in
+    let loop-test = c .before .before .loop-test in
+    tells-false (minus-there (args .zs .now) (args .count) (pre .2) (pre .0) (loop .i) (loop-test .taken) (c .if1 .taken))
 
 cast-t : tie.Need-cast-t Inv-loop μ-loop
-cast-t c = number-fits (c .before .before .before .before .args .zs .now) (c .before .before .before .before .args .count) (c .before .before .before .before .pre .2) (c .before .before .before .before .pre .0) (c .before .before .before .loop .i) (c .before .before .loop-test .taken) (c .if1 .left)
+cast-t c =
+    let args = c .before .before .before .before .args in
+    let pre = c .before .before .before .before .pre in
+    let loop = c .before .before .before .loop in
+    let loop-test = c .before .before .loop-test in
+    number-fits (args .zs .now) (args .count) (pre .2) (pre .0) (loop .i) (loop-test .taken) (c .if1 .left)
 
 mul-t : tie.Need-mul-t Inv-loop μ-loop
 mul-t c = let h = c .before .before .loop-test .taken in let p = c .before .before .before .before .pre .1 in omega arith
@@ -47,7 +57,12 @@ loop-less : tie.Need-loop-less Inv-loop μ-loop
 loop-less c = search needs
 
 loop-again : tie.Need-loop-again Inv-loop μ-loop
-loop-again c = (omega arith, number-stored (c .before .before .before .before .args .zs .now) (c .before .before .before .before .args .count) (c .before .before .before .before .pre .2) (c .before .before .before .before .pre .0) (c .before .before .before .loop .i) (c .before .before .loop-test .taken) (c .before .before .before .before .args .t .now) (c .before .before .before .loop .t) (c .if1 .left) (c .before .before .before .loop .inv .1))
+loop-again c =
+    let args = c .before .before .before .before .args in
+    let pre = c .before .before .before .before .pre in
+    let loop = c .before .before .before .loop in
+    let loop-test = c .before .before .loop-test in
+    (omega arith, number-stored (args .zs .now) (args .count) (pre .2) (pre .0) (loop .i) (loop-test .taken) (args .t .now) (loop .t) (c .if1 .left) (loop .inv .1))
 
 same-length-2 : tie.Need-same-length-2 Inv-loop μ-loop
 same-length-2 c = naturals-length (c .before .loop .inv .1)

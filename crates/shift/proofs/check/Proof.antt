@@ -48,6 +48,7 @@ returns-4 c =
 
 returns-5 : tie.Need-returns-5
 returns-5 c =
+    let past-in = c .before .past-in in
     let if3 = c .before .before .if3 in
     let args = c .before .before .before .before .before .before .before .before .args in
     let shift-fits = c .before .before .before .before .before .before .shift-fits in
@@ -55,7 +56,7 @@ returns-5 c =
     let out-of-range = c .before .before .before .before .out-of-range in
     let if2 = c .before .before .before .if2 in
     let h = if3 .left in
-    all-clear (args .corners .now) (args .log .now) (args .corner) (shift-fits .ensures .when-true (not-false _ (if1 .left))) (out-of-range .ensures .when-false (if2 .left)) (omega arith) (c .before .past-in .ensures .when-false (c .if4 .left))
+    all-clear (args .corners .now) (args .log .now) (args .corner) (shift-fits .ensures .when-true (not-false _ (if1 .left))) (out-of-range .ensures .when-false (if2 .left)) (omega arith) (past-in .ensures .when-false (c .if4 .left))
 
 pub check-spec : {M : Type 1} → statement M
 check-spec =

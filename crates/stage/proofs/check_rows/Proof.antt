@@ -31,13 +31,16 @@ once c = c .before .before .edge-twice .ensures .when-false (c .if3 .left) .0
 
 closed : (c : tie.Else4) → let s = c .before .before .before .before .before .before .before .before .before .before .before .before .before .before .before .before .before .before .before .before in Closed (s .args .n) (rows (s .args .t .now))
 closed c =
+    let reverse-missing = c .before .before .reverse-missing in
     let one = c .before .before .before .before .before .before .before .before .before .before .before .before .before .before .before .before .before in
     let two = c .before .before .before .before .before .before .before .before .before .before .before .before .before .before .before in
     let three = c .before .before .before .before in
-    record { below = below one; apart = apart two; once = once three; both = c .before .before .reverse-missing .ensures .when-false (c .if4 .left) .0 }
+    record { below = below one; apart = apart two; once = once three; both = reverse-missing .ensures .when-false (c .if4 .left) .0 }
 
 used : (c : tie.Else5) → let s = c .before .before .before .before .before .before .before .before .before .before .before .before .before .before .before .before .before .before .before .before .before .before .before in s .args .first ≡ true → AllUsed (s .args .n) (rows (s .args .t .now))
-used c = c .before .first-unused .ensures .when-false (c .if5 .left)
+used c =
+    let first-unused = c .before .first-unused in
+    first-unused .ensures .when-false (c .if5 .left)
 
 not-below-requires : tie.Need-not-below-requires
 not-below-requires c κs = whole (c .before)

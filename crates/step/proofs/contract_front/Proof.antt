@@ -23,7 +23,12 @@ same-length : tie.Need-same-length
 same-length c = search needs
 
 returns : tie.Need-returns
-returns c = step-in (c .before .before .before .before .before .args .table .now) (c .before .before .before .before .before .args .rows) _ _ (c .before .before .contract .result) (c .before .before .contract .last .0) (c .before .before .before .before .before .pre .0) (c .before .table .given .0) (c .before .before .contract .ensures)
+returns c =
+    let args = c .before .before .before .before .before .args in
+    let pre = c .before .before .before .before .before .pre in
+    let contract = c .before .before .contract in
+    let table = c .before .table in
+    step-in (args .table .now) (args .rows) _ _ (contract .result) (contract .last .0) (pre .0) (table .given .0) (contract .ensures)
 
 pub contract-front-spec : {M : Type 1} → statement M
 contract-front-spec =

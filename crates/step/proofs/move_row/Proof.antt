@@ -36,7 +36,10 @@ row-leaves-requires : tie.Need-row-leaves-requires
 row-leaves-requires c κs = search needs
 
 returns : tie.Need-returns
-returns c = let e = row-gone (c .before .before .before .before .before .before .args .a) (c .before .before .before .before .before .before .args .b) (c .before .before .before .before .before .before .args .t .now) (c .before .before .before .before .before .before .args .i) (sym (c .if1 .taken) ∙ c .before .row-leaves .ensures) in
+returns c =
+    let args = c .before .before .before .before .before .before .args in
+    let row-leaves = c .before .row-leaves in
+    let e = row-gone (args .a) (args .b) (args .t .now) (args .i) (sym (c .if1 .taken) ∙ row-leaves .ensures) in
     record { next = rw e (omega arith); wrote = rw e refl }
 
 swapped-requires : tie.Need-swapped-requires
@@ -58,13 +61,21 @@ same-length : tie.Need-same-length
 same-length c = search needs
 
 returns-2 : tie.Need-returns-2
-returns-2 c = let e = row-stays (c .before .before .before .before .before .before .before .before .before .before .before .before .before .args .a) (c .before .before .before .before .before .before .before .before .before .before .before .before .before .args .b) (c .before .before .before .before .before .before .before .before .before .before .before .before .before .args .t .now) (c .before .before .before .before .before .before .before .before .before .before .before .before .before .args .i) (sym (c .before .before .before .before .before .before .before .if1 .left) ∙ c .before .before .before .before .before .before .before .before .row-leaves .ensures) in
+returns-2 c =
+    let args = c .before .before .before .before .before .before .before .before .before .before .before .before .before .args in
+    let row-leaves = c .before .before .before .before .before .before .before .before .row-leaves in
+    let if1 = c .before .before .before .before .before .before .before .if1 in
+    let swapped = c .before .before .before .before .before .swapped in
+    let swapped2 = c .before .before .before .before .swapped2 in
+    let swapped3 = c .before .before .before .swapped3 in
+    let write-row = c .before .before .write-row in
+    let e = row-stays (args .a) (args .b) (args .t .now) (args .i) (sym (if1 .left) ∙ row-leaves .ensures) in
     record {
       next = rw e (omega arith);
       wrote =
-          c .before .before .write-row .ensures
-          ∙ (λ k. sets (c .before .before .before .before .before .before .before .before .before .before .before .before .before .args .t .now) (c .before .before .before .before .before .before .before .before .before .before .before .before .before .args .j) (c .before .before .before .before .before .swapped .ensures k ∷ c .before .before .before .before .swapped2 .ensures k ∷ c .before .before .before .swapped3 .ensures k ∷ []))
-          ∙ ap (sets (c .before .before .before .before .before .before .before .before .before .before .before .before .before .args .t .now) (c .before .before .before .before .before .before .before .before .before .before .before .before .before .args .j)) (sym e);
+          write-row .ensures
+          ∙ (λ k. sets (args .t .now) (args .j) (swapped .ensures k ∷ swapped2 .ensures k ∷ swapped3 .ensures k ∷ []))
+          ∙ ap (sets (args .t .now) (args .j)) (sym e);
     }
 
 pub move-row-spec : {M : Type 1} → statement M

@@ -33,11 +33,15 @@ loop-less : tie.Need-loop-less Inv-loop μ-loop
 loop-less c = search needs
 
 loop-again : tie.Need-loop-again Inv-loop μ-loop
-loop-again c = let w = row-from (c .before .before .before .before .before .before .before .args .a) (c .before .before .before .before .before .before .before .args .b) (c .before .before .before .before .before .loop .t) (c .before .before .before .before .before .loop .i) in
-    let short = row-short (c .before .before .before .before .before .before .before .args .a) (c .before .before .before .before .before .before .before .args .b) (c .before .before .before .before .before .loop .t) (c .before .before .before .before .before .loop .i) in
-    let long = length-sets (c .before .before .before .before .before .loop .t) (c .before .before .before .before .before .loop .j) w in
-    rw (c .before .before .move-row .ensures .wrote, c .before .before .move-row .ensures .next)
-    (omega arith, omega arith, long ∙ c .before .before .before .before .before .loop .inv .2, turn (c .before .before .before .before .before .before .before .args .a) (c .before .before .before .before .before .before .before .args .b) (c .before .before .before .before .before .loop .t) (c .before .before .before .before .before .loop .i) (c .before .before .before .before .before .loop .j) (c .before .before .before .before .before .loop .inv .0) (omega arith) ∙ c .before .before .before .before .before .loop .inv .3)
+loop-again c =
+    let args = c .before .before .before .before .before .before .before .args in
+    let loop = c .before .before .before .before .before .loop in
+    let move-row = c .before .before .move-row in
+    let w = row-from (args .a) (args .b) (loop .t) (loop .i) in
+    let short = row-short (args .a) (args .b) (loop .t) (loop .i) in
+    let long = length-sets (loop .t) (loop .j) w in
+    rw (move-row .ensures .wrote, move-row .ensures .next)
+    (omega arith, omega arith, long ∙ loop .inv .2, turn (args .a) (args .b) (loop .t) (loop .i) (loop .j) (loop .inv .0) (omega arith) ∙ loop .inv .3)
 
 same-length : tie.Need-same-length Inv-loop μ-loop
 same-length c = search needs

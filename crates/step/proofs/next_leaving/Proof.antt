@@ -69,10 +69,14 @@ loop-less : tie.Need-loop-less Inv-loop μ-loop
 loop-less c = search needs
 
 loop-again : tie.Need-loop-again Inv-loop μ-loop
-loop-again c = let i = c .before .before .before .before .before .loop .inv in
+loop-again c =
+    let args = c .before .before .before .before .before .before .before .before .args in
+    let loop = c .before .before .before .before .before .loop in
+    let row-leaves = c .before .row-leaves in
+    let i = loop .inv in
     let h = i .0 in
-    let k = not-leaves (c .before .before .before .before .before .before .before .before .args .a) (c .before .before .before .before .before .before .before .before .args .b) _ _ _ (sym (sym (not-true _ (c .if1 .taken)) ∙ c .before .row-leaves .ensures)) in
-    (omega arith, i .1, some-next (i .2) k, passed-more (c .before .before .before .before .before .before .before .before .args .t .now) (i .3) k)
+    let k = not-leaves (args .a) (args .b) _ _ _ (sym (sym (not-true _ (c .if1 .taken)) ∙ row-leaves .ensures)) in
+    (omega arith, i .1, some-next (i .2) k, passed-more (args .t .now) (i .3) k)
 
 mul-k : tie.Need-mul-k Inv-loop μ-loop
 mul-k c = search needs
@@ -105,13 +109,18 @@ shared-slice-read-t37 : tie.Need-shared-slice-read-t37 Inv-loop μ-loop
 shared-slice-read-t37 c = search needs
 
 returns : tie.Need-returns Inv-loop μ-loop
-returns c = let i = c .before .before .before .before .before .before .before .before .loop .inv in
+returns c =
+    let args = c .before .before .before .before .before .before .before .before .before .before .before .args in
+    let loop = c .before .before .before .before .before .before .before .before .loop in
+    let row-leaves = c .before .before .before .before .row-leaves in
+    let if1 = c .before .before .before .if1 in
+    let i = loop .inv in
     let w = i .2 in
     record {
       from = i .0;
       inside = omega arith;
       stands = refl;
-      leaves = leaves-not (c .before .before .before .before .before .before .before .before .before .before .before .args .a) (c .before .before .before .before .before .before .before .before .before .before .before .args .b) _ _ _ (sym (sym (not-false _ (c .before .before .before .if1 .left)) ∙ c .before .before .before .before .row-leaves .ensures));
+      leaves = leaves-not (args .a) (args .b) _ _ _ (sym (sym (not-false _ (if1 .left)) ∙ row-leaves .ensures));
       passed = i .3;
     }
 

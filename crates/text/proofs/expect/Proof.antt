@@ -19,7 +19,11 @@ loop-holds c = compare-start (c .args .w .now) (c .args .s .now) (c .args .from 
 
 returns : tie.Need-returns Inv-loop μ-loop
 unfolding Expected
-returns c = λ r. compare-past (c .before .before .before .args .w .now) (c .before .before .before .args .s .now) (c .before .before .before .args .from .at) (c .before .before .loop .k) (c .before .before .loop .i) (c .before .before .loop .inv) r (c .before .loop-test .taken) (c .if1 .taken)
+returns c =
+    let args = c .before .before .before .args in
+    let loop = c .before .before .loop in
+    let loop-test = c .before .loop-test in
+    λ r. compare-past (args .w .now) (args .s .now) (args .from .at) (loop .k) (loop .i) (loop .inv) r (loop-test .taken) (c .if1 .taken)
 
 shared-slice-read-if2 : tie.Need-shared-slice-read-if2 Inv-loop μ-loop
 shared-slice-read-if2 c = search needs
@@ -29,7 +33,12 @@ shared-slice-read-if2-2 c = search needs
 
 returns-2 : tie.Need-returns-2 Inv-loop μ-loop
 unfolding Expected
-returns-2 c = λ r. compare-other (c .before .before .before .before .before .before .args .w .now) (c .before .before .before .before .before .before .args .s .now) (c .before .before .before .before .before .before .args .from .at) (c .before .before .before .before .before .loop .k) (c .before .before .before .before .before .loop .i) (c .before .before .before .before .before .loop .inv) r (c .before .before .before .before .loop-test .taken) (c .before .before .before .if1 .left) (c .if2 .taken)
+returns-2 c =
+    let args = c .before .before .before .before .before .before .args in
+    let loop = c .before .before .before .before .before .loop in
+    let loop-test = c .before .before .before .before .loop-test in
+    let if1 = c .before .before .before .if1 in
+    λ r. compare-other (args .w .now) (args .s .now) (args .from .at) (loop .k) (loop .i) (loop .inv) r (loop-test .taken) (if1 .left) (c .if2 .taken)
 
 add-k : tie.Need-add-k Inv-loop μ-loop
 add-k c = search needs
@@ -41,7 +50,12 @@ loop-less : tie.Need-loop-less Inv-loop μ-loop
 loop-less c = search needs
 
 loop-again : tie.Need-loop-again Inv-loop μ-loop
-loop-again c = compare-more (c .before .before .before .before .before .before .args .w .now) (c .before .before .before .before .before .before .args .s .now) (c .before .before .before .before .before .before .args .from .at) (c .before .before .before .before .before .loop .k) (c .before .before .before .before .before .loop .i) (c .before .before .before .before .before .loop .inv) (c .before .before .before .before .loop-test .taken) (c .before .before .before .if1 .left) (c .if2 .left)
+loop-again c =
+    let args = c .before .before .before .before .before .before .args in
+    let loop = c .before .before .before .before .before .loop in
+    let loop-test = c .before .before .before .before .loop-test in
+    let if1 = c .before .before .before .if1 in
+    compare-more (args .w .now) (args .s .now) (args .from .at) (loop .k) (loop .i) (loop .inv) (loop-test .taken) (if1 .left) (c .if2 .left)
 
 returns-3 : tie.Need-returns-3 Inv-loop μ-loop
 unfolding Expected

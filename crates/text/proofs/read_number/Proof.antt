@@ -25,31 +25,61 @@ add-i : tie.Need-add-i Inv-loop μ-loop
 add-i c = let h = c .before .digit-at .ensures .here (c .if1 .left) .0 in omega arith
 
 loop-holds : tie.Need-loop-holds Inv-loop μ-loop
-loop-holds c = scan-start (c .before .before .before .args .most) (c .before .before .before .args .s .now) (c .before .before .before .args .from .at) (c .before .digit-at .result) (c .before .before .before .pre .0) (c .if1 .left) (c .before .digit-at .ensures)
+loop-holds c =
+    let args = c .before .before .before .args in
+    let pre = c .before .before .before .pre in
+    let digit-at = c .before .digit-at in
+    scan-start (args .most) (args .s .now) (args .from .at) (digit-at .result) (pre .0) (c .if1 .left) (digit-at .ensures)
 
 digit-at-requires-2 : tie.Need-digit-at-requires-2 Inv-loop μ-loop
 digit-at-requires-2 c κs = search needs
 
 returns-2 : tie.Need-returns-2 Inv-loop μ-loop
 unfolding ReadNumber
-returns-2 c = scan-end (c .before .before .before .before .before .before .args .most) (c .before .before .before .before .before .before .args .s .now) (c .before .before .before .before .before .before .args .from .at) (c .before .before .loop .v) (c .before .before .loop .i) (c .before .before .loop .inv) (c .before .digit-at2 .ensures .none (c .if2 .taken))
+returns-2 c =
+    let args = c .before .before .before .before .before .before .args in
+    let loop = c .before .before .loop in
+    let digit-at2 = c .before .digit-at2 in
+    scan-end (args .most) (args .s .now) (args .from .at) (loop .v) (loop .i) (loop .inv) (digit-at2 .ensures .none (c .if2 .taken))
 
 returns-3 : tie.Need-returns-3 Inv-loop μ-loop
 unfolding ReadNumber
-returns-3 c = λ w r. scan-needless (c .before .before .before .before .before .before .before .args .most) (c .before .before .before .before .before .before .before .args .s .now) (c .before .before .before .before .before .before .before .args .from .at) (c .before .before .before .loop .v) (c .before .before .before .loop .i) (c .before .before .before .loop .inv) (c .before .before .digit-at2 .result) (c .before .if2 .left) (c .before .before .digit-at2 .ensures) (c .if3 .taken)
+returns-3 c =
+    let args = c .before .before .before .before .before .before .before .args in
+    let loop = c .before .before .before .loop in
+    let digit-at2 = c .before .before .digit-at2 in
+    let if2 = c .before .if2 in
+    λ w r. scan-needless (args .most) (args .s .now) (args .from .at) (loop .v) (loop .i) (loop .inv) (digit-at2 .result) (if2 .left) (digit-at2 .ensures) (c .if3 .taken)
 
 sub-if4 : tie.Need-sub-if4 Inv-loop μ-loop
 sub-if4 c = let p = c .before .before .before .loop .inv .place in omega arith
 
 returns-4 : tie.Need-returns-4 Inv-loop μ-loop
 unfolding ReadNumber
-returns-4 c = λ w r. scan-many (c .before .before .before .before .before .before .before .before .args .most) (c .before .before .before .before .before .before .before .before .args .s .now) (c .before .before .before .before .before .before .before .before .args .from .at) (c .before .before .before .before .loop .v) (c .before .before .before .before .loop .i) (c .before .before .before .before .loop .inv) (c .before .before .before .digit-at2 .result) (c .before .before .if2 .left) (c .before .before .before .digit-at2 .ensures) (c .if4 .taken)
+returns-4 c =
+    let args = c .before .before .before .before .before .before .before .before .args in
+    let loop = c .before .before .before .before .loop in
+    let digit-at2 = c .before .before .before .digit-at2 in
+    let if2 = c .before .before .if2 in
+    λ w r. scan-many (args .most) (args .s .now) (args .from .at) (loop .v) (loop .i) (loop .inv) (digit-at2 .result) (if2 .left) (digit-at2 .ensures) (c .if4 .taken)
 
 mul-v : tie.Need-mul-v Inv-loop μ-loop
-mul-v c = let f = scan-fits (c .before .before .before .before .before .before .before .before .args .most) (c .before .before .before .before .before .before .before .before .args .s .now) (c .before .before .before .before .before .before .before .before .args .from .at) (c .before .before .before .before .loop .v) (c .before .before .before .before .loop .i) (c .before .before .before .before .loop .inv) (c .before .before .before .digit-at2 .result) (c .before .before .if2 .left) (c .before .before .before .digit-at2 .ensures) (c .before .before .before .before .before .before .before .before .pre .1) (c .if4 .left) in omega arith
+mul-v c =
+    let args = c .before .before .before .before .before .before .before .before .args in
+    let pre = c .before .before .before .before .before .before .before .before .pre in
+    let loop = c .before .before .before .before .loop in
+    let digit-at2 = c .before .before .before .digit-at2 in
+    let if2 = c .before .before .if2 in
+    let f = scan-fits (args .most) (args .s .now) (args .from .at) (loop .v) (loop .i) (loop .inv) (digit-at2 .result) (if2 .left) (digit-at2 .ensures) (pre .1) (c .if4 .left) in omega arith
 
 add-v : tie.Need-add-v Inv-loop μ-loop
-add-v c = let f = scan-fits (c .before .before .before .before .before .before .before .before .args .most) (c .before .before .before .before .before .before .before .before .args .s .now) (c .before .before .before .before .before .before .before .before .args .from .at) (c .before .before .before .before .loop .v) (c .before .before .before .before .loop .i) (c .before .before .before .before .loop .inv) (c .before .before .before .digit-at2 .result) (c .before .before .if2 .left) (c .before .before .before .digit-at2 .ensures) (c .before .before .before .before .before .before .before .before .pre .1) (c .if4 .left) in omega arith
+add-v c =
+    let args = c .before .before .before .before .before .before .before .before .args in
+    let pre = c .before .before .before .before .before .before .before .before .pre in
+    let loop = c .before .before .before .before .loop in
+    let digit-at2 = c .before .before .before .digit-at2 in
+    let if2 = c .before .before .if2 in
+    let f = scan-fits (args .most) (args .s .now) (args .from .at) (loop .v) (loop .i) (loop .inv) (digit-at2 .result) (if2 .left) (digit-at2 .ensures) (pre .1) (c .if4 .left) in omega arith
 
 add-i-2 : tie.Need-add-i-2 Inv-loop μ-loop
 add-i-2 c = let h = c .before .before .before .digit-at2 .ensures .here (c .before .before .if2 .left) .0 in omega arith
@@ -58,7 +88,13 @@ loop-less : tie.Need-loop-less Inv-loop μ-loop
 loop-less c = let h = c .before .before .before .digit-at2 .ensures .here (c .before .before .if2 .left) .0 in omega arith
 
 loop-again : tie.Need-loop-again Inv-loop μ-loop
-loop-again c = scan-more (c .before .before .before .before .before .before .before .before .args .most) (c .before .before .before .before .before .before .before .before .args .s .now) (c .before .before .before .before .before .before .before .before .args .from .at) (c .before .before .before .before .loop .v) (c .before .before .before .before .loop .i) (c .before .before .before .before .loop .inv) (c .before .before .before .digit-at2 .result) (c .before .before .if2 .left) (c .before .before .before .digit-at2 .ensures) (c .before .if3 .left) (c .if4 .left)
+loop-again c =
+    let args = c .before .before .before .before .before .before .before .before .args in
+    let loop = c .before .before .before .before .loop in
+    let digit-at2 = c .before .before .before .digit-at2 in
+    let if2 = c .before .before .if2 in
+    let if3 = c .before .if3 in
+    scan-more (args .most) (args .s .now) (args .from .at) (loop .v) (loop .i) (loop .inv) (digit-at2 .result) (if2 .left) (digit-at2 .ensures) (if3 .left) (c .if4 .left)
 
 pub read-number-spec : {M : Type 1} → statement M
 read-number-spec =

@@ -22,7 +22,11 @@ read-number-requires : tie.Need-read-number-requires
 read-number-requires c κs = search needs
 
 below-zero-requires : tie.Need-below-zero-requires
-below-zero-requires c κs = small-enough (c .before .before .before .before .before .before .before .args .most) (c .before .before .before .before .before .before .before .args .s .now) (c .before .before .minus .given .0 .0 .at) (c .before .before .before .before .before .before .before .pre .1) (c .read-number .result) (c .read-number .ensures)
+below-zero-requires c κs =
+    let args = c .before .before .before .before .before .before .before .args in
+    let pre = c .before .before .before .before .before .before .before .pre in
+    let minus = c .before .before .minus in
+    small-enough (args .most) (args .s .now) (minus .given .0 .0 .at) (pre .1) (c .read-number .result) (c .read-number .ensures)
 
 enum-told : tie.Need-enum-told
 enum-told c = search needs
@@ -31,15 +35,27 @@ read-number-requires-2 : tie.Need-read-number-requires-2
 read-number-requires-2 c κs = search needs
 
 above-zero-requires : tie.Need-above-zero-requires
-above-zero-requires c κs = small-enough (c .before .before .before .before .before .before .args .most) (c .before .before .before .before .before .before .args .s .now) (c .before .before .before .before .before .before .args .from .at) (c .before .before .before .before .before .before .pre .1) (c .read-number2 .result) (c .read-number2 .ensures)
+above-zero-requires c κs =
+    let args = c .before .before .before .before .before .before .args in
+    let pre = c .before .before .before .before .before .before .pre in
+    small-enough (args .most) (args .s .now) (args .from .at) (pre .1) (c .read-number2 .result) (c .read-number2 .ensures)
 
 returns : tie.Need-returns
 unfolding Expected
-returns c = subst (ReadSigned (c .before .before .before .before .before .before .before .before .args .most) (c .before .before .before .before .before .before .before .before .args .s .now) (c .before .before .before .before .before .before .before .before .args .from .at)) (sym (c .below-zero .ensures)) (signed-below (c .before .before .before .before .before .before .before .before .args .most) (c .before .before .before .before .before .before .before .before .args .s .now) (c .before .before .before .before .before .before .before .before .args .from .at) (c .before .before .before .minus .given .0 .0 .at) (subst (Expected (minus ∷ []) (c .before .before .before .before .before .before .before .before .args .s .now) (c .before .before .before .before .before .before .before .before .args .from .at)) (c .before .before .before .minus .given .1) (c .before .before .before .before .before .expect .ensures)) (c .before .read-number .result) (c .before .read-number .ensures))
+returns c =
+    let args = c .before .before .before .before .before .before .before .before .args in
+    let expect = c .before .before .before .before .before .expect in
+    let read-number = c .before .read-number in
+    subst (ReadSigned (args .most) (args .s .now) (args .from .at)) (sym (c .below-zero .ensures)) (signed-below (args .most) (args .s .now) (args .from .at) (c .before .before .before .minus .given .0 .0 .at) (subst (Expected (minus ∷ []) (args .s .now) (args .from .at)) (c .before .before .before .minus .given .1) (expect .ensures)) (read-number .result) (read-number .ensures))
 
 returns-2 : tie.Need-returns-2
 unfolding Expected
-returns-2 c = subst (ReadSigned (c .before .before .before .before .before .before .before .args .most) (c .before .before .before .before .before .before .before .args .s .now) (c .before .before .before .before .before .before .before .args .from .at)) (sym (c .above-zero .ensures)) (signed-above (c .before .before .before .before .before .before .before .args .most) (c .before .before .before .before .before .before .before .args .s .now) (c .before .before .before .before .before .before .before .args .from .at) (subst (Expected (minus ∷ []) (c .before .before .before .before .before .before .before .args .s .now) (c .before .before .before .before .before .before .before .args .from .at)) (c .before .before .enum-told .given .1) (c .before .before .before .before .expect .ensures)) (c .before .read-number2 .result) (c .before .read-number2 .ensures))
+returns-2 c =
+    let args = c .before .before .before .before .before .before .before .args in
+    let expect = c .before .before .before .before .expect in
+    let enum-told = c .before .before .enum-told in
+    let read-number2 = c .before .read-number2 in
+    subst (ReadSigned (args .most) (args .s .now) (args .from .at)) (sym (c .above-zero .ensures)) (signed-above (args .most) (args .s .now) (args .from .at) (subst (Expected (minus ∷ []) (args .s .now) (args .from .at)) (enum-told .given .1) (expect .ensures)) (read-number2 .result) (read-number2 .ensures))
 
 pub read-signed-spec : {M : Type 1} → statement M
 read-signed-spec =

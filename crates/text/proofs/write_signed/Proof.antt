@@ -43,7 +43,13 @@ same-length-2 : tie.Need-same-length-2
 same-length-2 c = search needs
 
 returns-2 : tie.Need-returns-2
-returns-2 c = sign-none _ _ _ (c .before .before .before .before .before .size .result) _ (signed (c .before .before .before .before .before .before .before .args .z)) (signed-pos (c .before .before .before .before .before .before .before .args .z) (c .before .before .before .before .before .before .before .fits .z) (c .before .before .before .before .if1 .left) ∙ ap decimal (sym (c .before .before .before .before .before .size .ensures ∙ ap natAbs (toZ-ofZ w64 (c .before .before .before .before .before .before .before .args .z) (c .before .before .before .before .before .before .before .fits .z))))) (c .before .before .write-number2 .ensures)
+returns-2 c =
+    let args = c .before .before .before .before .before .before .before .args in
+    let fits = c .before .before .before .before .before .before .before .fits in
+    let size = c .before .before .before .before .before .size in
+    let if1 = c .before .before .before .before .if1 in
+    let write-number2 = c .before .before .write-number2 in
+    sign-none _ _ _ (size .result) _ (signed (args .z)) (signed-pos (args .z) (fits .z) (if1 .left) ∙ ap decimal (sym (size .ensures ∙ ap natAbs (toZ-ofZ w64 (args .z) (fits .z))))) (write-number2 .ensures)
 
 pub write-signed-spec : {M : Type 1} → statement M
 write-signed-spec =

@@ -41,7 +41,12 @@ same-length-4 : tie.Need-same-length-4
 same-length-4 c = search needs
 
 returns-2 : tie.Need-returns-2
-returns-2 c = rw (c .before .before .before .before .before .before .before .before .before .before .order .given .1, sym (c .before .before .before .before .before .before .asked-of .ensures ∙ ap asked-by (c .before .before .before .before .before .before .before .read-limit .ensures))) (c .before .before .before .before .thin-as2 .ensures)
+returns-2 c =
+    let order = c .before .before .before .before .before .before .before .before .before .before .order in
+    let read-limit = c .before .before .before .before .before .before .before .read-limit in
+    let asked-of = c .before .before .before .before .before .before .asked-of in
+    let thin-as2 = c .before .before .before .before .thin-as2 in
+    rw (order .given .1, sym (asked-of .ensures ∙ ap asked-by (read-limit .ensures))) (thin-as2 .ensures)
 
 pub thin-spec : {M : Type 1} → statement M
 thin-spec =

@@ -23,7 +23,13 @@ enum-known-a : tie.Need-enum-known-a
 enum-known-a c = search needs
 
 go-on-requires : tie.Need-go-on-requires
-go-on-requires c κs = (thin-ready (c .before .before .before .before .before .before .before .before .before .before .before .args .a) (c .before .before .before .before .before .before .before .before .before .before .before .args .corners .now) (c .before .before .before .before .before .before .before .before .before .before .before .args .table .now) (length (c .before .before .before .before .before .before .before .before .before .before .before .args .log .now)) (rw (c .before .before .before .before .before .enum-told .given .1) at (c .before .before .before .before .before .before .before .judge .ensures)) (c .before .before .before .before .before .before .before .before .before .before .before .args .log .now) refl, thin-measured (c .before .before .before .before .before .before .before .before .before .before .before .args .a) (c .before .before .before .before .before .before .before .before .before .before .before .args .corners .now) (c .before .before .before .before .before .before .before .before .before .before .before .args .table .now) (length (c .before .before .before .before .before .before .before .before .before .before .before .args .log .now)) (rw (c .before .before .before .before .before .enum-told .given .1) at (c .before .before .before .before .before .before .before .judge .ensures)) _ (c .before .before .before .a .given .1) (c .before .before .before .before .before .before .before .before .before .before .before .pre))
+go-on-requires c κs =
+    let args = c .before .before .before .before .before .before .before .before .before .before .before .args in
+    let pre = c .before .before .before .before .before .before .before .before .before .before .before .pre in
+    let judge = c .before .before .before .before .before .before .before .judge in
+    let enum-told = c .before .before .before .before .before .enum-told in
+    let a = c .before .before .before .a in
+    (thin-ready (args .a) (args .corners .now) (args .table .now) (length (args .log .now)) (rw (enum-told .given .1) at (judge .ensures)) (args .log .now) refl, thin-measured (args .a) (args .corners .now) (args .table .now) (length (args .log .now)) (rw (enum-told .given .1) at (judge .ensures)) _ (a .given .1) pre)
 
 same-length : tie.Need-same-length
 same-length c = search needs
@@ -44,7 +50,13 @@ same-length-4 : tie.Need-same-length-4
 same-length-4 c = search needs
 
 returns-3 : tie.Need-returns-3
-returns-3 c = thin-done (c .before .before .before .before .before .before .before .before .before .before .before .before .before .before .before .before .args .a) (c .before .before .before .before .before .before .before .before .before .before .before .before .before .before .before .before .args .corners .now) (c .before .before .before .before .before .before .before .before .before .before .before .before .before .before .before .before .args .table .now) (length (c .before .before .before .before .before .before .before .before .before .before .before .before .before .before .before .before .args .log .now)) (rw (c .before .before .before .before .before .before .before .before .before .before .enum-told .given .1) at (c .before .before .before .before .before .before .before .before .before .before .before .before .judge .ensures)) _ (c .before .before .before .before .before .before .before .before .a .given .1) (c .before .before .before .before .before .before .before .before .before .before .before .before .before .before .before .before .args .log .now) refl (c .before .before .before .before .go-on .result) _ _ (c .before .before .before .before .go-on .ensures)
+returns-3 c =
+    let args = c .before .before .before .before .before .before .before .before .before .before .before .before .before .before .before .before .args in
+    let judge = c .before .before .before .before .before .before .before .before .before .before .before .before .judge in
+    let enum-told = c .before .before .before .before .before .before .before .before .before .before .enum-told in
+    let a = c .before .before .before .before .before .before .before .before .a in
+    let go-on = c .before .before .before .before .go-on in
+    thin-done (args .a) (args .corners .now) (args .table .now) (length (args .log .now)) (rw (enum-told .given .1) at (judge .ensures)) _ (a .given .1) (args .log .now) refl (go-on .result) _ _ (go-on .ensures)
 
 pub thin-as-spec : {M : Type 1} → statement M
 thin-as-spec =
