@@ -2,7 +2,7 @@
 use mathlib.Core.Path.{_≡_, refl, sym, _∙_}
 use mathlib.Core.Logic.{_≢_}
 use mathlib.Core.List.{List}
-use Prim.Native.Nat.{ℕ, _+_, _*_, _/_, _≤_, _<_}
+use Prim.Native.Nat.{ℕ, _/_, _≤_}
 use native.Mathlib.Omega.{arith}
 use lib.ListN.{length}
 use Rattle.surface.specs.Rows.{Row, rows}
@@ -10,12 +10,10 @@ use Rattle.surface.specs.Table.{Edge, Used}
 use Rattle.surface.specs.Stage.{Stage, StageTable}
 use Rattle.surface.specs.Record.{Record}
 use Rattle.surface.specs.Grow.{Ends}
-use Rattle.surface.specs.Accept.{Accepted, Local}
+use Rattle.surface.specs.Accept.{Local}
 use Rattle.surface.proofs.Following.{re-edge}
 use Rattle.surface.proofs.Accepting.{ends-one}
-use Rattle.surface.proofs.Main.{accepted-local}
 use Rattle.record.specs.declared.Corner.{Corner}
-use Rattle.ends.specs.declared.Ends as code
 use Rattle.ends.specs.declared.Ends.the-variants.{At, Nothing}
 use Rattle.accept.specs.Noted.{Round, Near, TwoNear}
 use Rattle.ends.specs.Rows.{EndsAre}
@@ -57,17 +55,6 @@ module _ (n : ℕ) (T : List Row) (k : Record) (s : Stage n T) where
       at-x = gx;
       at-y = gy;
     }
-
-  -- nothing is answered exactly where the scope accepts the record to no table
-  pub answer-accepts : (e : code.Ends) → Answered n T k e → ((T₀ : List Row) × Accepted n T k T₀) → e ≢ Nothing
-  unfolding Answered
-  answer-accepts (At x y) a g h = let z : _≡_ {A = ℕ} 0 1 = cc in omega arith
-  answer-accepts Nothing a g h = a ((accepted-local n T s k) .0 g)
-
-  pub answer-refuses : (e : code.Ends) → Answered n T k e → ((T₀ : List Row) → ¬ Accepted n T k T₀) → e ≡ Nothing
-  unfolding Answered
-  answer-refuses (At x y) a g = absurd (let w = (accepted-local n T s k) .1 (a .0) in g (w .0) (w .1))
-  answer-refuses Nothing a g = refl
 
 -- the answers of the test, as it goes through the parts
 module _ (n : ℕ) (t : List ℕ) (k : Record) (w : StageTable n t) where

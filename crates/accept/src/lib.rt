@@ -2,7 +2,6 @@
 use ends::Ends;
 use record::Corner;
 use record::Record;
-ghost use mathlib.Core.Path.{_≡_};
 ghost use Prim.Native.Nat.{_+_, _≤_, _<_};
 ghost use lib.ListN.{length};
 ghost use Rattle.surface.specs.Limits.{most-rows};

@@ -66,11 +66,6 @@ passing vs e = rw e
 pub refusing : (vs : List ℤ) {v : Verdict} {r : Refusal} → v ≡ Refused r → refused r ≡ outcome v vs
 refusing vs e = rw e
 
--- and the other way: what is done has passed, with just these values
-pub done-passed : (v : Verdict) {vs ws : List ℤ} → done vs ≡ outcome v ws → (v ≡ Passes) × (vs ≡ ws)
-done-passed Passes e = (refl, ap (λ (t : Told). t .values) e)
-done-passed (Refused r) e = absurd (refused-done r (sym e))
-
 -- one verdict and the same values have one outcome
 pub outcome-one : (vs : List ℤ) {v w : Verdict} {a b : Told} → v ≡ w → a ≡ outcome v vs → b ≡ outcome w vs → a ≡ b
 outcome-one vs e p q = p ∙ ap (λ (v : Verdict). outcome v vs) e ∙ sym q

@@ -1,7 +1,7 @@
 -- What the lengths of what is handed back tell of its place in the caller's memory.
 use mathlib.Core.Path.{_≡_, refl, sym, _∙_, ap}
 use mathlib.Core.Logic.{inl, inr}
-use mathlib.Core.List.{List, [], _∷_, _++_}
+use mathlib.Core.List.{List, []}
 use Prim.Native.Nat.{ℕ, _+_, _≤_, _<_}
 use native.Mathlib.Omega.{arith}
 use lib.ListN.{length, drop, length-append}
@@ -10,7 +10,6 @@ use denote.Ref.{RefT}
 use Rattle.link.specs.Chosen.{Chosen}
 use Rattle.catchup.specs.CatchUp.{Beginning, PartOf, CaughtUp, second-longer, first-longer, equal, neither}
 use Rattle.catchup.proofs.Beginnings.{no-rest}
-use Rattle.bridge.specs.declared.Part.{Part}
 use Rattle.bridge.specs.Lent.{the-first, the-second, RingShown, RestOf, nothing, of-second, of-first, PartShown}
 
 -- ---- rings

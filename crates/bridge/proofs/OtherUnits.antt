@@ -1,5 +1,5 @@
 -- A unit past 3 is none: its limit is unusable, so the answer is 1 and nothing is written.
-use mathlib.Core.Path.{_≡_, refl, ap}
+use mathlib.Core.Path.{_≡_, refl}
 use mathlib.Core.Logic.{inl}
 use mathlib.Core.List.{List}
 use Prim.Native.Nat.{ℕ, _<_}

@@ -21,7 +21,7 @@ use Rattle.regrow.specs.Outcome.{GrownAs, grown}
 use Rattle.regrow.proofs.Main.{grow-passes, grown-one}
 use Rattle.replay.specs.Outcome.{ReplayedAs}
 use Rattle.promises.proofs.Back.{restored, replayed}
-use Rattle.cases.specs.Skins.{O, O-corners}
+use Rattle.cases.specs.Skins.{O}
 use Rattle.cases.specs.Cases.{O-last, O-log, O-one, O-two}
 use Rattle.cases.proofs.Starred.{case-O, k₂, second-step, O-one-table, O-two-table}
 

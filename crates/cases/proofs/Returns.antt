@@ -1,5 +1,5 @@
 -- A skin on which a limit returns to a lower corner: it keeps 2 first, and then 1. A program that never returns is refuted by it.
-use mathlib.Core.Path.{_≡_, refl, ap}
+use mathlib.Core.Path.{refl, ap}
 use mathlib.Core.Logic.{_≢_}
 use mathlib.Core.List.{List, [], _∷_}
 use Prim.Native.Nat.{ℕ}
@@ -8,7 +8,7 @@ use native.Mathlib.Omega.{arith}
 use lib.Ieee.{binary64, ofBits}
 use lib.IntN.{ℤ, pos}
 use lib.ListN.{getD}
-use Rattle.surface.specs.Rows.{Row, row, rows, flat}
+use Rattle.surface.specs.Rows.{row, rows, flat}
 use Rattle.surface.specs.Table.{edges}
 use Rattle.surface.specs.Stage.{Skin}
 use Rattle.surface.specs.Contract.{contract, renumber, replace, stays?, holds?}

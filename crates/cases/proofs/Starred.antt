@@ -1,25 +1,23 @@
 -- The starred cases hold: for each the listed outcome is allowed, and thinning has no second one.
-use mathlib.Core.Path.{_≡_, refl, sym, _∙_, ap}
-use mathlib.Core.Logic.{_≢_, inl, inr}
+use mathlib.Core.Path.{_≡_, refl, _∙_, ap}
+use mathlib.Core.Logic.{inl, inr}
 use mathlib.Core.Bool.{Bool, true}
-use mathlib.Core.List.{List, [], _∷_, List·Memᴰ·head, List·Memᴰ·tail, _++_}
-use Prim.Native.Nat.{ℕ, zero, suc, _-_, _*_, _≤_, _<_, _%_}
+use mathlib.Core.List.{List, [], _∷_, List·Memᴰ·head, _++_}
+use Prim.Native.Nat.{ℕ, _-_, _*_, _≤_, _%_}
 use native.Mathlib.Decide.{ℕ-discrete}
 use native.Mathlib.Omega.{arith}
 use lib.Dec.{T as So, leb, leb→le, le→leb}
-use lib.Ieee.{binary64, ofBits, ofFields, odd}
-use lib.Count.{trailingZeros}
+use lib.Ieee.{ofBits}
 use lib.IntN.{ℤ, pos, negℤ}
 use lib.ListN.{length, take, replicate}
 use Rattle.surface.specs.Rows.{Row, row, rows, flat}
 use Rattle.surface.specs.Table.{edges}
-use Rattle.surface.specs.Stage.{Skin, StageTable, InRange}
+use Rattle.surface.specs.Stage.{StageTable, InRange}
 use Rattle.surface.specs.Contract.{contract, renumber, replace, stays?, holds?}
 use Rattle.surface.specs.Record.{at, later, leaving, Record, Replayed}
 use Rattle.refusal.specs.First.{First}
 use Rattle.refusal.specs.declared.Verdict.the-variants as verdict
 use Rattle.refusal.specs.declared.Refusal.the-variants.{EdgeTwice}
-use Rattle.verdicts.proofs.Laws.{first-before}
 use Rattle.faults.specs.Counts.{CountsFitAt, corners}
 use Rattle.faults.specs.Words.{Twice, again, later as after}
 use Rattle.faults.specs.Order.{lines-after-counts, row-lines}
@@ -36,17 +34,14 @@ use Rattle.volume.proofs.Main.{volume-one, change-one, volume-there, change-the
 use Rattle.length.specs.declared.Order.{Order}
 use Rattle.length.specs.declared.Order.the-variants.{NoLimit}
 use Rattle.length.specs.Limit.{capped, reading, limit-of}
-use Rattle.least.specs.declared.Bound.{Bound}
 use Rattle.least.specs.declared.Bound.the-variants.{Free, Within}
 use Rattle.least.specs.Limited.{Allowed}
 use Rattle.run.proofs.Main.{taken-replayed}
 use Rattle.record.specs.Layout.{log-of, first-records, records}
-use Rattle.thin.specs.declared.Asked.{Asked}
-use Rattle.thin.specs.declared.Asked.the-variants.{Under, NoUse}
+use Rattle.thin.specs.declared.Asked.the-variants.{Under}
 use Rattle.thin.specs.declared.Thinning.{Thinning}
 use Rattle.thin.specs.declared.Thinning.the-variants.{Done, Refused}
-use Rattle.thin.specs.Order.{asked}
-use Rattle.thin.specs.Thin.{need, thin-lines, Thinned, ThinnedAs, refused, done}
+use Rattle.thin.specs.Thin.{thin-lines, Thinned, refused, done}
 use Rattle.thin.proofs.Main.{thinned-one, thin-passes}
 use Rattle.thin.proofs.Judging.{under-usable}
 use Rattle.regrow.specs.declared.Regrown.the-variants as regrown
@@ -54,10 +49,10 @@ use Rattle.replay.specs.Redone.{all}
 use Rattle.replay.specs.Outcome.{ReplayFits, replayed}
 use Rattle.replay.proofs.Main.{replay-passes, replay-one}
 use Rattle.surface.proofs.Testing.{every}
-use Rattle.computed.proofs.Passing.{row-fits, rows-below, passes, passes-stage}
-use Rattle.computed.proofs.Running.{Passing, least, over, Steps, stays-at, goes-on, steps-taken, run-sound, run-same}
+use Rattle.computed.proofs.Passing.{row-fits, rows-below, passes-stage}
+use Rattle.computed.proofs.Running.{Passing, least, Steps, stays-at, goes-on, steps-taken, run-sound, run-same}
 use Rattle.cases.specs.Skins.{T, T-corners, T-turned, O, O-corners, M, M-corners}
-use Rattle.cases.specs.Cases.{Case, thins, weighs, changes, replays, Holds, cm-141, cm-142, lent, O-last, O-log, O-one, O-two, starred, All, all-none, all-more}
+use Rattle.cases.specs.Cases.{thins, weighs, changes, replays, Holds, cm-141, cm-142, lent, O-last, O-log, O-one, O-two, starred, All, all-none, all-more}
 use Rattle.cases.proofs.Skinned.{T-skin, O-skin, M-skin}
 
 -- the listed outcome is the only one

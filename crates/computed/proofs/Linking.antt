@@ -1,16 +1,14 @@
 -- A test of the link condition that computes, and says neither too much nor too little.
-use mathlib.Core.Path.{_≡_, refl, sym, _∙_, ap}
-use mathlib.Core.Logic.{_≢_, _⊎_, inl, inr}
+use mathlib.Core.Path.{_≡_}
+use mathlib.Core.Logic.{_⊎_, inl, inr}
 use mathlib.Core.Bool.{Bool, true, false, _&&_, _||_, not}
-use mathlib.Core.List.{List, [], _∷_, map, Memᴰ·map, Memᴰ·of-map}
+use mathlib.Core.List.{List, map, Memᴰ·map, Memᴰ·of-map}
 use Prim.Native.Nat.{ℕ}
 use lib.Dec.{T as So, eqb, eqb→eq, eqb-refl, T-not, not-T}
-use Rattle.surface.specs.Rows.{Row, row}
+use Rattle.surface.specs.Rows.{Row}
 use Rattle.surface.specs.Lists.{_∈_}
 use Rattle.surface.specs.Table.{Arrow, _⇒_, Follows, Edge, edges}
-use Rattle.surface.specs.Stage.{Stage}
 use Rattle.surface.specs.Link.{Meets, Link}
-use Rattle.surface.proofs.Once.{turn, edge-in}
 use Rattle.surface.proofs.Testing.{and-l, and-r, and-in, or-in, or-l, or-r, every, every-at, every-in, among, among-sound, among-whole, arrow-eq, arrow-sound, arrow-whole}
 use Rattle.surface.proofs.Round.{round, round-sound, round-whole, source-of}
 
@@ -120,6 +118,3 @@ meet T (p ⇒ q) = linked p q T
 -- no edge of the table meets the link condition
 abbrev pub still : List Row → Bool
 still T = every (λ x. not (meet T x)) (edges T)
-
-pub still-sound : (T : List Row) → So (still T) → {a b : ℕ} → Meets T a b → ⊥
-still-sound T h {a} {b} m = T-not (linked a b T) (every-at (λ x. not (meet T x)) (edges T) h (edge-in (m .edge))) (linked-whole a b T m)

@@ -1,14 +1,14 @@
 -- A run that passes a computed test is a run.
-use mathlib.Core.Path.{_≡_, refl, sym, _∙_}
+use mathlib.Core.Path.{_≡_, refl}
 use mathlib.Core.Logic.{_⊎_, inl, inr}
-use mathlib.Core.Bool.{Bool, true, _&&_, _||_, not}
+use mathlib.Core.Bool.{Bool, _&&_, _||_, not}
 use mathlib.Core.List.{List, [], _∷_}
-use Prim.Native.Nat.{ℕ, _<_}
+use Prim.Native.Nat.{ℕ}
 use lib.Dec.{T as So, eqb, ltb, leb, eqb→eq, ltb→lt, lt→ltb, leb→le, T-not}
 use Rattle.surface.specs.Rows.{Row}
 use Rattle.surface.specs.Table.{Arrow, _⇒_, edges}
 use Rattle.surface.specs.Contract.{contract}
-use Rattle.surface.specs.Record.{leaving, Record, placed, Replays}
+use Rattle.surface.specs.Record.{leaving, Record, placed}
 use Rattle.surface.proofs.Once.{edge-in}
 use Rattle.surface.proofs.Testing.{and-l, and-r, and-in, or-in, every, every-at}
 use Rattle.run.specs.Run.{NotAfter, lower, level, Qualifies, Least, Taken, none-yet, one-more, Over, Run}

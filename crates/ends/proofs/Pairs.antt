@@ -1,6 +1,5 @@
 -- x and y of a record, from its rows' directed edges.
 use mathlib.Core.Path.{_≡_}
-use mathlib.Core.Logic.{_≢_}
 use Prim.Native.Nat.{ℕ}
 use Rattle.surface.specs.Rows.{Row, row, Turned, turn-0, turn-1, turn-2}
 use Rattle.surface.specs.Grow as grow

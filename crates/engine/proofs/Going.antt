@@ -9,11 +9,11 @@ use Rattle.surface.specs.Limits.{least-corners}
 use Rattle.surface.specs.Lists.{Exactly}
 use Rattle.surface.specs.Rows.{Row, rows}
 use Rattle.surface.specs.Table.{Used}
-use Rattle.surface.specs.Stage.{Stage, StageTable}
+use Rattle.surface.specs.Stage.{Stage}
 use Rattle.surface.specs.Record as surface
 use Rattle.surface.specs.Contract.{contract}
 use Rattle.surface.proofs.Main.{contraction, four-used, corners-there, one-fewer}
-use Rattle.run.specs.Run.{Least, Taken, none-yet, Over, Run}
+use Rattle.run.specs.Run.{Least, Taken, none-yet, Over}
 use Rattle.run.proofs.Main.{taken-more, step-corners}
 use Rattle.record.specs.declared.Record.{Record}
 use Rattle.record.specs.Layout.{width, log-of, numbers, meant}

@@ -144,16 +144,6 @@ pub after-2 : (n : ℕ) (t : List ℕ) (v : Verdict) → CountsFit n t → First
 unfolding lines
 after-2 n t v fit f = first-after _ _ v (λ n. n fit) f
 
--- passing gives a skin, or a stage
-pub pass-skin : {xs : List ℤ} {t : List ℕ} → CheckedFirst xs t Passes → Skin (corners xs) (rows t) xs
-pass-skin k = k .skin refl
-
-pub pass-stage-at : {xs : List ℤ} {t : List ℕ} → CheckedStageAt xs t Passes → Stage (corners xs) (rows t) × InRange xs
-pass-stage-at k = (k .stage refl, k .in-range refl)
-
-pub pass-stage : {n : ℕ} {t : List ℕ} → CheckedStage n t Passes → Stage n (rows t)
-pass-stage k = k .stage refl
-
 -- no second verdict
 pub one-first : {xs : List ℤ} {t : List ℕ} {v w : Verdict} → CheckedFirst xs t v → CheckedFirst xs t w → v ≡ w
 one-first k l = first-one _ (k .holds) (l .holds)

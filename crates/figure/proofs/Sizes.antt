@@ -2,7 +2,6 @@
 use mathlib.Core.Path.{_≡_, refl}
 use mathlib.Core.List.{List, [], _∷_, List·Memᴰ·head, List·Memᴰ·tail}
 use Prim.Native.Nat.{ℕ, zero, suc, _+_, _*_, _^_, _≤_, _<_}
-use native.Mathlib.Nat.{mul-le-mul}
 use native.Mathlib.Omega.{arith}
 use lib.IntN.{ℤ, pos, _-ℤ_, natAbs}
 use lib.ListN.{length, getD}
@@ -13,7 +12,7 @@ use Rattle.surface.specs.Rows.{Row, row}
 use Rattle.surface.specs.Stage.{Stage, InRange}
 use Rattle.ints.proofs.Ints.{abs-add, abs-minus}
 use Rattle.ints.proofs.Machine.{Is, var, fits, kept, times, plus, less, sfits-abs}
-use Rattle.figure.specs.Corners.{coordinate, gap, gap-bound, squared-distance}
+use Rattle.figure.specs.Corners.{coordinate}
 use Rattle.figure.specs.Sum.{minor, determinant, sixfold, WithCoordinates, minor-bound, row-bound, sum-bound}
 
 -- a checked stage with its coordinates
@@ -52,15 +51,7 @@ module _ (xs : List ℤ) (r : InRange xs) where
   unfolding sixfold
   sixfold-size [] = omega arith
   sixfold-size (row a b c ∷ T) = omega (arith, abs-add (determinant xs a b c) (sixfold xs T), determinant-size a b c, sixfold-size T)
-
   -- ---- squared distances
-
-  pub distance-size : (a b : ℕ) → squared-distance xs a b ≤ 3 * (gap-bound * gap-bound)
-  unfolding squared-distance
-  distance-size a b =
-      let off : (j : ℕ) → gap xs a b j ≤ gap-bound = λ j. less (at a j) (at b j) .size in
-      let square : (j : ℕ) → gap xs a b j * gap xs a b j ≤ gap-bound * gap-bound = λ j. mul-le-mul (off j) (off j) in
-      omega (arith, square 0, square 1, square 2)
 
 -- ---- what fits an i64: these two fail first where the limits grow
 

@@ -1,12 +1,12 @@
 -- The loop over the rows of a flat table: what holds of the sum so far and of the rows from place i on, and one turn.
 use mathlib.Core.Path.{_≡_, refl, sym, _∙_, ap}
-use mathlib.Core.List.{List, [], _∷_, List·Memᴰ·head, List·Memᴰ·tail}
+use mathlib.Core.List.{List, _∷_, List·Memᴰ·head, List·Memᴰ·tail}
 use Prim.Native.Nat.{ℕ, suc, _+_, _-_, _*_, _≤_, _<_}
 use native.Mathlib.Omega.{arith}
 use lib.IntN.{ℤ, pos, _+ℤ_, +ℤ-assoc, +ℤ-idl, +ℤ-idr, natAbs}
-use lib.ListN.{length, drop, getD, length-drop}
+use lib.ListN.{length, drop, getD}
 use Rattle.surface.specs.Rows.{Row, row, rows, Turned, turn-0, turn-1, turn-2}
-use Rattle.surface.proofs.Flat.{row-from, one-row, no-row}
+use Rattle.surface.proofs.Flat.{one-row, no-row}
 use Rattle.ints.proofs.Ints.{abs-add}
 use Rattle.figure.specs.Corners.{Has}
 use Rattle.figure.specs.Sum.{determinant, sixfold, WithCoordinates, row-bound, sum-bound}

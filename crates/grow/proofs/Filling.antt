@@ -1,10 +1,10 @@
 -- Rooms with rows in front: read, filled again, and a row put in.
 use mathlib.Core.Path.{_≡_, refl, sym, _∙_, ap, ap₂}
 use mathlib.Core.List.{List, [], _∷_, _++_, append-assoc}
-use Prim.Native.Nat.{ℕ, zero, suc, _+_, _-_, _*_, _≤_, _<_}
+use Prim.Native.Nat.{ℕ, zero, suc, _+_, _-_, _*_, _≤_}
 use native.Mathlib.Omega.{arith}
 use lib.ListN.{length, take, drop, set, length-append, length-drop, take-append-drop}
-use lib.Seq.{take-at, drop-at, take-take, drop-drop, length-take-le, drop-append-add, sets, sets-eq}
+use lib.Seq.{take-at, take-take, drop-drop, length-take-le, drop-append-add, sets-eq}
 use Rattle.surface.specs.Rows.{Row, row, rows, flat}
 use Rattle.surface.specs.Grow.{put}
 use Rattle.surface.proofs.Flat.{rows-flat, flat-length, flat-rows, rows-length}

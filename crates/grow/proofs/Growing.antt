@@ -2,15 +2,15 @@
 use mathlib.Core.Path.{_≡_, refl, sym, _∙_, ap}
 use mathlib.Core.Bool.{true, false}
 use mathlib.Core.List.{List, _++_}
-use Prim.Native.Nat.{ℕ, _+_, _*_, _≤_, _<_}
+use Prim.Native.Nat.{ℕ, _+_, _*_, _≤_}
 use native.Mathlib.Omega.{arith}
 use lib.ListN.{length, take, drop}
 use lib.Seq.{length-take-le}
-use Rattle.surface.specs.Rows.{Row, rows, flat}
+use Rattle.surface.specs.Rows.{Row, rows}
 use Rattle.surface.specs.Stage.{StageTable}
 use Rattle.surface.specs.Record.{Record, placed}
 use Rattle.surface.specs.Grow.{put, put-back}
-use Rattle.surface.specs.Accept.{Accepted, Local}
+use Rattle.surface.specs.Accept.{Accepted}
 use Rattle.surface.proofs.Following.{re-edge}
 use Rattle.surface.proofs.Flat.{flat-rows, rows-length}
 use Rattle.surface.proofs.Put.{put-length}

@@ -1,9 +1,9 @@
 -- Numbers moved three slots on, the last first.
 use mathlib.Core.Path.{_≡_, refl, sym, _∙_, ap, ap₂}
-use mathlib.Core.List.{List, [], _∷_, _++_}
+use mathlib.Core.List.{List, _∷_, _++_}
 use Prim.Native.Nat.{ℕ, suc, _+_, _-_, _≤_, _<_}
 use native.Mathlib.Omega.{arith}
-use lib.ListN.{length, take, drop, getD, set, length-set, drop-of-length-le, length-take}
+use lib.ListN.{length, take, drop, getD, set, length-set, drop-of-length-le}
 use lib.Seq.{take-take, take-set-le, drop-cons, drop-set-lt, getD-set-same, getD-take, length-take-le}
 use Rattle.grow.specs.Room.{MovedOn}
 

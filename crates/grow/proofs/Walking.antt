@@ -1,6 +1,6 @@
 -- The walk from y forward to x, a slot at a time. A slot that holds a is passed once its next corner is; what is still to come is reached from here.
 use mathlib.Core.Path.{_≡_, refl, sym, _∙_, ap}
-use mathlib.Core.Logic.{_≢_, _⊎_, inl, inr}
+use mathlib.Core.Logic.{_≢_}
 use mathlib.Core.List.{List, [], _∷_}
 use Prim.Native.Nat.{ℕ, zero, suc, _+_, _-_, _*_, _≤_, _<_, _%_}
 use native.Mathlib.Decide.{ℕ-discrete}
@@ -10,7 +10,7 @@ use lib.Seq.{getD-set-same, getD-set-other}
 use Rattle.surface.specs.Lists.{Reach, stay, step}
 use Rattle.surface.specs.Rows.{Row, row, rows, Turned, turn-0, turn-1, turn-2}
 use Rattle.surface.specs.Table.{Follows, Edge}
-use Rattle.surface.specs.Stage.{Stage, StageTable}
+use Rattle.surface.specs.Stage.{Stage}
 use Rattle.surface.specs.Contract.{renumber}
 use Rattle.surface.specs.Grow.{Between, Regrown, renamed, left-be, Each, each-none, each-more}
 use Rattle.surface.proofs.Reaching.{join, one-step}
@@ -20,7 +20,7 @@ use Rattle.surface.proofs.Following.{re, follows-same}
 use Rattle.surface.proofs.Flat.{rows-at, rows-length}
 use Rattle.surface.proofs.Walked.{fan, fan-step}
 use Rattle.slots.specs.Slot.{next-slot}
-use Rattle.slots.proofs.Slots.{next-0, next-1, next-2, next-inside, next-round, at-follows, one-slot}
+use Rattle.slots.proofs.Slots.{next-0, next-1, next-2, next-inside, at-follows, one-slot}
 use Rattle.accept.specs.Noted.{Noted, Near}
 use Rattle.slots.proofs.Slots.{under-more}
 use Rattle.slots.proofs.Staged.{table-whole, table-under}

@@ -1,6 +1,6 @@
 -- One short of the size of a number below zero: it fits where the size may not.
-use mathlib.Core.Path.{_≡_, refl, sym, _∙_, ap}
-use mathlib.Core.Bool.{Bool, true, false}
+use mathlib.Core.Path.{_≡_, refl, _∙_, ap}
+use mathlib.Core.Bool.{true, false}
 use Prim.Native.Nat.{ℕ, zero, suc, _+_, _-_, _^_, _≤_, _<_}
 use native.Mathlib.Omega.{arith}
 use native.Mathlib.Nat.{zero-add}
@@ -9,7 +9,7 @@ use lib.IntN.{ℤ, pos, negsuc, _+ℤ_, _-ℤ_, natAbs, +ℤ-one}
 use lib.Signed.{ltZ}
 use mir.Syntax.{w64}
 use mir.Val.{SFits, toZ, ofZ}
-use Rattle.ints.proofs.Machine.{Is, any, lit, fits, kept, plus, less, unsigned, unsigned-fits}
+use Rattle.ints.proofs.Machine.{Is, any, lit, kept, plus, less, unsigned}
 
 true-false : {X : Type 0} → true ≡ false → X
 true-false p = let z : _≡_ {A = ℕ} 0 1 = cc in absurd (omega arith)

@@ -1,15 +1,15 @@
 -- Lines can be cut into words and numbers in one way only.
-use mathlib.Core.Path.{_≡_, refl, sym, _∙_, ap, subst}
+use mathlib.Core.Path.{_≡_, refl, sym, _∙_, ap}
 use mathlib.Core.List.{List, [], _∷_, _++_, append-assoc, append-nil, append-cancel-left}
 use Prim.Native.Nat.{ℕ, zero, suc, _+_, _*_, _≤_, _<_}
 use native.Mathlib.Omega.{arith}
 use lib.IntN.{ℤ, natAbs}
-use lib.ListN.{length, length-append, take, drop, length-take, length-drop, take-append-drop}
-use lib.Seq.{take-all, take-append-seam, drop-append-seam, take-append-le, drop-append-le, length-take-le}
+use lib.ListN.{length, length-append, take, drop, length-drop, take-append-drop}
+use lib.Seq.{take-all, take-append-le, drop-append-le, length-take-le}
 use Rattle.text.specs.Decimal.{decimal, signed, Digit, NoDigit}
 use Rattle.text.specs.Reading.{SignedAt}
 use Rattle.text.proofs.Signs.{signed-unique}
-use Rattle.lines.specs.Lines.{tab, newline, fields, line, lines, Short, FieldAt, FieldsAt, LineAt, LinesAt}
+use Rattle.lines.specs.Lines.{tab, newline, fields, line, lines, Short}
 
 tab-no-digit : ¬ Digit tab
 tab-no-digit d = let l = d .least in omega arith

@@ -1,7 +1,7 @@
 -- What holds between two fields and between two lines, and why each way out is right.
 use mathlib.Core.Path.{_≡_, refl, sym, _∙_, ap, subst}
 use mathlib.Core.List.{List, [], _∷_, _++_, append-assoc, append-nil, append-cancel-left}
-use Prim.Native.Nat.{ℕ, zero, suc, _+_, _-_, _*_, _^_, _≤_, _<_}
+use Prim.Native.Nat.{ℕ, suc, _+_, _-_, _*_, _≤_, _<_}
 use native.Mathlib.Nat.{mul-le-mul, le-refl}
 use native.Mathlib.Omega.{arith}
 use lib.IntN.{ℤ, natAbs}
@@ -10,15 +10,15 @@ use lib.Seq.{sets, length-sets, length-take-le}
 use mir.Syntax.{w64}
 use mir.Val.{SFits}
 use Rattle.ints.proofs.Machine.{sfits-abs}
-use Rattle.text.specs.Decimal.{decimal, signed, NoDigit}
-use Rattle.text.specs.Reading.{SignedAt, ReadSigned, Expected}
+use Rattle.text.specs.Decimal.{signed}
+use Rattle.text.specs.Reading.{ReadSigned, Expected}
 use Rattle.text.specs.declared.Signed.{Signed}
 use Rattle.text.specs.declared.Signed.the-variants as whole
 use Rattle.text.specs.declared.Passed.{Passed}
 use Rattle.text.specs.declared.Passed.the-variants.{To, Bad}
 use Rattle.text.proofs.Digits.{digits-below}
 use Rattle.lines.specs.Lines.{tab, newline, fields, line, lines, Short, FieldAt, FieldsAt, LineAt, LinesAt, ReadField, PutFrom, ReadInto}
-use Rattle.lines.proofs.Cut.{short-append, short-left, short-right, fields-append, after-field, newline-no-digit, cut, fields-unique, line-after, line-unique, lines-more, cut-lines}
+use Rattle.lines.proofs.Cut.{short-append, short-left, short-right, fields-append, after-field, newline-no-digit, cut, fields-unique, line-after, lines-more, cut-lines}
 
 -- ---- one field
 

@@ -1,12 +1,12 @@
 -- Demand 2 of the log that thinning leaves: grown back it restores the first table, number for number, and replayed it gives the last stage.
 use mathlib.Core.Path.{_≡_, refl, sym, _∙_, ap}
-use mathlib.Core.List.{List, [], _∷_, _++_, append-assoc, append-nil}
+use mathlib.Core.List.{List, [], _∷_, _++_, append-nil}
 use Prim.Native.Nat.{ℕ, zero, suc, _+_, _-_, _*_, _/_, _%_, _≤_}
 use native.Mathlib.Nat.{mul-div-cancel-left}
 use native.Mathlib.Omega.{arith}
 use lib.IntN.{ℤ, pos}
 use lib.ListN.{length, take, drop, replicate, length-append, length-replicate}
-use lib.Seq.{take-at, drop-at, drop-append-add}
+use lib.Seq.{take-at, drop-append-add}
 use Rattle.surface.specs.Rows.{Row, rows, flat}
 use Rattle.surface.specs.Stage.{Stage}
 use Rattle.surface.specs.Record.{Record, Replayed}
@@ -17,7 +17,7 @@ use Rattle.faults.proofs.Opposites.{stage-rows, stage-corners}
 use Rattle.slots.proofs.Slots.{whole-rows}
 use Rattle.run.specs.Run.{Taken, none-yet}
 use Rattle.run.proofs.Main.{taken-cut, taken-replayed, replayed-stage, replayed-rows}
-use Rattle.record.specs.Layout.{width, log-of, records}
+use Rattle.record.specs.Layout.{width, log-of}
 use Rattle.record.proofs.Log.{log-length, records-log}
 use Rattle.length.specs.declared.Order.{Order}
 use Rattle.least.specs.Limited.{Allowed}

@@ -1,5 +1,5 @@
 -- The records of the log that thinning leaves, as they stand in front of the lent one.
-use mathlib.Core.Path.{_≡_, refl, sym, _∙_, ap}
+use mathlib.Core.Path.{_≡_, sym, _∙_, ap}
 use mathlib.Core.List.{List, _++_, append-assoc}
 use Prim.Native.Nat.{ℕ, _*_}
 use lib.IntN.{ℤ}

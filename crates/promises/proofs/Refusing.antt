@@ -1,13 +1,13 @@
 -- Demand 1: a refusal is answered exactly when the list has it, call by call.
 use mathlib.Core.Path.{_≡_, refl, sym, _∙_, ap, subst}
 use mathlib.Core.Logic.{_⊎_, inl, inr}
-use mathlib.Core.List.{List, [], _∷_}
-use Prim.Native.Nat.{ℕ, _<_}
+use mathlib.Core.List.{List}
+use Prim.Native.Nat.{ℕ}
 use native.Mathlib.Omega.{arith}
-use lib.IntN.{ℤ, pos}
-use lib.ListN.{length}
+use lib.IntN.{ℤ, pos, natAbs}
+use lib.ListN.{length, getD}
+use Rattle.surface.specs.Rows.{Row, rows}
 use Rattle.refusal.specs.declared.Refusal.{Refusal}
-use Rattle.refusal.specs.declared.Refusal.the-variants.{LimitUnusable, RoomShort}
 use Rattle.refusal.specs.declared.Verdict.{Verdict}
 use Rattle.refusal.specs.declared.Verdict.the-variants.{Passes}
 use Rattle.refusal.specs.declared.Verdict.the-variants as verdict
@@ -17,23 +17,25 @@ use Rattle.refusal.proofs.Laws as verdicts
 use Rattle.refusal.proofs.Laws.{first-one, refused-passes}
 use Rattle.answer.specs.Outcome.{outcome}
 use Rattle.answer.proofs.Laws.{refused-one, refused-done}
-use Rattle.length.specs.declared.Length.{Length}
-use Rattle.length.specs.Answer as limits
-use Rattle.length.specs.Limit.{Unfit, typed, limit-of}
 use Rattle.length.proofs.Laws.{limit-told}
 use Rattle.length.specs.declared.Order.{Order}
 use Rattle.thin.specs.declared.Thinning.{Thinning}
 use Rattle.thin.specs.declared.Thinning.the-variants as thinning
 use Rattle.thin.specs.Answer as thinnings
-use Rattle.thin.specs.Order.{asked}
-use Rattle.thin.specs.Thin.{thin-lines, Thinned}
+use Rattle.thin.specs.Thin.{Thinned}
 use Rattle.thin.proofs.Main as thins
 use Rattle.regrow.specs.declared.Regrown.{Regrown}
 use Rattle.regrow.specs.declared.Regrown.the-variants as regrown
 use Rattle.regrow.specs.Answer as regrowths
+use Rattle.record.specs.Layout.{records}
+use Rattle.grow.specs.Room.{standing}
+use Rattle.regrow.specs.Reached.{Reached}
 use Rattle.regrow.specs.Outcome.{grow-lines, GrownAs}
+use Rattle.regrow.specs.Outcome as growth
 use Rattle.regrow.proofs.Main as grows
+use Rattle.replay.specs.Redone.{Redone}
 use Rattle.replay.specs.Outcome.{replay-lines, ReplayedAs}
+use Rattle.replay.specs.Outcome as replay
 use Rattle.replay.proofs.Main as replays
 use Rattle.sheet.specs.declared.Sheet.{Sheet}
 use Rattle.sheet.specs.declared.Sheet.the-variants as sheet
@@ -41,9 +43,6 @@ use Rattle.sheet.specs.Answer as sheets
 use Rattle.sheet.specs.Form.{SheetOf, form-refusals}
 use Rattle.sheet.specs.Outcome.{skin-refusals, ReadSheet, bad-form, bad-skin, read}
 use Rattle.sheet.proofs.Promises.{one-skin, moved}
-use Rattle.reply.specs.declared.Answer.{Answer}
-use Rattle.reply.specs.Answer as replies
-use Rattle.reply.specs.Outcome.{Replied}
 use Rattle.reply.proofs.Main.{reply-told}
 use Rattle.promises.specs.Refusing.{Refuses, DemandOne}
 
@@ -81,6 +80,22 @@ replay-same {a = regrown.Done k} w r p = absurd (refused-done r (sym p))
 replay-same {a = regrown.Stopped k} w r p = absurd (failing-other k r p)
 replay-same {a = regrown.Refused e} w r p = replays.refused-same w
 
+-- 13 and a number tell that the records stopped there
+stops : (a : Regrown) (k : ℕ) → regrowths.told a ≡ regrowths.fails-after k → a ≡ regrown.Stopped k
+stops (regrown.Done j) k p = let e = ap (λ (v : Told). v .number) p in absurd (omega arith)
+stops (regrown.Stopped j) k p = ap regrown.Stopped (ap (λ (v : Told). natAbs (getD (v .values) 0 (pos 0))) p)
+stops (regrown.Refused r) k p = absurd (failing-other k r (sym p))
+
+grow-stopped : {n m : ℕ} {room log : List ℕ} {a : Regrown} {room′ : List ℕ} (k : ℕ) → GrownAs n m room log a room′ → a ≡ regrown.Stopped k →
+    First (grow-lines n m room log) Passes × ((T : List Row) × Reached n (standing m room) (records log) (regrown.Stopped k) T)
+grow-stopped k (growth.refused f ea er) q = grows.stopped-refused (sym q ∙ ea)
+grow-stopped {n} {m} {room} {log} k (growth.grown f w) q = (f, (w .table, subst (λ b. Reached n (standing m room) (records log) b (w .table)) q (w .reached)))
+
+replay-stopped : {n : ℕ} {t log : List ℕ} {a : Regrown} {t′ : List ℕ} (k : ℕ) → ReplayedAs n t log a t′ → a ≡ regrown.Stopped k →
+    First (replay-lines n t log) Passes × ((T : List Row) × Redone (rows t) (records log) (regrown.Stopped k) T)
+replay-stopped k (replay.refused f ea er) q = grows.stopped-refused (sym q ∙ ea)
+replay-stopped {t = t} {log = log} k (replay.replayed f w) q = (f, (w .table, subst (λ b. Redone (rows t) (records log) b (w .table)) q (w .redone)))
+
 -- a sheet
 module _ {b troom troom′ : List ℕ} {croom croom′ : List ℤ} where
   sheet-form : {a : Sheet} → ReadSheet b troom troom′ croom croom′ a → (r : Refusal) → First (form-refusals b) (verdict.Refused r) → sheets.told a ≡ refused r
@@ -93,6 +108,13 @@ module _ {b troom troom′ : List ℕ} {croom croom′ : List ℤ} where
   sheet-skin (bad-form f e p q) g s = refused-passes (first-one (form-refusals b) f g)
   sheet-skin (bad-skin {r = r} f s k e p q) g s′ = exactly (inl (r, moved b troom croom (verdict.Refused r) (one-skin s s′) k, ap sheets.told e))
   sheet-skin (read f s k w e p q) g s′ = exactly (inr (moved b troom croom Passes (one-skin s s′) k, not-refused (ap sheets.told e)))
+
+  sheet-only : {a : Sheet} → ReadSheet b troom troom′ croom croom′ a → (r : Refusal) → sheets.told a ≡ refused r → First (form-refusals b) (verdict.Refused r)
+      ⊎ (First (form-refusals b) Passes × (n m : ℕ) × (xs : List ℤ) × (t : List ℕ) × SheetOf b n m xs t × First (skin-refusals troom croom xs t) (verdict.Refused r))
+  sheet-only (bad-form f e p q) r g = inl (subst (λ k. First (form-refusals b) (verdict.Refused k)) (refused-one (sym (ap sheets.told e) ∙ g)) f)
+  sheet-only (bad-skin {n = n} {m = m} {xs = xs} {t = t} f s k e p q) r g =
+      inr (f, n, m, xs, t, s, subst (λ j. First (skin-refusals troom croom xs t) (verdict.Refused j)) (refused-one (sym (ap sheets.told e) ∙ g)) k)
+  sheet-only (read f s k w e p q) r g = absurd (not-refused (ap sheets.told e) r g)
 
   sheet-same : {a : Sheet} → ReadSheet b troom troom′ croom croom′ a → (r : Refusal) → sheets.told a ≡ refused r → (troom′ ≡ troom) × (croom′ ≡ croom)
   sheet-same (bad-form f e p q) r g = (p, q)
@@ -108,11 +130,13 @@ demand-one = record {
     | inr x ↦ exactly (inr (x .0, elim (x .1) [ inl e ↦ not-refused e | inr f ↦ λ r p. failing-other (length (f .2)) r (sym (f .4) ∙ p) ]))
   ];
   grow-same = λ w r p. grow-same w r p;
+  grow-fails = λ {a = a} w. record { when = λ k f x. ap regrowths.told (grows.grown-one w (growth.grown f (record { table = x .0; reached = x .1; left = refl })) .0); only = λ k p. grow-stopped k w (stops a k p) };
   replay = λ w. elim (replays.replay-told w) [
     | inl x ↦ exactly (inl x)
     | inr x ↦ exactly (inr (x .0, elim (x .1) [ inl e ↦ not-refused e | inr f ↦ λ r p. failing-other (length (f .0)) r (sym (f .4) ∙ p) ]))
   ];
   replay-same = λ w r p. replay-same w r p;
+  replay-fails = λ {a = a} w. record { when = λ k f x. ap regrowths.told (replays.replay-one w (replay.replayed f (record { table = x .0; redone = x .1; left = refl })) .0); only = λ k p. replay-stopped k w (stops a k p) };
   volume = λ a w. by-verdict _ (w .verdict) (w .checked .holds) (w .tells);
   change = λ a w. by-verdict _ (w .verdict) (w .first) (w .tells);
   shift = λ a w. by-verdict _ (w .verdict) (w .first) (w .tells);
@@ -122,6 +146,7 @@ demand-one = record {
   ];
   sheet-form = λ w r f. sheet-form w r f;
   sheet-skin = λ w f s. sheet-skin w f s;
+  sheet-only = λ w r p. sheet-only w r p;
   sheet-same = λ w r p. sheet-same w r p;
   reply = λ w. elim (reply-told w) [
     | inl x ↦ ((λ h. let k = x .0 in absurd (omega arith)), λ r p. absurd (not-refused (x .1) r p))

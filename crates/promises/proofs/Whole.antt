@@ -1,8 +1,5 @@
 -- Demands 2 and 3, and that nothing is left to choose. Demand 1 stands in Refusing.antt.
-use mathlib.Core.Path.{_≡_, refl, sym, _∙_, ap}
-use mathlib.Core.List.{List, [], _∷_}
-use lib.IntN.{pos}
-use Rattle.refusal.specs.Told as answers
+use mathlib.Core.Path.{ap}
 use Rattle.length.proofs.Laws.{reading-one}
 use Rattle.thin.specs.Answer as thinnings
 use Rattle.thin.proofs.Main.{thinned-one, accepted, thinned-run, thinned-kept}

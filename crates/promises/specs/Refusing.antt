@@ -1,11 +1,13 @@
 -- Demand 1: each call answers with a refusal's number exactly when its list says, and what is refused so is unchanged. That a call always ends
 -- and stays in what it was lent needs no statement here: none has a `requires`, and a contract holds only of code that does both.
 use mathlib.Core.Path.{_≡_}
+use mathlib.Core.Logic.{_⊎_}
 use mathlib.Core.Bool.{false}
 use mathlib.Core.List.{List}
 use Prim.Native.Nat.{ℕ, _<_}
 use lib.IntN.{ℤ}
 use lib.ListN.{length}
+use Rattle.surface.specs.Rows.{Row, rows}
 use Rattle.refusal.specs.declared.Refusal.{Refusal}
 use Rattle.refusal.specs.declared.Refusal.the-variants.{LimitUnusable, RoomShort}
 use Rattle.refusal.specs.declared.Verdict.the-variants.{Passes}
@@ -22,9 +24,14 @@ use Rattle.thin.specs.declared.Thinning.{Thinning}
 use Rattle.thin.specs.Answer as thinnings
 use Rattle.thin.specs.Order.{asked}
 use Rattle.thin.specs.Thin.{thin-lines, Thinned}
+use Rattle.record.specs.Layout.{records}
+use Rattle.grow.specs.Room.{standing}
 use Rattle.regrow.specs.declared.Regrown.{Regrown}
+use Rattle.regrow.specs.declared.Regrown.the-variants.{Stopped}
 use Rattle.regrow.specs.Answer as regrowths
+use Rattle.regrow.specs.Reached.{Reached}
 use Rattle.regrow.specs.Outcome.{grow-lines, GrownAs}
+use Rattle.replay.specs.Redone.{Redone}
 use Rattle.replay.specs.Outcome.{replay-lines, ReplayedAs}
 use Rattle.volume.specs.declared.Measured.{Measured}
 use Rattle.volume.specs.Answer as volumes
@@ -46,22 +53,34 @@ pub record Refuses (l : List Clause) (v : Told) : Type 0 where
   pub when : (r : Refusal) → First l (verdict.Refused r) → v ≡ refused r
   pub only : (r : Refusal) → v ≡ refused r → First l (verdict.Refused r)
 
+-- 13 and a number of records are told exactly when no refusal of the list holds and, after so many records, one fails
+pub record Fails (l : List Clause) (After : ℕ → Type 0) (v : Told) : Type 0 where
+  pub when : (k : ℕ) → First l Passes → After k → v ≡ regrowths.fails-after k
+  pub only : (k : ℕ) → v ≡ regrowths.fails-after k → First l Passes × After k
+
 pub record DemandOne : Type 0 where
   pub thin : (o : Order) {xs : List ℤ} {t l : List ℕ} {a : Thinning} {t′ l′ : List ℕ} → Thinned o xs t l a t′ l′ → Refuses (thin-lines (asked o) xs t (length l)) (thinnings.told a)
   pub thin-same : (o : Order) {xs : List ℤ} {t l : List ℕ} {a : Thinning} {t′ l′ : List ℕ} → Thinned o xs t l a t′ l′ → (r : Refusal) → thinnings.told a ≡ refused r → (t′ ≡ t) × (l′ ≡ l)
-  -- 13 is told with the records done: it is no refusal of the list, and `grown-told` and `replay-told` say when it comes
+  -- 13 is told with the records done: it is no refusal of the list, and leaves the rows that those led to
   pub grow-back : {n m : ℕ} {room log : List ℕ} {a : Regrown} {room′ : List ℕ} → GrownAs n m room log a room′ → Refuses (grow-lines n m room log) (regrowths.told a)
   pub grow-same : {n m : ℕ} {room log : List ℕ} {a : Regrown} {room′ : List ℕ} → GrownAs n m room log a room′ → (r : Refusal) → regrowths.told a ≡ refused r → room′ ≡ room
+  pub grow-fails : {n m : ℕ} {room log : List ℕ} {a : Regrown} {room′ : List ℕ} → GrownAs n m room log a room′ →
+      Fails (grow-lines n m room log) (λ k. (T : List Row) × Reached n (standing m room) (records log) (Stopped k) T) (regrowths.told a)
   pub replay : {n : ℕ} {t log : List ℕ} {a : Regrown} {t′ : List ℕ} → ReplayedAs n t log a t′ → Refuses (replay-lines n t log) (regrowths.told a)
   pub replay-same : {n : ℕ} {t log : List ℕ} {a : Regrown} {t′ : List ℕ} → ReplayedAs n t log a t′ → (r : Refusal) → regrowths.told a ≡ refused r → t′ ≡ t
+  pub replay-fails : {n : ℕ} {t log : List ℕ} {a : Regrown} {t′ : List ℕ} → ReplayedAs n t log a t′ →
+      Fails (replay-lines n t log) (λ k. (T : List Row) × Redone (rows t) (records log) (Stopped k) T) (regrowths.told a)
   pub volume : {xs : List ℤ} {t : List ℕ} (a : Measured) → VolumeReport xs t (volumes.told a) → Refuses (lines-at false xs t) (volumes.told a)
   pub change : {xs : List ℤ} {t s : List ℕ} (a : Measured) → ChangeReport xs t s (volumes.told a) → Refuses (either (lines-at false xs t) (lines-at false xs s)) (volumes.told a)
   pub shift : {xs : List ℤ} {log : List ℕ} {v : ℕ} (a : Shifted) → ShiftReport xs log v (shifts.told a) → Refuses (shift-lines xs log v) (shifts.told a)
   pub limit : (l : Length) → (Unfit (typed l) → limits.told (limit-of l) ≡ refused LimitUnusable) × ((r : Refusal) → limits.told (limit-of l) ≡ refused r → Unfit (typed l))
-  -- a sheet: for its form, or else for what it holds
+  -- a sheet: for its form, or else for what it holds, and only for one of these
   pub sheet-form : {b troom troom′ : List ℕ} {croom croom′ : List ℤ} {a : Sheet} → ReadSheet b troom troom′ croom croom′ a → (r : Refusal) → First (form-refusals b) (verdict.Refused r) → sheets.told a ≡ refused r
   pub sheet-skin : {b troom troom′ : List ℕ} {croom croom′ : List ℤ} {a : Sheet} → ReadSheet b troom troom′ croom croom′ a → First (form-refusals b) Passes →
       {n m : ℕ} {xs : List ℤ} {t : List ℕ} → SheetOf b n m xs t → Refuses (skin-refusals troom croom xs t) (sheets.told a)
+  pub sheet-only : {b troom troom′ : List ℕ} {croom croom′ : List ℤ} {a : Sheet} → ReadSheet b troom troom′ croom croom′ a → (r : Refusal) → sheets.told a ≡ refused r →
+      First (form-refusals b) (verdict.Refused r)
+      ⊎ (First (form-refusals b) Passes × (n m : ℕ) × (xs : List ℤ) × (t : List ℕ) × SheetOf b n m xs t × First (skin-refusals troom croom xs t) (verdict.Refused r))
   pub sheet-same : {b troom troom′ : List ℕ} {croom croom′ : List ℤ} {a : Sheet} → ReadSheet b troom troom′ croom croom′ a → (r : Refusal) → sheets.told a ≡ refused r → (troom′ ≡ troom) × (croom′ ≡ croom)
   -- the desk's answer: only where its text does not fit
   pub reply : {b text : List ℕ} {a : Answer} {text′ : List ℕ} → (w : Replied b text a text′) → (length text < length (w .txt) → replies.told a ≡ refused RoomShort)

@@ -7,7 +7,7 @@ use native.Mathlib.Decide.{ℕ-discrete, decLt}
 use native.Mathlib.Omega.{arith}
 use lib.ListN.{length, getD, set, length-set}
 use lib.Seq.{getD-set-same, getD-set-other}
-use Rattle.surface.specs.Lists.{Reach, stay, step}
+use Rattle.surface.specs.Lists.{Reach, stay}
 use Rattle.surface.specs.Rows.{rows}
 use Rattle.surface.specs.Table.{Edge, Used}
 use Rattle.surface.proofs.Reaching.{join, one-step, within, go-back}

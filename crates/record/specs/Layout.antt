@@ -5,9 +5,6 @@ use Prim.Native.Nat.{ℕ, zero, suc, _+_, _/_}
 use lib.ListN.{length, drop, getD}
 use Rattle.surface.specs.Rows.{Row, row}
 use Rattle.surface.specs.Record as surface
-use Rattle.record.specs.declared.Corner.{Corner}
-use Rattle.record.specs.declared.Place.{Place}
-use Rattle.record.specs.declared.Leaving.{Leaving}
 use Rattle.record.specs.declared.Record.{Record}
 use Rattle.record.specs.declared.Edge.{Edge}
 

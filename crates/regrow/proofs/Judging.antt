@@ -2,11 +2,10 @@
 use mathlib.Core.Path.{_≡_, refl}
 use mathlib.Core.Logic.{inl, inr}
 use mathlib.Core.List.{List}
-use Prim.Native.Nat.{ℕ, _+_, _*_, _≤_, _<_, _%_}
+use Prim.Native.Nat.{ℕ, _*_, _≤_, _<_}
 use native.Mathlib.Omega.{arith}
 use lib.ListN.{length, take}
 use lib.Seq.{length-take-le}
-use Rattle.surface.specs.Stage.{Stage}
 use Rattle.refusal.specs.declared.Refusal.{Refusal}
 use Rattle.refusal.specs.declared.Refusal.the-variants.{CountsOutside, RoomShort}
 use Rattle.refusal.specs.declared.Verdict.{Verdict}
@@ -17,7 +16,6 @@ use Rattle.refusal.proofs.Laws.{refused-passes}
 use Rattle.faults.specs.Counts.{CountsFit}
 use Rattle.faults.specs.Order.{CheckedStage}
 use Rattle.faults.proofs.Order.{after-2}
-use Rattle.grow.specs.Room.{standing}
 use Rattle.grow.proofs.Filling.{standing-length}
 use Rattle.regrow.specs.Reached.{need, Ready}
 use Rattle.regrow.specs.Outcome.{GrowFits, grow-lines, Judged}

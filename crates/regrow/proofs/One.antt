@@ -1,15 +1,14 @@
 -- A log leads to one answer and one table.
-use mathlib.Core.Path.{_≡_, refl, sym, _∙_, ap}
-use mathlib.Core.Logic.{_⊎_, inl, inr}
+use mathlib.Core.Path.{_≡_, sym, _∙_, ap}
 use mathlib.Core.List.{List, [], _∷_, _++_, head-eq-of-cons-eq, tail-eq-of-cons-eq}
 use Prim.Native.Nat.{ℕ}
 use lib.ListN.{length}
 use Rattle.surface.specs.Rows.{Row}
 use Rattle.surface.specs.Record.{Record}
-use Rattle.surface.specs.Accept.{Accepted, GrownBack, no-record, one-record}
+use Rattle.surface.specs.Accept.{Accepted, GrownBack, one-record}
 use Rattle.surface.proofs.Recorded.{grown-back-one}
 use Rattle.regrow.specs.declared.Regrown.{Regrown}
-use Rattle.regrow.specs.declared.Regrown.the-variants.{Done, Stopped}
+use Rattle.regrow.specs.declared.Regrown.the-variants.{Stopped}
 use Rattle.regrow.specs.Reached.{Reached, all, stopped}
 
 -- the last records of a log that grows back grow back

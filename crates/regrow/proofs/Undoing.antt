@@ -1,24 +1,24 @@
 -- The records done so far are the last of the log, and the table that they lead to stands in the room.
 use mathlib.Core.Path.{_≡_, refl, sym, _∙_, ap}
 use mathlib.Core.Bool.{true, false}
-use mathlib.Core.List.{List, [], _∷_, _++_, append-nil}
-use Prim.Native.Nat.{ℕ, suc, _+_, _-_, _*_, _/_, _≤_, _<_}
+use mathlib.Core.List.{List, _∷_, _++_}
+use Prim.Native.Nat.{ℕ, _+_, _-_, _*_, _≤_, _<_}
 use native.Mathlib.Omega.{arith}
-use lib.ListN.{length, take, drop, getD, take-append-drop, drop-of-length-le, length-drop}
+use lib.ListN.{length, take, drop, take-append-drop, drop-of-length-le, length-drop}
 use lib.Seq.{take-at}
-use Rattle.surface.specs.Rows.{Row, rows, flat}
+use Rattle.surface.specs.Rows.{Row, flat}
 use Rattle.surface.specs.Stage.{Stage, StageTable}
 use Rattle.surface.specs.Record.{Record}
 use Rattle.surface.specs.Accept.{Accepted, GrownBack, no-record, one-record}
 use Rattle.surface.proofs.Flat.{rows-flat, flat-length}
 use Rattle.surface.proofs.Main.{two-fewer}
 use Rattle.surface.proofs.Recorded.{grown-back-stage}
-use Rattle.record.specs.Layout.{width, record-at, first-records, records}
+use Rattle.record.specs.Layout.{width, record-at, records}
 use Rattle.record.proofs.Places.{records-length, records-from}
 use Rattle.grow.specs.Room.{standing, filled, GrewBack}
 use Rattle.grow.proofs.Filling.{standing-length, standing-filled, filled-standing, filled-length, filled-again}
 use Rattle.regrow.specs.declared.Regrown.the-variants.{Done, Stopped}
-use Rattle.regrow.specs.Reached.{Reached, all, stopped, count, need, Ready, GrownIn}
+use Rattle.regrow.specs.Reached.{all, stopped, count, Ready, GrownIn}
 
 -- an accepted record makes two rows more
 pub two-more : {n : ℕ} {T′ T : List Row} {k : Record} → Accepted n T′ k T → length T ≡ 2 + length T′

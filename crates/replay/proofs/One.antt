@@ -1,10 +1,9 @@
 -- A log leads forward to one answer and one table.
 use mathlib.Core.Path.{_≡_, refl, sym, _∙_, ap}
 use mathlib.Core.List.{List, [], _∷_, _++_, head-eq-of-cons-eq, tail-eq-of-cons-eq}
-use Prim.Native.Nat.{ℕ}
 use lib.ListN.{length}
 use Rattle.surface.specs.Rows.{Row}
-use Rattle.surface.specs.Record.{Record, Replays, Replayed, no-step, one-step}
+use Rattle.surface.specs.Record.{Record, Replayed, no-step, one-step}
 use Rattle.surface.proofs.Main.{left}
 use Rattle.regrow.specs.declared.Regrown.{Regrown}
 use Rattle.regrow.specs.declared.Regrown.the-variants.{Stopped}

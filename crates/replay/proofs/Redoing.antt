@@ -18,7 +18,7 @@ use Rattle.step.specs.Front.{front, SteppedFront, Fallen}
 use Rattle.step.proofs.Front.{fallen-none, front-replays, fallen-on, fallen-left}
 use Rattle.regrow.specs.declared.Regrown.the-variants.{Done, Stopped}
 use Rattle.regrow.specs.Reached.{count}
-use Rattle.replay.specs.Redone.{Accepts, Redone, all, stopped, RedoneIn}
+use Rattle.replay.specs.Redone.{Accepts, all, stopped, RedoneIn}
 
 -- one step more at the end
 pub replayed-more : {T T₁ T₂ : List Row} {l : List surface.Record} {k : surface.Record} → Replayed T l T₁ → Replays T₁ k T₂ → Replayed T (l ++ (k ∷ [])) T₂

@@ -7,13 +7,12 @@ use lib.IntN.{ℤ, pos}
 use lib.ListN.{length, length-append, take, drop, replicate, length-replicate, length-drop}
 use lib.Seq.{take-at}
 use Rattle.surface.specs.Rows.{Row, rows, flat}
-use Rattle.surface.specs.Stage.{Stage}
 use Rattle.surface.specs.Record.{Record}
 use Rattle.surface.proofs.Flat.{rows-flat, flat-length, rows-length}
 use Rattle.refusal.specs.declared.Refusal.{Refusal}
 use Rattle.faults.specs.Counts.{corners}
 use Rattle.run.specs.Run.{Run}
-use Rattle.run.proofs.Main.{taken-replayed, replayed-stage, replayed-rows}
+use Rattle.run.proofs.Main.{taken-replayed, replayed-rows}
 use Rattle.record.specs.Layout.{width, log-of}
 use Rattle.record.proofs.Log.{log-length}
 use Rattle.figure.specs.Sum.{sixfold, WithCoordinates}

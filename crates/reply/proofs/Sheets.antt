@@ -1,6 +1,5 @@
 -- A sheet read into rooms of the sheet's limits: they are never short, so what is read or refused does not speak of them.
 use mathlib.Core.Path.{_≡_, refl, sym, _∙_, ap, subst}
-use mathlib.Core.Logic.{inl, inr}
 use mathlib.Core.Bool.{true}
 use mathlib.Core.List.{List, [], _∷_, _++_, append-nil}
 use Prim.Native.Nat.{ℕ, _*_, _≤_, _<_}
@@ -15,7 +14,6 @@ use Rattle.refusal.specs.First.{First}
 use Rattle.refusal.specs.Number.{number}
 use Rattle.refusal.specs.declared.Refusal.{Refusal}
 use Rattle.refusal.specs.declared.Verdict.the-variants.{Passes}
-use Rattle.refusal.specs.declared.Verdict.the-variants as verdict
 use Rattle.verdicts.proofs.Laws.{first-after, passed}
 use Rattle.faults.specs.Counts.{corners}
 use Rattle.faults.specs.Order.{lines-after-counts}

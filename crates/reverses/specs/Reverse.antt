@@ -1,7 +1,7 @@
 -- The reverse of a directed edge, by slots, and the way round a corner that reverses give.
 use mathlib.Core.Path.{_≡_}
 use mathlib.Core.List.{List}
-use Prim.Native.Nat.{ℕ, _-_, _≤_, _<_}
+use Prim.Native.Nat.{ℕ, _≤_, _<_}
 use lib.ListN.{length, getD}
 use Rattle.slots.specs.Slot.{next-slot}
 

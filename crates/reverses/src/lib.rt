@@ -1,13 +1,11 @@
 // Refusal 8: the reverse of each directed edge; and the way round a corner that the reverses give.
 ghost use mathlib.Core.Path.{_≡_};
-ghost use Prim.Native.Nat.{_≤_, _<_};
+ghost use Prim.Native.Nat.{_<_};
 ghost use lib.ListN.{length};
-ghost use Rattle.surface.specs.Limits.{most-corners};
 ghost use Rattle.surface.specs.Rows.{rows};
 ghost use Rattle.faults.specs.Tells.{Tells};
-ghost use Rattle.faults.specs.Words.{EdgesOnce, NoReverse, BothWays};
+ghost use Rattle.faults.specs.Words.{NoReverse, BothWays};
 ghost use Rattle.slots.specs.Slot.{next-slot, most-slots, Whole, Under};
-ghost use Rattle.slots.specs.Chain.{Chained};
 ghost use Rattle.edges.specs.Sweep.{FoundTo};
 ghost use Rattle.reverses.specs.Reverse.{Reverses, onward-slot};
 
@@ -28,24 +26,6 @@ pub fn reverse_missing(t: &[u32], n: usize, reverse: &mut [usize]) -> bool
         e += 1;
     }
     false
-}
-
-// Inner: the slots of the reverses, of a table that has each directed edge once and its reverse.
-pub fn reverses_of(t: &[u32], n: usize, last: &[usize], prev: &[usize], reverse: &mut [usize])
-    requires { ⌜ Whole (now t) ⌝ }
-    requires { ⌜ Chained (now t) (now last) (now prev) ⌝ }
-    requires { ⌜ Under (now t) n ⌝ }
-    requires { ⌜ n ≤ most-corners ⌝ }
-    requires { ⌜ n ≤ length (now last) ⌝ }
-    requires { ⌜ length (now t) ≤ length (now reverse) ⌝ }
-    requires { ⌜ EdgesOnce (rows (now t)) ⌝ }
-    requires { ⌜ BothWays (rows (now t)) ⌝ }
-    ensures { λ _. ⌜ Reverses (now (t .entry)) (now (reverse .exit)) ⌝ }
-{
-    if edges::edge_twice(t, n, last, prev, reverse) {
-        return;
-    }
-    reverse_missing(t, n, reverse);
 }
 
 // Inner: the slot whose row follows that of e round the corner at e.

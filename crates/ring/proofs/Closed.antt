@@ -1,19 +1,19 @@
 -- The trial ring is closed: a stage over 64 corners, all used, of Euler number 64 - 192 + 128 = 0.
-use mathlib.Core.Path.{_≡_, refl, sym, _∙_, ap}
-use Prim.Native.Nat.{ℕ, zero, suc, _+_, _*_, _<_}
+use mathlib.Core.Path.{_≡_, sym, ap}
+use Prim.Native.Nat.{ℕ, _+_, _*_, _<_}
 use native.Mathlib.Omega.{arith}
 use lib.Dec.{T as So}
-use lib.IntN.{ℤ, pos, _-ℤ_}
+use lib.IntN.{pos, _-ℤ_}
 use lib.ListN.{length}
 use Rattle.surface.specs.Lists.{Exactly}
 use Rattle.surface.specs.Rows.{rows}
 use Rattle.surface.specs.Table.{Used, edges}
 use Rattle.surface.specs.Stage.{Stage}
-use Rattle.surface.specs.Euler.{Euler, Rises, Counts}
+use Rattle.surface.specs.Euler.{Euler}
 use Rattle.surface.proofs.Round.{upto, every-upto}
 use Rattle.surface.proofs.Counted.{two-rows}
 use Rattle.surface.proofs.Stepped.{counted, upto-distinct, upto-below, upto-length}
-use Rattle.computed.proofs.Passing.{passes, passes-stage}
+use Rattle.computed.proofs.Passing.{passes-stage}
 use Rattle.computed.proofs.Using.{uses-all, uses-sound}
 use Rattle.ring.specs.Ring.{number-at, numbers-from, ring}
 use Rattle.ring.proofs.Rule.{ring-length}

@@ -6,7 +6,7 @@ use Prim.Native.Nat.{ℕ, zero, suc, _+_, _-_, _≤_, _<_}
 use native.Mathlib.Decide.{ℕ-discrete}
 use native.Mathlib.Omega.{arith}
 use lib.ListN.{length, getD, set, length-set}
-use Rattle.surface.specs.Lists.{Reach, stay, step}
+use Rattle.surface.specs.Lists.{Reach, stay}
 use Rattle.surface.specs.Rows.{rows}
 use Rattle.surface.specs.Table.{Follows, Edge}
 use Rattle.surface.proofs.Reaching.{join, one-step, within}

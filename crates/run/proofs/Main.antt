@@ -2,7 +2,7 @@
 use mathlib.Core.Path.{_≡_, refl, sym, _∙_, ap}
 use mathlib.Core.Logic.{_⊎_, inl, inr}
 use mathlib.Core.List.{List, [], _∷_, _++_, List·Memᴰ·cases-cons, List·Memᴰ·not-nil}
-use Prim.Native.Nat.{ℕ, _+_, _*_, _≤_, _<_}
+use Prim.Native.Nat.{ℕ, _+_, _*_, _<_}
 use native.Mathlib.Omega.{arith}
 use lib.IntN.{ℤ}
 use lib.ListN.{length}
@@ -10,12 +10,10 @@ use Rattle.surface.specs.Lists.{_∈_, Exactly}
 use Rattle.surface.specs.Rows.{Row}
 use Rattle.surface.specs.Table.{Used}
 use Rattle.surface.specs.Stage.{Stage}
-use Rattle.surface.specs.Link.{Meets}
-use Rattle.surface.specs.Contract.{contract}
-use Rattle.surface.specs.Record.{Placed, at, leaving, Record, placed, Replays, Replayed, no-step, one-step}
+use Rattle.surface.specs.Record.{at, leaving, Record, placed, Replays, Replayed, no-step, one-step}
 use Rattle.surface.specs.Euler.{Euler}
 use Rattle.surface.proofs.Main.{contraction, euler-kept, euler-there, euler-one, corners-there, two-fewer, one-fewer, counts-one, left}
-use Rattle.run.specs.Run.{NotAfter, lower, level, Qualifies, Least, Taken, none-yet, one-more, Over, Run}
+use Rattle.run.specs.Run.{NotAfter, lower, level, Least, Taken, none-yet, one-more, Over, Run}
 
 -- kept, removed and the placed rows are the record
 record-same : {k m : Record} → k .kept ≡ m .kept → k .removed ≡ m .removed → placed k ≡ placed m → k ≡ m

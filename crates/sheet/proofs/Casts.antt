@@ -6,14 +6,12 @@ use Prim.Native.Nat.{ℕ, zero, suc, _+_, _^_, _≤_, _<_}
 use native.Mathlib.Omega.{arith}
 use lib.Dec.{T}
 use lib.IntN.{ℤ, pos, natAbs}
-use lib.ListN.{length, length-append, take, drop, getD, set, length-map, List·getD-map}
+use lib.ListN.{length, take, drop, getD, set, length-map, List·getD-map}
 use lib.Seq.{sets, length-sets, take-suc, getD-take, length-take-le, sets-eq, take-at}
 use lib.Signed.{ltZ, nonNeg}
 use mir.Syntax.{w32, w64}
 use mir.Val.{Fits, SFits, toZ, ofZ}
-use mir.ValLaws.{toZ-ofZ}
-use Rattle.ints.proofs.Machine.{Is, var, kept, fits, sfits-abs, unsigned-fits}
-use Rattle.ints.proofs.Short.{not-below}
+use Rattle.ints.proofs.Machine.{Is, var, kept, fits, unsigned-fits}
 use Rattle.text.specs.Decimal.{decimal}
 use Rattle.lines.specs.Lines.{Short}
 use Rattle.lines.proofs.Turns.{sets-append}

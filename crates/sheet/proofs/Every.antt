@@ -1,13 +1,12 @@
 -- Every skin within a sheet's limits has a sheet that reads, with its own table and corners.
-use mathlib.Core.Path.{_≡_, refl, sym, _∙_, ap, subst}
-use mathlib.Core.Bool.{true}
+use mathlib.Core.Path.{_≡_, refl}
 use mathlib.Core.List.{List, [], _∷_, _++_, map}
-use Prim.Native.Nat.{ℕ, zero, suc, _+_, _*_, _%_, _^_, _≤_, _<_}
+use Prim.Native.Nat.{ℕ, suc, _+_, _%_, _^_, _≤_, _<_}
 use native.Mathlib.Omega.{arith}
 use lib.IntN.{ℤ, pos, natAbs}
 use lib.ListN.{length, drop, getD}
 use Rattle.surface.specs.Rows.{rows}
-use Rattle.surface.specs.Stage.{Stage, Skin}
+use Rattle.surface.specs.Stage.{Skin}
 use Rattle.refusal.specs.First.{First}
 use Rattle.refusal.specs.declared.Verdict.the-variants.{Passes}
 use Rattle.faults.proofs.Order.{skin-passes}

@@ -1,7 +1,7 @@
 -- The first line: two numbers read with their signs are the two counts, unless one is below zero.
 use mathlib.Core.Path.{_≡_, refl, sym, _∙_, ap, subst}
 use mathlib.Core.Bool.{true, false}
-use mathlib.Core.List.{List, [], _∷_, _++_}
+use mathlib.Core.List.{List, [], _∷_}
 use Prim.Native.Nat.{ℕ, _^_, _≤_, _<_}
 use native.Mathlib.Omega.{arith}
 use lib.Dec.{T}
@@ -16,7 +16,7 @@ use Rattle.ints.proofs.Machine.{Is, sfits-abs, unsigned-fits}
 use Rattle.ints.proofs.Short.{below, not-below}
 use Rattle.text.specs.Decimal.{decimal}
 use Rattle.text.proofs.Digits.{digits-below}
-use Rattle.lines.specs.Lines.{LineAt, PutFrom, Short}
+use Rattle.lines.specs.Lines.{LineAt, PutFrom}
 use Rattle.lines.proofs.Cut.{line-unique}
 use Rattle.sheet.specs.Limits.{most-digits}
 use Rattle.sheet.specs.Form.{SKIN, Begins, NoFirstLine}

@@ -1,28 +1,28 @@
 -- What a sheet holds is checked and put into the lent rooms; and the two halves of reading a sheet make the whole.
-use mathlib.Core.Path.{_≡_, refl, sym, _∙_, ap, subst}
+use mathlib.Core.Path.{_≡_, refl, _∙_, subst}
 use mathlib.Core.Logic.{inl, inr}
 use mathlib.Core.Bool.{true}
-use mathlib.Core.List.{List, _++_}
-use Prim.Native.Nat.{ℕ, _*_, _/_, _%_, _≤_, _<_}
+use mathlib.Core.List.{List}
+use Prim.Native.Nat.{ℕ, _*_, _≤_, _<_}
 use native.Mathlib.Omega.{arith}
 use lib.IntN.{ℤ}
-use lib.ListN.{length, take, drop}
-use lib.Seq.{sets, length-take-le}
+use lib.ListN.{length, take}
+use lib.Seq.{sets}
 use Rattle.surface.specs.Rows.{rows}
 use Rattle.surface.specs.Stage.{Skin}
 use Rattle.surface.proofs.Flat.{rows-length}
-use Rattle.refusal.specs.First.{Clause, _when_, First}
+use Rattle.refusal.specs.First.{First}
 use Rattle.refusal.specs.declared.Refusal.{Refusal}
 use Rattle.refusal.specs.declared.Refusal.the-variants.{RoomShort}
 use Rattle.refusal.specs.declared.Verdict.{Verdict}
 use Rattle.refusal.specs.declared.Verdict.the-variants.{Passes, Refused}
 use Rattle.faults.specs.Counts.{CountsFitAt, corners}
-use Rattle.faults.specs.Order.{CheckedFirst, lines-at, lines-after-counts}
+use Rattle.faults.specs.Order.{CheckedFirst, lines-at}
 use Rattle.faults.proofs.Order.{after-2-at}
 use Rattle.sheet.specs.declared.Sheet.{Sheet}
 use Rattle.sheet.specs.declared.Sheet.the-variants as sheet
 use Rattle.sheet.specs.Form.{CountsIn, SheetOf, form-refusals}
-use Rattle.sheet.specs.Outcome.{NoRoom, table-short, corners-short, skin-refusals, FormRead, Delivered, kept, put, ReadSheet, bad-form, bad-skin, read}
+use Rattle.sheet.specs.Outcome.{NoRoom, table-short, corners-short, skin-refusals, FormRead, Delivered, kept, put, ReadSheet, bad-skin, read}
 use Rattle.sheet.proofs.Casts.{front, in-front}
 
 module _ (n m : ℕ) (fit : CountsIn n m) (xs : List ℤ) (t : List ℕ) (cs : length xs ≡ n * 3) (rs : length t ≡ m * 3) where

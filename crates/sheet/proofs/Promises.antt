@@ -1,33 +1,25 @@
 -- What holds of sheets: one text for its skin, one skin for its text, every skin has a sheet that reads, and no second outcome.
 use mathlib.Core.Path.{_≡_, refl, sym, _∙_, ap, subst}
 use mathlib.Core.Logic.{_⊎_, inl, inr}
-use mathlib.Core.Bool.{true}
 use mathlib.Core.List.{List, [], _∷_, _++_, append-nil, map}
-use Prim.Native.Nat.{ℕ, zero, suc, _+_, _*_, _/_, _%_, _^_, _≤_, _<_}
+use Prim.Native.Nat.{ℕ, _+_, _*_}
 use native.Mathlib.Omega.{arith}
-use lib.IntN.{ℤ, pos, natAbs}
+use lib.IntN.{ℤ, pos}
 use lib.ListN.{length, drop, length-map}
-use Rattle.surface.specs.Lists.{_∈_}
 use Rattle.surface.specs.Rows.{rows}
-use Rattle.surface.specs.Stage.{Skin}
-use Rattle.refusal.specs.First.{Clause, First}
+use Rattle.refusal.specs.First.{First}
 use Rattle.refusal.specs.Told as answers
 use Rattle.refusal.specs.declared.Refusal.{Refusal}
 use Rattle.refusal.specs.declared.Verdict.{Verdict}
 use Rattle.refusal.specs.declared.Verdict.the-variants.{Passes, Refused}
 use Rattle.refusal.proofs.Laws.{first-one, refused-one, refused-passes}
-use Rattle.text.specs.Decimal.{decimal}
-use Rattle.text.proofs.Digits.{below-digits}
-use Rattle.lines.specs.Lines.{Short}
 use Rattle.lines.proofs.Cut.{lines-unique}
 use Rattle.sheet.specs.declared.Sheet.{Sheet}
 use Rattle.sheet.specs.declared.Sheet.the-variants as sheet
 use Rattle.sheet.specs.Answer.{told}
-use Rattle.sheet.specs.Limits.{most-digits, most-sheet-corners, most-sheet-rows}
-use Rattle.sheet.specs.Form.{C, R, sheet-text, corner-lines, row-lines, CountsIn, SheetOf, form-refusals}
-use Rattle.sheet.specs.Outcome.{NoRoom, skin-refusals, ReadSheet, bad-form, bad-skin, read}
+use Rattle.sheet.specs.Form.{C, R, sheet-text, corner-lines, row-lines, SheetOf, form-refusals}
+use Rattle.sheet.specs.Outcome.{skin-refusals, ReadSheet, bad-form, bad-skin, read}
 use Rattle.sheet.proofs.Formed.{same-first, its-line}
-use Rattle.sheet.proofs.Sizes.{sheet-size}
 
 -- ---- one text for its corners and rows
 

@@ -1,7 +1,7 @@
 -- How long the text of a sheet can be: within its counts it never reaches the size limit.
-use mathlib.Core.Path.{_≡_, refl, sym, _∙_, ap, subst}
+use mathlib.Core.Path.{_≡_, sym, _∙_, ap, subst}
 use mathlib.Core.List.{List, [], _∷_, _++_, map}
-use Prim.Native.Nat.{ℕ, zero, suc, _+_, _*_, _≤_, _<_}
+use Prim.Native.Nat.{ℕ, zero, suc, _+_, _*_, _≤_}
 use native.Mathlib.Omega.{arith}
 use lib.IntN.{ℤ, pos, negsuc, natAbs}
 use lib.ListN.{length, length-append, take, drop, length-drop, length-map, take-append-drop}
@@ -10,7 +10,7 @@ use Rattle.text.specs.Decimal.{decimal, signed}
 use Rattle.lines.specs.Lines.{fields, line, lines, Short}
 use Rattle.lines.proofs.Cut.{short-left, short-right}
 use Rattle.sheet.specs.Limits.{most-sheet-bytes, most-digits}
-use Rattle.sheet.specs.Form.{SKIN, C, R, first-line, corner-lines, row-lines, CountsIn, SheetOf}
+use Rattle.sheet.specs.Form.{SKIN, first-line, corner-lines, row-lines, CountsIn, SheetOf}
 
 pub signed-size : (z : ℤ) → length (signed z) ≤ 1 + length (decimal (natAbs z))
 signed-size (pos n) = omega arith

@@ -1,7 +1,7 @@
 -- What the rows of a stage give of its flat table.
 use mathlib.Core.Path.{_≡_}
 use mathlib.Core.List.{List}
-use Prim.Native.Nat.{ℕ, _≤_, _<_, _%_}
+use Prim.Native.Nat.{ℕ, _≤_, _%_}
 use native.Mathlib.Omega.{arith}
 use lib.ListN.{length}
 use Rattle.surface.specs.Limits.{most-rows}
@@ -19,9 +19,6 @@ module _ (t : List ℕ) (threes : length t % 3 ≡ 0) where
 
   pub stage-under : {n : ℕ} → Stage n (rows t) → Under t n
   stage-under s = record { under = λ e h. s .below (at-follows t threes e h) }
-
-  pub stage-some : {n : ℕ} → Stage n (rows t) → 0 < length t
-  stage-some s = let e = whole-rows t threes in let m = s .least in omega arith
 
 -- a stage's table is made of whole rows, and its numbers are below the corner count
 module _ {n : ℕ} {t : List ℕ} (w : StageTable n t) where

@@ -1,12 +1,12 @@
 -- Two rows that leave, found one after the other, are the record of the step.
-use mathlib.Core.Path.{_≡_, refl, sym, _∙_, ap}
-use mathlib.Core.Logic.{_≢_, _⊎_, inl, inr, ite}
+use mathlib.Core.Path.{_≡_, refl, sym, _∙_}
+use mathlib.Core.Logic.{_⊎_, inl, inr, ite}
 use mathlib.Core.List.{List, [], _∷_, map, List·Memᴰ·head, List·Memᴰ·tail, List·Memᴰ·cases-cons, List·Memᴰ·eq-of-singleton, Memᴰ·map}
-use Prim.Native.Nat.{ℕ, zero, suc, _+_, _*_, _≤_, _<_}
+use Prim.Native.Nat.{ℕ, zero, suc, _+_, _≤_, _<_}
 use native.Mathlib.Omega.{arith}
 use lib.ListN.{length, getD}
 use Rattle.surface.specs.Lists.{_∈_}
-use Rattle.surface.specs.Rows.{Row, row, rows}
+use Rattle.surface.specs.Rows.{Row}
 use Rattle.surface.specs.Contract.{Stays, stays?}
 use Rattle.surface.specs.Record.{Placed, at, later, leaving}
 use Rattle.surface.proofs.TwoPlaces.{Two}

@@ -1,17 +1,17 @@
 -- Rows that stay move up: one turn of the loop, its end, and that it is the contraction of the rows.
 use mathlib.Core.Path.{_≡_, refl, sym, _∙_, ap}
-use mathlib.Core.Logic.{_≢_, _⊎_, inl, inr, ite}
-use mathlib.Core.Bool.{Bool, true, false, cond, _&&_, _||_}
+use mathlib.Core.Logic.{ite}
+use mathlib.Core.Bool.{Bool, true, false, cond}
 use mathlib.Core.List.{List, [], _∷_, _++_, append-assoc, append-nil, map, filter}
-use Prim.Native.Nat.{ℕ, zero, suc, _+_, _-_, _*_, _≤_, _<_}
+use Prim.Native.Nat.{ℕ, suc, _+_, _-_, _*_, _≤_, _<_}
 use native.Mathlib.Decide.{ℕ-discrete}
 use native.Mathlib.Omega.{arith}
 use lib.Dec.{eqb}
-use lib.ListN.{length, take, drop, getD, set, length-append, length-drop, length-set}
-use lib.Seq.{sets, sets-eq, length-sets, drop-set-lt, take-at, length-take-le}
+use lib.ListN.{length, take, drop, getD, set, length-append, length-drop}
+use lib.Seq.{sets, sets-eq, drop-set-lt, take-at, length-take-le}
 use borrow.Author.Tests.{eq-eqb, ne-eqb}
 use Rattle.surface.specs.Rows.{Row, row, rows}
-use Rattle.surface.specs.Contract.{Holds, at-0, at-1, at-2, holds?, Stays, stays?, replace, renumber, contract}
+use Rattle.surface.specs.Contract.{Holds, at-0, at-1, at-2, Stays, stays?, replace, renumber, contract}
 use Rattle.surface.proofs.Flat.{three}
 use Rattle.surface.proofs.Renumber.{replace-at, replace-off}
 use Rattle.step.specs.Flat.{has, swap, leaves, row-after, row-from, after}

@@ -1,18 +1,16 @@
 -- The step as its parts make it: the two rows found, the others moved up, the rest cleared.
 use mathlib.Core.Path.{_≡_, refl, sym, _∙_, ap}
-use mathlib.Core.Logic.{_≢_, _⊎_, inl, inr}
-use mathlib.Core.List.{List, [], _∷_, _++_, List·Memᴰ·head, List·Memᴰ·tail, List·Memᴰ·cases-cons, List·Memᴰ·eq-of-singleton}
-use Prim.Native.Nat.{ℕ, suc, _+_, _-_, _*_, _≤_, _<_}
+use mathlib.Core.List.{List, [], _∷_, _++_, List·Memᴰ·head, List·Memᴰ·tail}
+use Prim.Native.Nat.{ℕ, _+_, _-_, _*_, _≤_, _<_}
 use native.Mathlib.Decide.{decLe}
 use native.Mathlib.Omega.{arith}
 use lib.ListN.{length, getD, take, drop, replicate}
 use lib.Seq.{take-at, drop-at, length-take-le}
 use Rattle.surface.specs.Limits.{most-rows}
-use Rattle.surface.specs.Lists.{_∈_}
 use Rattle.surface.specs.Stage.{StageTable}
 use Rattle.surface.specs.Rows.{Row, row, rows}
 use Rattle.surface.specs.Contract.{Stays, contract}
-use Rattle.surface.specs.Record.{Placed, at, leaving, placed, Replays}
+use Rattle.surface.specs.Record.{at, leaving}
 use Rattle.surface.proofs.Flat.{rows-at}
 use Rattle.surface.proofs.Growing.{leaving-out}
 use Rattle.surface.proofs.Main.{two-fewer}
@@ -20,7 +18,6 @@ use Rattle.surface.proofs.TwoPlaces.{Two, two-places}
 use Rattle.record.specs.declared.Corner.{Corner}
 use Rattle.record.specs.declared.Leaving.{Leaving}
 use Rattle.record.specs.declared.Record.{Record}
-use Rattle.record.specs.Layout.{meant}
 use Rattle.step.specs.Flat.{after}
 use Rattle.step.specs.Step.{Ready, row-at, SomeLeaves, NextLeaving, Recorded, Stepped}
 use Rattle.step.proofs.Moving.{after-rows, after-threes}

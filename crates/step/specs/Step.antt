@@ -1,7 +1,7 @@
 -- The step on a lent table: what it is asked for, and what it leaves.
 use mathlib.Core.Path.{_≡_}
 use mathlib.Core.List.{List}
-use Prim.Native.Nat.{ℕ, _+_, _-_, _*_, _≤_, _<_, _%_}
+use Prim.Native.Nat.{ℕ, _+_, _-_, _*_, _≤_, _<_}
 use lib.ListN.{length, getD, take, drop, replicate}
 use Rattle.surface.specs.Rows.{Row, row, rows}
 use Rattle.surface.specs.Stage.{StageTable}

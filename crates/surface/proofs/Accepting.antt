@@ -11,13 +11,13 @@ use Rattle.surface.specs.Table.{Edge}
 use Rattle.surface.specs.Stage.{Stage}
 use Rattle.surface.specs.Link.{Opposite}
 use Rattle.surface.specs.Record.{at, Record, placed}
-use Rattle.surface.specs.Grow.{put, put-back, Grown, Ends, in-order, crossed, Grows}
+use Rattle.surface.specs.Grow.{put, put-back, Grown, Ends, in-order, crossed}
 use Rattle.surface.specs.Accept.{Accepted, Local}
 use Rattle.surface.proofs.Once.{turn}
 use Rattle.surface.proofs.Contracted.{two-leave, from-a, b≢x, y≢b}
 use Rattle.surface.proofs.Following.{re-edge, follows-same as one}
 use Rattle.surface.proofs.Linked.{opposite, meets}
-use Rattle.surface.proofs.Growing.{grown-one, leaving-out}
+use Rattle.surface.proofs.Growing.{leaving-out}
 use Rattle.surface.proofs.Stepped.{no-second}
 use Rattle.surface.proofs.Regrow.{Third, third-0, third-1, third-2, third, T-length, T-stage, T-opposite, T-back, T-leaving}
 use Rattle.surface.proofs.Walked.{grow-back, grow-back-grown}
@@ -168,25 +168,3 @@ ends-one {a} {b} {x} {y} {x₂} {y₂} ab xa xb ya yb = go
     go (in-order l r) (crossed r₂ l₂) = absurd (never ab xa xb (third l r₂))
     go (crossed r l) (in-order l₂ r₂) = absurd (never (λ e. ab (sym e)) yb ya (third r l₂))
     go (crossed r l) (crossed r₂ l₂) = (same ab (third l l₂), same (λ e. ab (sym e)) (third r r₂))
-
-module _ (n : ℕ) (T′ : List Row) (k : Record) (s : Stage n T′) (l : Local n T′ k) where
-  -- exactly one table grows back, and it is the one that is made
-  pub grows-made : Grows T′ k (made n T′ k s l)
-  grows-made = (made-accepted n T′ k s l) .grows
-
-  pub grows-one : {T : List Row} → Grows T′ k T → T ≡ made n T′ k s l
-  unfolding made
-  grows-one {T} g =
-      grown-one (rw (sym (e .0), sym (e .1)) at (g .grown)) (grow-back-grown n T′ s (k .kept) (k .removed) (l .x) (l .y) (l .at-x) (l .at-y) (placed k))
-    where
-      a≢b : k .kept ≢ k .removed
-      a≢b e = let h = l .lower in omega arith
-
-      off-a : {p : ℕ} → Edge T′ (k .kept) p → p ≢ k .kept
-      off-a g e = s .apart (g .1) (sym e)
-
-      off-b : {p : ℕ} → Edge T′ (k .kept) p → p ≢ k .removed
-      off-b g e = l .unused (k .kept, re-edge e refl (s .both g))
-
-      e : (l .x ≡ g .x) × (l .y ≡ g .y)
-      e = ends-one a≢b (off-a (l .at-x)) (off-b (l .at-x)) (off-a (l .at-y)) (off-b (l .at-y)) (l .ends) (g .ends)

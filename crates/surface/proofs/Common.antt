@@ -1,12 +1,12 @@
 -- Past four rows the number of common neighbours decides: an edge meets the condition exactly when there are two.
 use mathlib.Core.Path.{_≡_, refl, sym}
-use mathlib.Core.Logic.{_≢_, _⊎_, inl, inr, _↔_}
+use mathlib.Core.Logic.{_⊎_, inl, inr, _↔_}
 use mathlib.Core.List.{List, [], _∷_, List·Memᴰ·head, List·Memᴰ·tail, List·Memᴰ·cases-cons, List·Memᴰ·not-nil, List·Memᴰ·eq-of-singleton, Memᴰ·cast}
 use Prim.Native.Nat.{ℕ, _<_, _+_}
 use native.Mathlib.Decide.{ℕ-discrete}
 use native.Mathlib.Omega.{arith}
 use lib.ListN.{length}
-use Rattle.surface.specs.Lists.{_∈_, Distinct, none, more, Exactly}
+use Rattle.surface.specs.Lists.{_∈_, none, more, Exactly}
 use Rattle.surface.specs.Rows.{Row}
 use Rattle.surface.specs.Table.{Follows, Edge}
 use Rattle.surface.specs.Stage.{Stage}

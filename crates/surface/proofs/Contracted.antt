@@ -6,17 +6,17 @@ use Prim.Native.Nat.{ℕ, _≤_, _<_, _+_}
 use lib.ListN.{length}
 use native.Mathlib.Decide.{ℕ-discrete}
 use native.Mathlib.Omega.{arith}
-use Rattle.surface.specs.Lists.{_∈_, Reach, stay, step, Distinct, none, more}
+use Rattle.surface.specs.Lists.{_∈_, Reach, stay, Distinct, none, more}
 use Rattle.surface.specs.Rows.{Row, row, Turned, turn-0, turn-1, turn-2}
 use Rattle.surface.specs.Table.{Follows, Edge, Used, edges}
 use Rattle.surface.specs.Stage.{Stage}
-use Rattle.surface.specs.Link.{Link, Opposite}
+use Rattle.surface.specs.Link.{Opposite}
 use Rattle.surface.specs.Contract.{Holds, at-0, at-1, at-2, holds?, Stays, stays?, replace, renumber, contract}
 use Rattle.surface.proofs.Count.{fits, distinct-filter, not-two, length-map}
 use Rattle.surface.proofs.Reaching.{join, one-step, carry, Past, after, before}
-use Rattle.surface.proofs.Once.{turn, Once, once-none, once-more, Apart, follows-one, same-second, turn-it, row-one, distinct-rows, follows-tail, once-of-distinct, distinct-of-once}
+use Rattle.surface.proofs.Once.{turn, Once, once-none, once-more, same-second, turn-it, row-one, distinct-rows, distinct-of-once}
 use Rattle.surface.proofs.Following.{re, re-edge, Gone, left-0, left-1, left-2, right-0, right-1, right-2, stage-once, follows-same}
-use Rattle.surface.proofs.Renumber.{filter-in, filter-out, holds-turned, turned-holds, replace-at, replace-off, replace-same, keep, Came, came, Source, source, stays-turned}
+use Rattle.surface.proofs.Renumber.{filter-in, filter-out, holds-turned, turned-holds, replace-at, replace-off, replace-same, keep, came, Source, source, stays-turned}
 
 module _ (n : ℕ) (T : List Row) (a b x y : ℕ) (s : Stage n T) (o : Opposite T a b x y) where
   pub once-T : Once T

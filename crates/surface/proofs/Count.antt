@@ -1,8 +1,8 @@
 -- Counting the elements of lists in which none occurs twice.
 use mathlib.Core.Path.{_≡_, refl, sym, _∙_, ap}
 use mathlib.Core.Logic.{_≢_, _⊎_, inl, inr, ite}
-use mathlib.Core.List.{List, [], _∷_, map, filter, List·Memᴰ, List·Memᴰ·head, List·Memᴰ·tail, List·Memᴰ·cases-cons, List·Memᴰ·not-nil, Memᴰ·cast}
-use Prim.Native.Nat.{ℕ, suc, _≤_, _<_, _+_}
+use mathlib.Core.List.{List, [], _∷_, map, filter, List·Memᴰ·head, List·Memᴰ·tail, List·Memᴰ·cases-cons, Memᴰ·cast}
+use Prim.Native.Nat.{suc, _≤_}
 use native.Mathlib.Omega.{arith}
 use lib.ListN.{length}
 use Rattle.surface.specs.Lists.{_∈_, Distinct, none, more}

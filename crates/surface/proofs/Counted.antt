@@ -1,7 +1,7 @@
 -- A contraction keeps the Euler number.
 use mathlib.Core.Path.{_≡_, refl, sym, _∙_, ap}
 use mathlib.Core.Logic.{_≢_, _⊎_, inl, inr}
-use mathlib.Core.List.{List, [], _∷_, _++_, map, List·Memᴰ, List·Memᴰ·head, List·Memᴰ·tail, List·Memᴰ·cases-cons, List·Memᴰ·not-nil, List·Memᴰ·eq-of-singleton, Memᴰ·cast, Memᴰ·map, Memᴰ·of-map, Memᴰ·append-left, Memᴰ·append-right, List·Memᴰ·append-cases}
+use mathlib.Core.List.{List, [], _∷_, _++_, map, List·Memᴰ·head, List·Memᴰ·tail, List·Memᴰ·cases-cons, List·Memᴰ·not-nil, List·Memᴰ·eq-of-singleton, Memᴰ·cast, Memᴰ·map, Memᴰ·of-map, Memᴰ·append-left, Memᴰ·append-right, List·Memᴰ·append-cases}
 use Prim.Native.Nat.{ℕ, suc, _≤_, _<_, _+_, _*_}
 use native.Mathlib.Decide.{ℕ-discrete, decLt}
 use native.Mathlib.Omega.{arith}
@@ -18,7 +18,7 @@ use Rattle.surface.proofs.Count.{fits, not-two, length-map}
 use Rattle.surface.proofs.Once.{turn, edge-in, in-edge}
 use Rattle.surface.proofs.Renumber.{replace-at, replace-off, replace-same, Source, source}
 use Rattle.surface.proofs.Contracted.{contracted, two-leave, edge-kept, from-a}
-use Rattle.surface.proofs.Following.{re, re-edge}
+use Rattle.surface.proofs.Following.{re-edge}
 use Rattle.surface.proofs.Linked.{not-same}
 
 -- equal differences of whole numbers

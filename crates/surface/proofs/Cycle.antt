@@ -1,15 +1,14 @@
 -- Steps that lead on from every place of a finite set, and never two to one place, lead back to where they began.
-use mathlib.Core.Path.{_≡_, refl, sym, _∙_, ap}
+use mathlib.Core.Path.{_≡_, refl, sym, _∙_}
 use mathlib.Core.Logic.{_≢_, _⊎_, inl, inr}
 use mathlib.Core.List.{List, [], _∷_, map, List·Memᴰ·head, List·Memᴰ·tail, List·Memᴰ·cases-cons, List·Memᴰ·not-nil, List·Memᴰ·eq-of-singleton, Memᴰ·cast, Memᴰ·map}
-use Prim.Native.Nat.{ℕ, zero, suc, _≤_, _<_, _+_}
+use Prim.Native.Nat.{ℕ, zero, suc, _<_, _+_}
 use native.Mathlib.Decide.{ℕ-discrete}
 use native.Mathlib.Omega.{arith}
 use lib.ListN.{length}
 use Rattle.surface.specs.Lists.{_∈_, Distinct, none, more, Reach, stay, step}
-use Rattle.surface.specs.Rows.{Row, row}
+use Rattle.surface.specs.Rows.{Row}
 use Rattle.surface.specs.Table.{Arrow, _⇒_, Follows, Edge, edges}
-use Rattle.surface.specs.Stage.{Stage}
 use Rattle.surface.proofs.Count.{fits}
 use Rattle.surface.proofs.Reaching.{join, one-step}
 use Rattle.surface.proofs.Once.{turn, Once, Apart, follows-one, edge-in}

@@ -2,13 +2,13 @@
 use mathlib.Core.Path.{_≡_, refl, sym, _∙_, ap, ap₂}
 use mathlib.Core.Logic.{_≢_, _⊎_, inl, inr}
 use mathlib.Core.List.{List, [], _∷_, map, List·Memᴰ·head, List·Memᴰ·tail, List·Memᴰ·cases-cons, List·Memᴰ·not-nil, Memᴰ·map}
-use Prim.Native.Nat.{ℕ, zero, suc, _≤_, _<_, _+_}
+use Prim.Native.Nat.{ℕ, suc, _≤_}
 use native.Mathlib.Decide.{ℕ-discrete}
 use native.Mathlib.Omega.{arith}
 use lib.ListN.{length}
 use Rattle.surface.specs.Lists.{_∈_, Distinct, none, more, Reach, stay, step}
 use Rattle.surface.specs.Rows.{Row}
-use Rattle.surface.specs.Table.{Follows, Edge, Arrow, _⇒_}
+use Rattle.surface.specs.Table.{Follows, Edge}
 use Rattle.surface.specs.Grow.{Between}
 use Rattle.surface.proofs.Once.{Once, Apart, follows-one}
 use Rattle.surface.proofs.Count.{fits, length-map}

@@ -1,16 +1,14 @@
 -- A flat table and its rows, by place.
 use mathlib.Core.Path.{_≡_, refl, sym, _∙_, ap}
-use mathlib.Core.Logic.{_≢_, _⊎_, inl, inr}
-use mathlib.Core.List.{List, [], _∷_, map, List·Memᴰ·head, List·Memᴰ·tail, List·Memᴰ·cases-cons, List·Memᴰ·not-nil, Memᴰ·cast}
+use mathlib.Core.Logic.{_≢_}
+use mathlib.Core.List.{List, [], _∷_, List·Memᴰ·head, List·Memᴰ·tail, Memᴰ·cast}
 use Prim.Native.Nat.{ℕ, zero, suc, _≤_, _<_, _+_, _-_, _*_}
-use native.Mathlib.Nat.{suc-inj}
 use native.Mathlib.Omega.{arith}
 use native.Mathlib.Numerals.{add-one, add-two, add-three}
 use lib.ListN.{length, drop, getD, length-drop}
 use lib.Seq.{drop-cons}
 use Rattle.surface.specs.Lists.{_∈_, Distinct, none, more}
-use Rattle.surface.specs.Rows.{Row, row, rows, flat, turn-0}
-use Rattle.surface.specs.Stage.{Stage}
+use Rattle.surface.specs.Rows.{Row, row, rows, flat}
 
 pub rows-flat : (T : List Row) → rows (flat T) ≡ T
 unfolding rows flat
@@ -85,12 +83,6 @@ rows-fit [] = omega arith
 rows-fit (a ∷ []) = omega arith
 rows-fit (a ∷ b ∷ []) = omega arith
 rows-fit (a ∷ b ∷ c ∷ t) = let h = rows-fit t in omega arith
-
--- the numbers of a stage are below the corner count
-pub number-below : (n : ℕ) (t : List ℕ) (i : ℕ) → Stage n (rows t) → i < length (rows t) → getD t (3 * i) 0 < n
-number-below n t i s h =
-    let d = row 0 0 0 in
-    s .below (record { by = getD (rows t) i d; here = at-place (rows t) i d h; turned = turn-0 (rows-at i t d h) })
 
 -- what is left of a flat table from i on begins with the three numbers there
 pub three : (l : List ℕ) (i : ℕ) → i + 3 ≤ length l → drop i l ≡ getD l i 0 ∷ getD l (i + 1) 0 ∷ getD l (i + 2) 0 ∷ drop (i + 3) l

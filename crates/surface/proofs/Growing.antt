@@ -2,11 +2,11 @@
 use mathlib.Core.Path.{_≡_, refl, sym, _∙_, ap, ap₂}
 use mathlib.Core.Logic.{_≢_, _⊎_, inl, inr, ite}
 use mathlib.Core.List.{List, [], _∷_, _++_, map, filter, List·Memᴰ·head, List·Memᴰ·tail, List·Memᴰ·cases-cons, List·Memᴰ·not-nil, Memᴰ·cast, Memᴰ·map, Memᴰ·of-map}
-use Prim.Native.Nat.{ℕ, zero, suc, _≤_, _<_, _+_}
+use Prim.Native.Nat.{ℕ, zero, suc, _+_}
 use native.Mathlib.Decide.{ℕ-discrete}
 use native.Mathlib.Omega.{arith}
 use lib.ListN.{length}
-use Rattle.surface.specs.Lists.{_∈_, Reach, stay, step}
+use Rattle.surface.specs.Lists.{_∈_, Reach}
 use Rattle.surface.specs.Rows.{Row, row, Turned, turn-0, turn-1, turn-2}
 use Rattle.surface.specs.Table.{Follows, Edge}
 use Rattle.surface.specs.Stage.{Stage}
@@ -14,12 +14,12 @@ use Rattle.surface.specs.Link.{Opposite}
 use Rattle.surface.specs.Contract.{Holds, at-0, at-1, at-2, holds?, Stays, stays?, replace, renumber, contract}
 use Rattle.surface.specs.Record.{Placed, at, later, leaving}
 use Rattle.surface.specs.Grow.{put, put-back, Between, Regrown, renamed, left-be, Each, each-none, each-more, Grown}
-use Rattle.surface.proofs.Reaching.{join, one-step, carry, within, Past, after}
+use Rattle.surface.proofs.Reaching.{one-step, carry, within, Past, after}
 use Rattle.surface.proofs.Count.{length-map}
 use Rattle.surface.proofs.Once.{turn}
-use Rattle.surface.proofs.Renumber.{filter-out, keep, replace-at, replace-off, replace-same, Source, source, stays-turned}
-use Rattle.surface.proofs.Contracted.{one, one-back, stays-a, stays-b, on-b, re-stays, two-leave, Whence, whence, round-a, round-b}
-use Rattle.surface.proofs.Following.{re, re-edge}
+use Rattle.surface.proofs.Renumber.{filter-out, replace-at, replace-off, stays-turned}
+use Rattle.surface.proofs.Contracted.{one, on-b, two-leave, Whence, whence, round-a, round-b}
+use Rattle.surface.proofs.Following.{re}
 
 put-later : (l : List Placed) (z : Row) (S : List Row) → put-back (map later l) (z ∷ S) ≡ z ∷ put-back l S
 unfolding put-back later put

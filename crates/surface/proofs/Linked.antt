@@ -1,18 +1,17 @@
 -- The link condition as published, and its working form, say the same of a stage.
-use mathlib.Core.Path.{_≡_, refl, sym, _∙_, ap}
+use mathlib.Core.Path.{_≡_, refl, sym}
 use mathlib.Core.Logic.{_≢_, _⊎_, inl, inr}
 use mathlib.Core.List.{List, [], _∷_, List·Memᴰ·head, List·Memᴰ·tail}
-use Prim.Native.Nat.{ℕ, _≤_, _<_, _+_}
-use lib.ListN.{length}
+use Prim.Native.Nat.{ℕ}
 use native.Mathlib.Omega.{arith}
-use Rattle.surface.specs.Lists.{_∈_, Reach, stay, step}
-use Rattle.surface.specs.Rows.{Row, row, Turned, turn-0, turn-1, turn-2}
-use Rattle.surface.specs.Table.{Follows, Edge, Used}
+use Rattle.surface.specs.Lists.{_∈_}
+use Rattle.surface.specs.Rows.{Row, row, Turned, turn-0}
+use Rattle.surface.specs.Table.{Follows, Edge}
 use Rattle.surface.specs.Stage.{Stage}
 use Rattle.surface.specs.Link.{Meets, Opposite}
 use Rattle.surface.proofs.Count.{fits}
 use Rattle.surface.proofs.Reaching.{within}
-use Rattle.surface.proofs.Once.{turn, Once, follows-one, once-of-distinct, row-one, distinct-rows, turn-it}
+use Rattle.surface.proofs.Once.{turn, Once, row-one, distinct-rows, turn-it}
 use Rattle.surface.proofs.Following.{re, re-edge, stage-once, follows-same}
 
 data Of (a b x v : ℕ) : Type 0 where

@@ -1,10 +1,10 @@
 -- The theorems on stages and contractions, each in 01's words. Other crates cite these.
-use mathlib.Core.Path.{_≡_, refl, sym, _∙_, ap}
+use mathlib.Core.Path.{_≡_, refl, sym, _∙_}
 use mathlib.Core.Logic.{_⊎_, _↔_}
 use mathlib.Core.List.{List}
 use Prim.Native.Nat.{ℕ, _+_, _≤_, _<_}
 use native.Mathlib.Omega.{arith}
-use lib.IntN.{ℤ, pos, _-ℤ_}
+use lib.IntN.{ℤ}
 use lib.ListN.{length}
 use Rattle.surface.specs.Lists.{Exactly}
 use Rattle.surface.specs.Rows.{Row}
@@ -12,9 +12,9 @@ use Rattle.surface.specs.Table.{Follows, Edge, Used}
 use Rattle.surface.specs.Stage.{Stage}
 use Rattle.surface.specs.Link.{Link, Meets, Opposite, Common}
 use Rattle.surface.specs.Contract.{contract}
-use Rattle.surface.specs.Record.{Record, leaving, Replays}
+use Rattle.surface.specs.Record.{Record, Replays}
 use Rattle.surface.specs.Accept.{Accepted, Local}
-use Rattle.surface.specs.Euler.{Counts, Euler}
+use Rattle.surface.specs.Euler.{Euler}
 use Rattle.surface.proofs.Linked.{opposite, meets}
 use Rattle.surface.proofs.Tetrahedron.{tetrahedron}
 use Rattle.surface.proofs.Common.{meets-pairs}

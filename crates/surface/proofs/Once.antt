@@ -1,12 +1,11 @@
 -- Each directed edge occurs once: what follows is one corner.
-use mathlib.Core.Path.{_≡_, refl, sym, _∙_, ap}
+use mathlib.Core.Path.{_≡_, refl, sym, _∙_}
 use mathlib.Core.Logic.{_≢_, _⊎_, inl, inr}
-use mathlib.Core.List.{List, [], _∷_, List·Memᴰ, List·Memᴰ·head, List·Memᴰ·tail, List·Memᴰ·cases-cons, List·Memᴰ·not-nil, Memᴰ·cast}
+use mathlib.Core.List.{List, [], _∷_, List·Memᴰ·head, List·Memᴰ·tail, List·Memᴰ·cases-cons, List·Memᴰ·not-nil, Memᴰ·cast}
 use Prim.Native.Nat.{ℕ}
-use native.Mathlib.Omega.{arith}
 use Rattle.surface.specs.Lists.{_∈_, Distinct, none, more}
 use Rattle.surface.specs.Rows.{Row, row, Turned, turn-0, turn-1, turn-2}
-use Rattle.surface.specs.Table.{Follows, Edge, edges, Arrow, _⇒_}
+use Rattle.surface.specs.Table.{Follows, Edge, edges, _⇒_}
 
 pub turn : {T : List Row} {v p q : ℕ} → Follows T v p q → Follows T p q v
 turn {v} {p} {q} f = record { by = f .by; here = f .here; turned = go (f .turned) }

@@ -1,20 +1,18 @@
 -- What a step writes: two rows, the earlier first. Growing back accepts it.
-use mathlib.Core.Path.{_≡_, refl, sym, _∙_, ap}
-use mathlib.Core.Logic.{_⊎_, inl, inr, ite, _↔_}
-use mathlib.Core.List.{List, [], _∷_, map, List·Memᴰ·cases-cons, List·Memᴰ·eq-of-singleton}
-use Prim.Native.Nat.{ℕ, zero, suc, _<_}
+use mathlib.Core.Path.{_≡_, refl, sym, _∙_}
+use mathlib.Core.Logic.{_⊎_, inl, inr, _↔_}
+use mathlib.Core.List.{List, [], _∷_, List·Memᴰ·cases-cons, List·Memᴰ·eq-of-singleton}
+use Prim.Native.Nat.{ℕ, _<_}
 use native.Mathlib.Omega.{arith}
-use lib.ListN.{length}
 use Rattle.surface.specs.Lists.{_∈_}
 use Rattle.surface.specs.Rows.{Row}
 use Rattle.surface.specs.Table.{Follows}
 use Rattle.surface.specs.Stage.{Stage}
 use Rattle.surface.specs.Link.{Meets, Opposite}
-use Rattle.surface.specs.Contract.{at-0, at-1, Stays, stays?, contract}
-use Rattle.surface.specs.Record.{Placed, at, later, leaving, Record, placed, Replays, Replayed, no-step, one-step}
+use Rattle.surface.specs.Contract.{at-0, at-1, Stays, contract}
+use Rattle.surface.specs.Record.{at, leaving, Record, placed, Replays, Replayed, no-step, one-step}
 use Rattle.surface.specs.Grow.{Ends, in-order, crossed}
 use Rattle.surface.specs.Accept.{Accepted, GrownBack, no-record, one-record}
-use Rattle.surface.proofs.Count.{length-map}
 use Rattle.surface.proofs.Once.{turn}
 use Rattle.surface.proofs.Renumber.{stays-turned}
 use Rattle.surface.proofs.Regrow.{Third, third-0, third-1, third-2, third}

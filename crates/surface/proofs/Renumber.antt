@@ -1,13 +1,13 @@
 -- What a contraction does to one row, and to the rows of a table.
-use mathlib.Core.Path.{_≡_, refl, sym, _∙_, ap}
+use mathlib.Core.Path.{_≡_, refl, sym, ap}
 use mathlib.Core.Logic.{_≢_, _⊎_, inl, inr, ite}
-use mathlib.Core.List.{List, [], _∷_, map, filter, List·Memᴰ·head, List·Memᴰ·tail, List·Memᴰ·cases-cons, List·Memᴰ·not-nil, Memᴰ·map, Memᴰ·of-map}
+use mathlib.Core.List.{List, [], _∷_, filter, List·Memᴰ·head, List·Memᴰ·tail, List·Memᴰ·cases-cons, List·Memᴰ·not-nil, Memᴰ·map, Memᴰ·of-map}
 use Prim.Native.Nat.{ℕ}
 use native.Mathlib.Decide.{ℕ-discrete}
 use Rattle.surface.specs.Lists.{_∈_}
 use Rattle.surface.specs.Rows.{Row, row, Turned, turn-0, turn-1, turn-2}
-use Rattle.surface.specs.Table.{Follows, Edge}
-use Rattle.surface.specs.Contract.{Holds, at-0, at-1, at-2, Stays, stays?, holds?, replace, renumber, contract}
+use Rattle.surface.specs.Table.{Follows}
+use Rattle.surface.specs.Contract.{Holds, at-0, at-1, at-2, Stays, stays?, replace, renumber, contract}
 
 -- a sieve keeps what passes
 module _ {A : Type 0} {p : A → Type 0} (d : (a : A) → Dec (p a)) where

@@ -1,19 +1,18 @@
 -- The theorems on a contraction, for an edge that meets the link condition.
-use mathlib.Core.Path.{_≡_, refl, sym, _∙_, ap}
-use mathlib.Core.Logic.{_≢_, _⊎_, inl, inr}
-use mathlib.Core.List.{List, [], _∷_, filter, List·Memᴰ·head, List·Memᴰ·tail, List·Memᴰ·cases-cons, List·Memᴰ·not-nil}
-use Prim.Native.Nat.{ℕ, zero, suc, _≤_, _<_, _+_, _*_}
-use native.Mathlib.Decide.{ℕ-discrete, decLt}
+use mathlib.Core.Path.{_≡_, refl, ap}
+use mathlib.Core.Logic.{_⊎_, inl, inr}
+use mathlib.Core.List.{List, [], _∷_, filter, List·Memᴰ·head, List·Memᴰ·cases-cons, List·Memᴰ·not-nil}
+use Prim.Native.Nat.{ℕ, zero, suc, _<_, _+_, _*_}
+use native.Mathlib.Decide.{decLt}
 use native.Mathlib.Omega.{arith}
 use lib.ListN.{length}
 use Rattle.surface.specs.Lists.{_∈_, Distinct, none, more, Exactly}
-use Rattle.surface.specs.Rows.{Row, row}
-use Rattle.surface.specs.Table.{Arrow, _⇒_, Follows, Edge, Used, edges}
+use Rattle.surface.specs.Rows.{Row}
+use Rattle.surface.specs.Table.{Arrow, _⇒_, Follows, Used, edges}
 use Rattle.surface.specs.Stage.{Stage}
 use Rattle.surface.specs.Link.{Meets}
 use Rattle.surface.specs.Contract.{contract}
-use Rattle.surface.specs.Record.{Placed, leaving}
-use Rattle.surface.specs.Grow.{Grown}
+use Rattle.surface.specs.Record.{leaving}
 use Rattle.surface.specs.Euler.{Rises, rises, Counts}
 use Rattle.surface.proofs.Count.{distinct-filter}
 use Rattle.surface.proofs.Renumber.{filter-in, filter-out}
@@ -21,7 +20,7 @@ use Rattle.surface.proofs.Once.{edge-in, in-edge}
 use Rattle.surface.proofs.Linked.{opposite}
 use Rattle.surface.proofs.Contracted.{contracted, two-leave}
 use Rattle.surface.proofs.Counted.{euler, one-count, one-corner}
-use Rattle.surface.proofs.Growing.{grown, told}
+use Rattle.surface.proofs.Growing.{told}
 use Rattle.surface.proofs.Round.{round, round-sound, round-whole, upto, every-upto}
 
 -- a contraction of an edge that meets the link condition leaves a stage

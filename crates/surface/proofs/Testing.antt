@@ -3,7 +3,6 @@ use mathlib.Core.Path.{_≡_, refl}
 use mathlib.Core.Logic.{_⊎_, inl, inr}
 use mathlib.Core.Bool.{Bool, true, false, _&&_, _||_, not}
 use mathlib.Core.List.{List, [], _∷_, List·Memᴰ·head, List·Memᴰ·tail, List·Memᴰ·cases-cons, List·Memᴰ·not-nil}
-use Prim.Native.Nat.{ℕ}
 use lib.Dec.{T as So, eqb, eqb→eq, eqb-refl, T-not}
 use Rattle.surface.specs.Lists.{_∈_, Distinct, none, more}
 use Rattle.surface.specs.Table.{Arrow, _⇒_}

@@ -1,18 +1,18 @@
 -- Where the opposite corners are the only common neighbours, an edge in both links is found in a table of four rows alone.
-use mathlib.Core.Path.{_≡_, refl, sym, _∙_, ap}
+use mathlib.Core.Path.{_≡_, refl, sym, _∙_}
 use mathlib.Core.Logic.{_≢_, _⊎_, inl, inr}
 use mathlib.Core.List.{List, [], _∷_, List·Memᴰ·head, List·Memᴰ·tail}
-use Prim.Native.Nat.{ℕ, _≤_, _<_, _+_}
+use Prim.Native.Nat.{ℕ}
 use lib.ListN.{length}
 use native.Mathlib.Omega.{arith}
-use Rattle.surface.specs.Lists.{_∈_, Reach}
-use Rattle.surface.specs.Rows.{Row, row, Turned, turn-0, turn-1, turn-2}
-use Rattle.surface.specs.Table.{Follows, Edge, Used}
+use Rattle.surface.specs.Lists.{_∈_}
+use Rattle.surface.specs.Rows.{Row, row, Turned, turn-0}
+use Rattle.surface.specs.Table.{Follows, Edge}
 use Rattle.surface.specs.Stage.{Stage}
 use Rattle.surface.specs.Link.{Link}
 use Rattle.surface.proofs.Count.{fits}
 use Rattle.surface.proofs.Reaching.{within}
-use Rattle.surface.proofs.Once.{turn, Once, once-of-distinct, row-one, distinct-rows, turn-it}
+use Rattle.surface.proofs.Once.{turn, Once, row-one, distinct-rows, turn-it}
 use Rattle.surface.proofs.Following.{re, re-edge, stage-once, follows-same as one}
 use Rattle.surface.proofs.Linked.{not-same}
 

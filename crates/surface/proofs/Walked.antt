@@ -8,7 +8,7 @@ use native.Mathlib.Decide.{ℕ-discrete}
 use native.Mathlib.Omega.{arith}
 use lib.ListN.{length}
 use lib.Dec.{T as So, eqb, eqb→eq, eqb-refl}
-use Rattle.surface.specs.Lists.{_∈_, Distinct}
+use Rattle.surface.specs.Lists.{_∈_}
 use Rattle.surface.specs.Rows.{Row, row, Turned, turn-0, turn-1, turn-2}
 use Rattle.surface.specs.Table.{Arrow, _⇒_, Follows, Edge}
 use Rattle.surface.specs.Stage.{Stage}
@@ -16,10 +16,10 @@ use Rattle.surface.specs.Contract.{renumber}
 use Rattle.surface.specs.Record.{Placed}
 use Rattle.surface.specs.Grow.{put-back, Between, Regrown, renamed, left-be, Each, each-none, each-more, Grown}
 use Rattle.surface.proofs.Once.{turn, Once, once-of-distinct}
-use Rattle.surface.proofs.Following.{re-edge, follows-same as one}
+use Rattle.surface.proofs.Following.{follows-same as one}
 use Rattle.surface.proofs.Testing.{among, among-sound, among-whole, and-l, and-r, and-in, or-in, or-l, or-r}
 use Rattle.surface.proofs.Round.{round, round-sound, round-whole}
-use Rattle.surface.proofs.Fan.{Walks, ends, goes, walks, walks-one, passed, all-passed, no-repeat, walk-length}
+use Rattle.surface.proofs.Fan.{Walks, ends, goes, walks, walks-one, passed, all-passed, walk-length}
 
 -- what follows p, or else d
 abbrev pub onward : List Arrow → ℕ → ℕ → ℕ
@@ -111,10 +111,6 @@ module _ (n : ℕ) (T : List Row) (s : Stage n T) (a b x y : ℕ) (at-x : Edge T
   fan-is : fan T a x y ≡ way .0
   fan-is = walk-is (way .1) (length (round a T)) (walk-length T o (λ v p q f. s .apart f) a x (way .1))
 
-  -- no corner is passed twice
-  pub fan-distinct : Distinct (fan T a x y)
-  fan-distinct = rw fan-is (no-repeat T o (λ v p q f. s .apart f) a x (way .1))
-
   -- the fan has just the corners between
   pub fan-sound : {p : ℕ} → p ∈ fan T a x y → Between T a x y p
   fan-sound m = passed T o (λ v p q f. s .apart f) a x (way .1) (rw fan-is at m)
@@ -138,11 +134,8 @@ module _ (n : ℕ) (T : List Row) (s : Stage n T) (a b x y : ℕ) (at-x : Edge T
   unfolding grow-back
   grow-back-grown l = record { middle = map (regrow a b (fan T a x y)) T; each = each-row T; whole = refl }
 
--- the fan, a corner at a time: it ends at x, and goes on by what follows
+-- the fan, a corner at a time: it goes on by what follows
 module _ (n : ℕ) (T : List Row) (s : Stage n T) (a b x : ℕ) (at-x : Edge T a x) where
-  pub fan-end : {p : ℕ} → p ≡ x → fan T a x p ≡ []
-  fan-end {p} e = walk-is n T s a b x p at-x (re-edge refl (sym e) at-x) (ends e) (length (round a T)) (omega arith)
-
   pub fan-step : {p q : ℕ} → p ≢ x → Follows T a p q → fan T a x p ≡ p ∷ fan T a x q
   fan-step {p} {q} m f =
       fan-is n T s a b x p at-x (q, f)

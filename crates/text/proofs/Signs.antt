@@ -1,11 +1,11 @@
 -- A number with its sign is read as a number, after its minus or with none.
 use mathlib.Core.Path.{_≡_, refl, sym, _∙_, ap, subst}
-use mathlib.Core.List.{List, [], _∷_, _++_}
+use mathlib.Core.List.{List, _∷_, _++_}
 use Prim.Native.Nat.{ℕ, zero, suc, _+_, _^_, _≤_, _<_}
 use mathlib.Core.Bool.{true, false}
 use native.Mathlib.Omega.{arith}
 use lib.IntN.{ℤ, pos, negsuc, natAbs, _-ℤ_, +ℤ-idl}
-use lib.ListN.{length, drop}
+use lib.ListN.{drop}
 use lib.Signed.{ltZ}
 use mir.Syntax.{w64}
 use mir.Val.{SFits, toZ, ofZ}
@@ -17,7 +17,6 @@ use Rattle.text.specs.Reading.{NumberAt, SignedAt, ReadNumber, ReadSigne
 use Rattle.text.specs.declared.Cursor.{Cursor}
 use Rattle.text.specs.declared.Number.{Number}
 use Rattle.text.specs.declared.Number.the-variants as number
-use Rattle.text.specs.declared.Signed.{Signed}
 use Rattle.text.specs.declared.Signed.the-variants as whole
 use Rattle.text.proofs.Digits.{decimal-injective, digits-below}
 use Rattle.text.proofs.Scan.{none-there, number-unique}

@@ -1,5 +1,4 @@
 -- Numbers as text: decimal digits with no needless zero in front, and a minus only before a nonzero number.
-use mathlib.Core.Path.{_≡_}
 use mathlib.Core.List.{List, [], _∷_, _++_}
 use Prim.Native.Nat.{ℕ, zero, suc, _+_, _/_, _%_, _≤_}
 use lib.IntN.{ℤ, pos, negsuc}

@@ -1,16 +1,15 @@
 -- From the verdict to the engine and back: what the engine is asked for, and what it leaves.
 use mathlib.Core.Path.{_≡_, refl, sym, _∙_, ap}
 use mathlib.Core.List.{List, [], _++_, append-nil}
-use Prim.Native.Nat.{ℕ, _+_, _-_, _*_, _/_, _%_, _≤_, _<_}
+use Prim.Native.Nat.{ℕ, _+_, _-_, _*_, _/_, _%_, _≤_}
 use native.Mathlib.Omega.{arith}
 use lib.IntN.{ℤ}
-use lib.ListN.{length, take, drop, replicate}
+use lib.ListN.{length, drop, replicate}
 use lib.Seq.{take-all, drop-length}
-use Rattle.surface.specs.Limits.{least-corners}
-use Rattle.surface.specs.Lists.{_∈_, Exactly}
-use Rattle.surface.specs.Rows.{Row, rows, flat}
+use Rattle.surface.specs.Lists.{Exactly}
+use Rattle.surface.specs.Rows.{Row, flat}
 use Rattle.surface.specs.Table.{Used}
-use Rattle.surface.specs.Stage.{Stage, StageTable}
+use Rattle.surface.specs.Stage.{Stage}
 use Rattle.surface.proofs.Count.{fits}
 use Rattle.surface.proofs.Round.{upto, every-upto}
 use Rattle.surface.proofs.Stepped.{upto-length}
@@ -24,7 +23,7 @@ use Rattle.record.specs.Layout.{width, log-of}
 use Rattle.length.specs.declared.Length.{Length}
 use Rattle.length.specs.declared.Reading.{Reading}
 use Rattle.length.specs.declared.Reading.the-variants.{Whole, Unusable}
-use Rattle.length.specs.Limit.{most-limit, limit-of}
+use Rattle.length.specs.Limit.{limit-of}
 use Rattle.length.proofs.Laws.{limit-most}
 use Rattle.least.specs.declared.Bound.{Bound}
 use Rattle.least.specs.declared.Bound.the-variants.{Free, Within}
@@ -32,11 +31,10 @@ use Rattle.least.specs.Limited.{Allowed, Measurable}
 use Rattle.step.specs.Front.{front}
 use Rattle.engine.specs.Engine.{Ready, WentOn}
 use Rattle.thin.specs.declared.Asked.{Asked}
-use Rattle.thin.specs.declared.Asked.the-variants.{Under, NoUse}
-use Rattle.thin.specs.declared.Thinning.{Thinning}
+use Rattle.thin.specs.declared.Asked.the-variants.{Under}
 use Rattle.thin.specs.declared.Thinning.the-variants.{Done, Refused}
 use Rattle.thin.specs.Order.{asked-by}
-use Rattle.thin.specs.Thin.{need, Fair, Judged, ThinnedAs, refused, done}
+use Rattle.thin.specs.Thin.{Fair, Judged, ThinnedAs, refused, done}
 
 -- no more corners are used than there are
 used-most : {n v : ℕ} {T : List Row} → Stage n T → Exactly (Used T) v → v ≤ n

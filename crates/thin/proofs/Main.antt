@@ -1,21 +1,17 @@
 -- Thinning has one outcome, and a skin with room and a usable limit or none is thinned.
-use mathlib.Core.Path.{_≡_, refl, sym, _∙_, ap}
+use mathlib.Core.Path.{_≡_, sym, _∙_, ap}
 use mathlib.Core.Logic.{_⊎_, inl, inr}
 use mathlib.Core.List.{List, [], _∷_, _++_}
 use mathlib.Core.Bool.{true}
-use Prim.Native.Nat.{ℕ, _+_, _-_, _*_, _%_, _≤_, _<_}
+use Prim.Native.Nat.{ℕ, _+_, _-_, _*_, _%_, _≤_}
 use native.Mathlib.Decide.{ℕ-discrete}
 use native.Mathlib.Omega.{arith}
 use lib.IntN.{ℤ, pos}
 use lib.ListN.{length, drop, replicate}
 use Rattle.surface.specs.Rows.{Row, rows, flat}
-use Rattle.surface.specs.Lists.{Exactly}
-use Rattle.surface.specs.Table.{Used}
 use Rattle.surface.specs.Stage.{Stage, Skin}
-use Rattle.surface.specs.Euler.{Euler}
 use Rattle.surface.specs.Record.{Record}
 use Rattle.refusal.specs.declared.Refusal.{Refusal}
-use Rattle.refusal.specs.declared.Verdict.{Verdict}
 use Rattle.refusal.specs.declared.Verdict.the-variants.{Passes}
 use Rattle.refusal.specs.declared.Verdict.the-variants as verdict
 use Rattle.refusal.specs.First.{First}
@@ -23,13 +19,11 @@ use Rattle.refusal.specs.Told as answers
 use Rattle.refusal.proofs.Laws.{first-one, refused-one, refused-passes}
 use Rattle.verdicts.proofs.Laws.{first-before, passed}
 use Rattle.faults.specs.Counts.{CountsFitAt, corners}
-use Rattle.faults.specs.Order.{lines-after-counts}
 use Rattle.faults.proofs.Opposites.{stage-rows, stage-corners}
 use Rattle.faults.proofs.Order.{after-2-at, skin-passes}
-use Rattle.run.specs.Run.{Run, Taken}
+use Rattle.run.specs.Run.{Taken}
 use Rattle.run.proofs.Main.{run-one, taken-cut, taken-replayed, replayed-stage, replayed-euler, replayed-rows, replayed-corners}
 use Rattle.record.specs.Layout.{width, log-of}
-use Rattle.length.specs.declared.Order.{Order}
 use Rattle.least.specs.declared.Bound.{Bound}
 use Rattle.least.specs.Limited.{Allowed}
 use Rattle.thin.specs.declared.Asked.{Asked}
@@ -37,7 +31,6 @@ use Rattle.thin.specs.declared.Asked.the-variants.{Under, NoUse}
 use Rattle.thin.specs.declared.Thinning.{Thinning}
 use Rattle.thin.specs.declared.Thinning.the-variants.{Done, Refused}
 use Rattle.thin.specs.Answer.{told}
-use Rattle.thin.specs.Order.{asked}
 use Rattle.thin.specs.Thin.{need, thin-lines, ThinnedAs, refused, done}
 use Rattle.thin.specs.Run.{RunOf, KeptAfter}
 

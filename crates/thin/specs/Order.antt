@@ -1,5 +1,4 @@
 -- What an order asks of an edge, and when its limit is unusable.
-use mathlib.Core.Path.{_≡_}
 use Rattle.length.specs.declared.Order.{Order}
 use Rattle.length.specs.declared.Order.the-variants.{NoLimit, Limit}
 use Rattle.length.specs.declared.Reading.{Reading}

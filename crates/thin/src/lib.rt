@@ -8,7 +8,7 @@ use refusal::Verdict;
 ghost use mathlib.Core.Path.{_≡_};
 ghost use Rattle.faults.specs.Tells.{Tells};
 ghost use Rattle.thin.specs.declared.Asked.the-variants.{NoUse};
-ghost use Rattle.thin.specs.Order.{asked-by, asked};
+ghost use Rattle.thin.specs.Order.{asked-by};
 ghost use Rattle.thin.specs.Thin.{Fair, Judged, ThinnedAs, Thinned};
 
 // What an order asks: a bound on the edges, or nothing that can be used.

@@ -13,7 +13,7 @@ use Rattle.refusal.specs.declared.Verdict.the-variants.{Passes}
 use Rattle.refusal.specs.Told.{Told}
 use Rattle.refusal.proofs.Laws.{first-one}
 use Rattle.verdicts.specs.Lesser.{lesser-of}
-use Rattle.answer.proofs.Laws.{refused-one, refused-done, done-passed, outcome-one}
+use Rattle.answer.proofs.Laws.{refused-one, refused-done, outcome-one}
 use Rattle.faults.specs.Counts.{corners}
 use Rattle.faults.specs.Order.{CheckedStageAt}
 use Rattle.faults.proofs.Opposites.{stage-rows, stage-corners}
@@ -42,15 +42,6 @@ volume-one a b p q = told-one a b (outcome-one _ (one-stage-at (p .checked) (q .
 -- nor those of `change`
 pub change-one : {xs : List ℤ} {t s : List ℕ} (a b : Measured) → ChangeReport xs t s (told a) → ChangeReport xs t s (told b) → a ≡ b
 change-one a b p q = told-one a b (outcome-one _ (first-one _ (p .first) (q .first)) (p .tells) (q .tells))
-
--- a figure is given for stages with their coordinates in range only, and is that of the exact sum
-pub volume-only : {xs : List ℤ} {t : List ℕ} {f : ℤ} → VolumeReport xs t (told (Figure f)) → Stage (corners xs) (rows t) × InRange xs × (f ≡ figure (sixfold xs (rows t)))
-volume-only p = let d = done-passed (p .verdict) (p .tells) in let h = d .1 in (p .checked .stage (d .0), p .checked .in-range (d .0), cc)
-
--- the same of a change
-pub change-only : {xs : List ℤ} {t s : List ℕ} {f : ℤ} → ChangeReport xs t s (told (Figure f)) →
-    Stage (corners xs) (rows t) × Stage (corners xs) (rows s) × InRange xs × (f ≡ change (sixfold xs (rows t)) (sixfold xs (rows s)))
-change-only p = let d = done-passed (p .verdict) (p .tells) in let h = d .1 in (p .earlier-stage (d .0), p .later-stage (d .0), p .in-range (d .0), cc)
 
 -- stages over the coordinates of n corners, all in range
 module _ {n : ℕ} {xs : List ℤ} (e : length xs ≡ 3 * n) (r : InRange xs) where

@@ -1,5 +1,4 @@
 -- `accepts` meets its contract: each part of the local rule is tested, in turn.
-use mathlib.Core.Path.{_≡_, refl, sym, _∙_, ap}
 use borrow.Author.Tests.{not-true, not-false}
 use Rattle.record.specs.Layout.{meant}
 use Rattle.slots.proofs.Slots.{under-more}

@@ -1,9 +1,7 @@
 -- `note` meets its contract.
 use Rattle.slots.proofs.Slots.{next-inside}
 use Rattle.accept.proofs.Notes.{note-other, note-more}
-use mathlib.Core.Path.{_≡_, refl, sym, _∙_, ap}
-use Prim.Native.Nat.{ℕ, _<_}
-use lib.ListN.{length, getD}
+use lib.ListN.{length}
 use Rattle.slots.specs.Slot.{next-slot}
 use native.Mathlib.Omega.{arith}
 use borrow.Author.Needs.{needs}

@@ -1,8 +1,7 @@
 -- `note_round` meets its contract.
-use mathlib.Core.Path.{_≡_, refl, sym, _∙_, ap}
-use Prim.Native.Nat.{ℕ, _-_, _≤_, _<_}
-use lib.ListN.{length, getD}
-use Rattle.slots.specs.Slot.{Under}
+use mathlib.Core.Path.{_≡_, refl, _∙_}
+use Prim.Native.Nat.{_-_, _≤_}
+use lib.ListN.{length}
 use Rattle.accept.specs.Noted.{NotedTo}
 use Rattle.accept.proofs.Notes.{note-none, note-end}
 use native.Mathlib.Omega.{arith}

@@ -1,7 +1,6 @@
 -- `two_near` meets its contract.
 use borrow.Author.Tests.{not-true, not-false}
 use Rattle.faults.proofs.Tells.{tells-true, tells-false}
-use native.Mathlib.Omega.{arith}
 use borrow.Author.Needs.{needs}
 use Rattle.accept.proofs.two_near.Statement.{statement}
 use Rattle.accept.proofs.two_near.Tie as tie

@@ -1,6 +1,5 @@
 -- What is no NaN's pattern is a figure's.
 use Rattle.calls.proofs.Patterns.{finite, infinite}
-use native.Mathlib.Omega.{arith}
 use borrow.Author.Needs.{needs}
 use Rattle.calls.proofs.figure_of.Statement.{statement}
 use Rattle.calls.proofs.figure_of.Tie as tie

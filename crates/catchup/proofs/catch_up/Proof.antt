@@ -1,6 +1,5 @@
 -- Each answer is one of the four cases; a part of a lent slice stands where it says.
-use mathlib.Core.Path.{_≡_, refl, sym, _∙_}
-use Rattle.catchup.specs.CatchUp.{begins}
+use mathlib.Core.Path.{refl, sym, _∙_}
 use Rattle.catchup.proofs.Beginnings.{rest-of-second, rest-of-first, not-second, not-first, as-long}
 use native.Mathlib.Omega.{arith}
 use borrow.Author.Needs.{needs}

@@ -1,6 +1,6 @@
 -- What is left of l is a beginning of what is left of m exactly if l is one of m.
-use mathlib.Core.Path.{_≡_, refl, sym, _∙_}
-use Prim.Native.Nat.{_≤_, _-_, _<_}
+use mathlib.Core.Path.{_≡_, sym, _∙_}
+use Prim.Native.Nat.{_≤_, _-_}
 use lib.ListN.{length, drop}
 use Rattle.catchup.specs.CatchUp.{begins}
 use Rattle.catchup.proofs.Beginnings.{stop, differ, go-on, at-end}

@@ -2,7 +2,6 @@
 use Rattle.surface.specs.Grow.{in-order}
 use Rattle.ends.specs.Rows.{PairIs, EndsAre}
 use Rattle.ends.proofs.Pairs.{other-way}
-use native.Mathlib.Omega.{arith}
 use borrow.Author.Needs.{needs}
 use Rattle.ends.proofs.ends_of.Statement.{statement}
 use Rattle.ends.proofs.ends_of.Tie as tie

@@ -1,7 +1,5 @@
 -- `goes` meets its contract.
 use Rattle.faults.proofs.Tells.{tells-true, tells-false}
-use native.Mathlib.Omega.{arith}
-use borrow.Author.Needs.{needs}
 use Rattle.ends.proofs.goes.Statement.{statement}
 use Rattle.ends.proofs.goes.Tie as tie
 

@@ -1,7 +1,5 @@
 -- `pair_of` meets its contract.
-use mathlib.Core.Path.{_≡_, refl, sym, _∙_, ap}
 use Rattle.ends.specs.Rows.{ThirdIs, PairIs}
-use native.Mathlib.Omega.{arith}
 use borrow.Author.Needs.{needs}
 use Rattle.ends.proofs.pair_of.Statement.{statement}
 use Rattle.ends.proofs.pair_of.Tie as tie

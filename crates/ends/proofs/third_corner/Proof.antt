@@ -1,9 +1,7 @@
 -- `third_corner` meets its contract.
-use mathlib.Core.Path.{_≡_, refl, sym, _∙_}
-use Rattle.surface.specs.Rows.{row, turn-0, turn-1, turn-2}
+use Rattle.surface.specs.Rows.{turn-0, turn-1, turn-2}
 use Rattle.ends.specs.Rows.{ThirdIs}
 use Rattle.ends.proofs.Pairs.{no-third}
-use native.Mathlib.Omega.{arith}
 use borrow.Author.Needs.{needs}
 use Rattle.ends.proofs.third_corner.Statement.{statement}
 use Rattle.ends.proofs.third_corner.Tie as tie

@@ -1,9 +1,7 @@
 -- After each step the table and the log are what the steps so far have made (`Going`); rows fall by two.
-use mathlib.Core.Path.{_≡_, refl, sym, _∙_, ap}
-use Prim.Native.Nat.{ℕ, _+_, _-_, _*_, _≤_}
-use lib.ListN.{length}
+use mathlib.Core.Path.{sym}
 use lib.Seq.{length-take-le}
-use Rattle.least.specs.Limited.{Allowed, Measurable}
+use Rattle.least.specs.Limited.{Allowed}
 use Rattle.step.proofs.Front.{rows-four}
 use Rattle.engine.proofs.Going.{Going, go-start, go-on, go-end, room-left}
 use native.Mathlib.Omega.{arith}

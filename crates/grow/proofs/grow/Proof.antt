@@ -1,5 +1,5 @@
 -- `grow` meets its contract: the record is tested, the rows from y forward to x get the removed number, and the two rows are put back.
-use mathlib.Core.Path.{_≡_, refl, sym, _∙_, ap}
+use mathlib.Core.Path.{sym}
 use lib.Seq.{length-take-le}
 use Rattle.surface.specs.Limits.{most-corners}
 use Rattle.record.specs.Layout.{meant}

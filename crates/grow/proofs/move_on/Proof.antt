@@ -1,7 +1,5 @@
 -- `move_on` meets its contract.
-use mathlib.Core.Path.{_≡_, refl, sym, _∙_, ap}
-use Prim.Native.Nat.{ℕ, _-_, _≤_, _<_}
-use lib.ListN.{length}
+use Prim.Native.Nat.{_-_, _≤_}
 use Rattle.grow.proofs.Moving.{MovedTo, move-none, move-more, move-end}
 use native.Mathlib.Omega.{arith}
 use borrow.Author.Needs.{needs}

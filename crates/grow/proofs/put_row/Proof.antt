@@ -1,5 +1,4 @@
 -- `put_row` meets its contract.
-use mathlib.Core.Path.{_≡_, refl, sym, _∙_, ap}
 use lib.ListN.{length-set}
 use Rattle.grow.proofs.Filling.{row-put}
 use native.Mathlib.Omega.{arith}

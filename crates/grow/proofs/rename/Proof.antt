@@ -1,12 +1,11 @@
 -- `rename` meets its contract: the walk from y forward to x.
-use mathlib.Core.Path.{_≡_, refl, sym, _∙_, ap}
-use Prim.Native.Nat.{ℕ, _-_, _≤_, _<_}
-use lib.ListN.{length, getD, set, length-set}
+use mathlib.Core.Path.{_∙_, ap}
+use lib.ListN.{length, length-set}
 use Rattle.surface.specs.Rows.{rows}
 use Rattle.surface.proofs.Walked.{fan}
 use Rattle.slots.specs.Slot.{next-slot}
 use Rattle.slots.proofs.Staged.{table-whole}
-use Rattle.grow.proofs.Walking.{Walking, walk-start, walk-more, walk-less, walk-end, noted, slot, slot-inside, beside-inside, after-inside, after-there}
+use Rattle.grow.proofs.Walking.{Walking, walk-start, walk-more, walk-less, walk-end, noted, slot-inside, beside-inside, after-inside, after-there}
 use native.Mathlib.Omega.{arith}
 use borrow.Author.Needs.{needs}
 use Rattle.grow.proofs.rename.Statement.{statement}

@@ -1,14 +1,12 @@
 -- Below zero, one short of the size fits where the size may not (`short`).
-use mathlib.Core.Path.{_≡_, refl, sym, _∙_, ap}
-use Prim.Native.Nat.{_^_, _-_}
+use mathlib.Core.Path.{sym, _∙_, ap}
 use lib.IntN.{natAbs, pos}
 use lib.Signed.{ltZ}
 use mir.Syntax.{w64}
 use mir.ValLaws.{toZ-ofZ}
-use Rattle.ints.proofs.Machine.{Is, fits, any, unsigned, unsigned-fits, within}
+use Rattle.ints.proofs.Machine.{fits, unsigned, unsigned-fits}
 use Rattle.ints.proofs.Short.{below, not-below, one-on, short, short-kept, short-size}
 use native.Mathlib.Omega.{arith}
-use borrow.Author.Needs.{needs}
 use Rattle.ints.proofs.size.Statement.{statement}
 use Rattle.ints.proofs.size.Tie as tie
 

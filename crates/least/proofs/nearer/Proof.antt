@@ -1,5 +1,5 @@
 -- `nearer` meets its contract.
-use mathlib.Core.Path.{_≡_, refl}
+use mathlib.Core.Path.{refl}
 use Prim.Native.Nat.{ℕ, _≤_, _<_}
 use Rattle.surface.specs.Limits.{most-corners}
 use Rattle.least.specs.Search.{Above, is, none, Better, old, new}

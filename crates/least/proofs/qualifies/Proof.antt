@@ -3,7 +3,6 @@ use Rattle.faults.proofs.Tells.{tells-false}
 use Rattle.link.proofs.Marking.{edge-below}
 use Rattle.least.proofs.Limiting.{measured-at}
 use native.Mathlib.Omega.{arith}
-use borrow.Author.Needs.{needs}
 use Rattle.least.proofs.qualifies.Statement.{statement}
 use Rattle.least.proofs.qualifies.Tie as tie
 

@@ -1,7 +1,6 @@
 -- `read_limit`: each unit's figure is read by its own line of the table. A new unit is one more such line.
-use mathlib.Core.Path.{_≡_, sym, _∙_, ap}
+use mathlib.Core.Path.{sym, _∙_, ap}
 use Rattle.length.specs.Limit.{limit-of}
-use native.Mathlib.Omega.{arith}
 use borrow.Author.Needs.{needs}
 use Rattle.length.proofs.read_limit.Statement.{statement}
 use Rattle.length.proofs.read_limit.Tie as tie

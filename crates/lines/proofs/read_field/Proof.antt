@@ -4,7 +4,6 @@ use mathlib.Core.List.{[], _∷_}
 use Rattle.text.specs.Reading.{Expected}
 use Rattle.lines.specs.Lines.{tab}
 use Rattle.lines.proofs.Turns.{field-read, field-none}
-use native.Mathlib.Omega.{arith}
 use borrow.Author.Needs.{needs}
 use Rattle.lines.proofs.read_field.Statement.{statement}
 use Rattle.lines.proofs.read_field.Tie as tie

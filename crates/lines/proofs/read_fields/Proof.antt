@@ -1,10 +1,10 @@
 -- `read_fields` meets its contract.
-use mathlib.Core.Path.{sym, subst}
-use Prim.Native.Nat.{_+_, _-_, _≤_, _<_}
+use mathlib.Core.Path.{subst}
+use Prim.Native.Nat.{_-_}
 use mir.Syntax.{w64}
 use mir.Val.{toZ, ofZ}
 use mir.ValLaws.{toZ-ofZ}
-use Rattle.lines.specs.Lines.{ReadField, ReadInto, FieldAt}
+use Rattle.lines.specs.Lines.{ReadField, ReadInto}
 use Rattle.lines.proofs.Turns.{Fielded, fields-start, field-small, fields-stored, fields-stop, fields-end, put-length}
 use native.Mathlib.Omega.{arith}
 use borrow.Author.Needs.{needs}

@@ -4,7 +4,6 @@ use lib.ListN.{drop}
 use Rattle.text.specs.Reading.{Expected}
 use Rattle.lines.specs.Lines.{FieldsAt, ReadInto}
 use Rattle.lines.proofs.Turns.{no-word, no-fields, line-end}
-use native.Mathlib.Omega.{arith}
 use borrow.Author.Needs.{needs}
 use Rattle.lines.proofs.read_line.Statement.{statement}
 use Rattle.lines.proofs.read_line.Tie as tie

@@ -1,6 +1,6 @@
 -- `read_lines` meets its contract.
 use mathlib.Core.Path.{subst, _∙_}
-use Prim.Native.Nat.{_+_, _-_, _≤_}
+use Prim.Native.Nat.{_-_}
 use lib.ListN.{drop}
 use Rattle.lines.specs.Lines.{LineAt, ReadInto}
 use Rattle.lines.proofs.Turns.{Lined, lines-start, line-room, lines-next, lines-stop, lines-end, put-length}

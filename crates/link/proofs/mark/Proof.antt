@@ -1,7 +1,7 @@
 -- `mark` meets its contract.
 use mathlib.Core.Path.{_≡_, refl}
 use Prim.Native.Nat.{_-_, _≤_}
-use lib.ListN.{length, getD, length-set}
+use lib.ListN.{length, length-set}
 use Rattle.surface.proofs.Flat.{at-place}
 use Rattle.link.proofs.Marking.{MarkedTo, mark-none, mark-more, mark-end}
 use native.Mathlib.Omega.{arith}

@@ -1,5 +1,5 @@
 -- `may_contract` meets its contract.
-use mathlib.Core.Path.{refl, sym}
+use mathlib.Core.Path.{sym}
 use borrow.Author.Tests.{not-true, not-false}
 use lib.Seq.{length-take-le}
 use Rattle.surface.specs.Limits.{most-corners}

@@ -1,5 +1,5 @@
 -- `meets_round` meets its contract.
-use mathlib.Core.Path.{refl, sym}
+use mathlib.Core.Path.{sym}
 use lib.Seq.{length-take-le}
 use Rattle.surface.specs.Limits.{most-corners}
 use Rattle.slots.proofs.Marks.{no-mark}

@@ -1,9 +1,9 @@
 -- The ten numbers, in the order of `numbers`.
-use mathlib.Core.Path.{_≡_, refl, sym, _∙_, ap}
+use mathlib.Core.Path.{_∙_, ap}
 use mathlib.Core.List.{List, [], _∷_}
 use Prim.Native.Nat.{ℕ, _+_}
 use native.Mathlib.Numerals.{towards-suc}
-use lib.ListN.{length, length-set}
+use lib.ListN.{length-set}
 use lib.Seq.{sets, length-sets}
 use native.Mathlib.Omega.{arith}
 use borrow.Author.Needs.{needs}

@@ -1,8 +1,7 @@
 -- `grow_back` meets its contract.
-use mathlib.Core.Path.{_≡_, refl, sym, _∙_, ap}
+use mathlib.Core.Path.{refl}
 use Rattle.regrow.specs.Outcome.{refused, grown}
 use Rattle.regrow.proofs.Judging.{grow-ready}
-use native.Mathlib.Omega.{arith}
 use borrow.Author.Needs.{needs}
 use Rattle.regrow.proofs.grow_back.Statement.{statement}
 use Rattle.regrow.proofs.grow_back.Tie as tie

@@ -1,5 +1,4 @@
 -- `grow_fits` meets its contract.
-use mathlib.Core.Path.{_≡_, refl, sym, _∙_, ap}
 use borrow.Author.Tests.{not-true, not-false}
 use Rattle.faults.proofs.Tells.{tells-true, tells-false}
 use native.Mathlib.Omega.{arith}

@@ -1,11 +1,10 @@
 -- `grow_log` meets its contract: the records done are the last of the log.
-use mathlib.Core.Path.{_≡_, refl, sym, _∙_, ap}
-use Prim.Native.Nat.{ℕ, _-_, _≤_, _<_, _/_}
+use mathlib.Core.Path.{_∙_}
+use Prim.Native.Nat.{_-_, _/_}
 use borrow.Author.Tests.{not-true, not-false}
 use lib.ListN.{length}
 use Rattle.record.specs.Layout.{width}
 use Rattle.regrow.proofs.Undoing.{Undone, undone-none, table-stands, done-all, same, room-for-two, next-fails, next-done}
-use native.Mathlib.Omega.{arith}
 use borrow.Author.Needs.{needs}
 use Rattle.regrow.proofs.grow_log.Statement.{statement}
 use Rattle.regrow.proofs.grow_log.Tie as tie

@@ -1,5 +1,5 @@
 -- `judge` meets its contract.
-use mathlib.Core.Path.{_≡_, refl, sym, _∙_, ap}
+use mathlib.Core.Path.{sym}
 use borrow.Author.Tests.{not-true, not-false}
 use lib.Seq.{length-take-le}
 use Rattle.regrow.proofs.Judging.{judge-2, judge-3, judge-on}

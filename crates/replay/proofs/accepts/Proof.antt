@@ -1,5 +1,4 @@
 -- `accepts` meets its contract, test by test.
-use mathlib.Core.Path.{_≡_, refl}
 use borrow.Author.Tests.{not-true, not-false}
 use Rattle.faults.proofs.Tells.{tells-false}
 use Rattle.replay.proofs.Accepting.{not-lower, not-below, accepted, same-earlier, same-later}

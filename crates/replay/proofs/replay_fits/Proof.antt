@@ -1,7 +1,4 @@
 -- `replay_fits` meets its contract.
-use mathlib.Core.Path.{_≡_, refl}
-use Prim.Native.Nat.{_/_}
-use lib.ListN.{length}
 use borrow.Author.Tests.{not-true, not-false}
 use Rattle.slots.proofs.Slots.{whole-rows}
 use Rattle.faults.proofs.Tells.{tells-true, tells-false}

@@ -1,6 +1,6 @@
 -- `replay_log` meets its contract: the records done are the first of the log.
-use mathlib.Core.Path.{_≡_, refl, sym, _∙_, ap}
-use Prim.Native.Nat.{ℕ, _-_, _/_}
+use mathlib.Core.Path.{sym}
+use Prim.Native.Nat.{_-_, _/_}
 use borrow.Author.Tests.{not-true, not-false}
 use lib.ListN.{length}
 use lib.Seq.{length-take-le}

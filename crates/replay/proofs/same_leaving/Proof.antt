@@ -1,11 +1,8 @@
 -- `same_leaving` meets its contract.
-use mathlib.Core.Path.{_≡_, refl}
 use borrow.Author.Tests.{eqb-true, eqb-false}
 use Rattle.surface.specs.Rows.{row}
 use Rattle.surface.specs.Record.{at}
 use Rattle.faults.proofs.Tells.{tells-false}
-use native.Mathlib.Omega.{arith}
-use borrow.Author.Needs.{needs}
 use Rattle.replay.proofs.same_leaving.Statement.{statement}
 use Rattle.replay.proofs.same_leaving.Tie as tie
 

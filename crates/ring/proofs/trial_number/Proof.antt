@@ -1,7 +1,6 @@
 -- The stored table computes to the one that follows the rule: one test over the whole.
-use Rattle.ring.specs.Ring.{size, number-at, numbers-from, ring}
+use Rattle.ring.specs.Ring.{number-at, numbers-from, ring}
 use Rattle.ring.proofs.Rule.{ring-at}
-use native.Mathlib.Omega.{arith}
 use borrow.Author.Needs.{needs}
 use Rattle.ring.proofs.trial_number.Statement.{statement}
 use Rattle.ring.proofs.trial_number.Tie as tie

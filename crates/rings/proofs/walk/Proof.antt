@@ -1,6 +1,5 @@
 -- `walk` meets its contract.
 use mathlib.Core.Path.{refl}
-use Prim.Native.Nat.{_-_}
 use lib.ListN.{length}
 use Rattle.slots.specs.Slot.{next-slot}
 use Rattle.slots.specs.Marks.{zeros}

@@ -1,7 +1,6 @@
 -- `counts_in` meets its contract.
 use Rattle.faults.proofs.Tells.{tells-true, tells-false}
 use native.Mathlib.Omega.{arith}
-use borrow.Author.Needs.{needs}
 use Rattle.sheet.proofs.counts_in.Statement.{statement}
 use Rattle.sheet.proofs.counts_in.Tie as tie
 

@@ -4,7 +4,6 @@ use Prim.Native.Nat.{_*_}
 use lib.ListN.{take}
 use lib.Seq.{length-take-le}
 use Rattle.sheet.proofs.Last.{no-table-room, no-corner-room, refused-skin, skin-put}
-use native.Mathlib.Omega.{arith}
 use borrow.Author.Needs.{needs}
 use Rattle.sheet.proofs.deliver.Statement.{statement}
 use Rattle.sheet.proofs.deliver.Tie as tie

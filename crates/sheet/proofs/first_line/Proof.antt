@@ -1,14 +1,12 @@
 -- `first_line` meets its contract.
 use mathlib.Core.Path.{subst}
 use mathlib.Core.List.{[], _∷_}
-use Prim.Native.Nat.{ℕ}
 use lib.IntN.{pos}
 use lib.ListN.{drop}
 use Rattle.lines.specs.Lines.{LineAt, ReadInto}
 use Rattle.sheet.specs.Limits.{most-digits}
 use Rattle.sheet.specs.Form.{SKIN, ReadFirst}
 use Rattle.sheet.proofs.Heading.{no-two, x-fits, y-fits, count-fits, corners-below, rows-below, both-counts, x, y}
-use native.Mathlib.Omega.{arith}
 use borrow.Author.Needs.{needs}
 use Rattle.sheet.proofs.first_line.Statement.{statement}
 use Rattle.sheet.proofs.first_line.Tie as tie

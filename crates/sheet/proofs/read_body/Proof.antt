@@ -1,10 +1,10 @@
 -- `read_body` meets its contract.
-use mathlib.Core.Path.{_≡_, sym, subst}
-use Prim.Native.Nat.{ℕ, _*_, _≤_}
-use lib.IntN.{ℤ, pos}
-use lib.ListN.{length, take, drop, replicate}
+use mathlib.Core.Path.{sym, subst}
+use Prim.Native.Nat.{_*_, _≤_}
+use lib.IntN.{pos}
+use lib.ListN.{drop, replicate}
 use Rattle.lines.specs.Lines.{Short, LinesAt, ReadInto}
-use Rattle.faults.proofs.Tells.{tells-true, tells-false}
+use Rattle.faults.proofs.Tells.{tells-false}
 use Rattle.sheet.specs.Limits.{most-digits}
 use Rattle.sheet.specs.Form.{C, R}
 use Rattle.sheet.proofs.Lower.{no-corners, no-rows, corners-front, rows-front, more-follows, minus-in-row, body-read}

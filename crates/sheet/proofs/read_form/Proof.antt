@@ -1,7 +1,6 @@
 -- `read_form` meets its contract.
 use mathlib.Core.Path.{subst}
 use lib.ListN.{drop}
-use Prim.Native.Nat.{_*_, _≤_}
 use borrow.Author.Tests.{not-true, not-false}
 use Rattle.sheet.specs.Form.{ReadFirst}
 use Rattle.sheet.specs.Outcome.{ReadForm}

@@ -1,6 +1,6 @@
 -- `read_sheet` meets its contract.
-use mathlib.Core.Path.{_≡_, refl, subst}
-use Prim.Native.Nat.{ℕ, _*_, _≤_}
+use mathlib.Core.Path.{refl, subst}
+use Prim.Native.Nat.{_*_, _≤_}
 use lib.IntN.{pos}
 use lib.ListN.{replicate}
 use Rattle.sheet.specs.Outcome.{ReadForm, bad-form}

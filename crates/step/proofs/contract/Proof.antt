@@ -1,6 +1,5 @@
 -- The record is told, the rows that stay move up, the rest is cleared: that is the step (`step-done`).
 use Rattle.step.proofs.Stepping.{step-done}
-use native.Mathlib.Omega.{arith}
 use borrow.Author.Needs.{needs}
 use Rattle.step.proofs.contract.Statement.{statement}
 use Rattle.step.proofs.contract.Tie as tie

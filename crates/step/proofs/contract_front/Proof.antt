@@ -2,7 +2,6 @@
 use mathlib.Core.Path.{sym}
 use lib.Seq.{length-take-le}
 use Rattle.step.proofs.Front.{step-in}
-use native.Mathlib.Omega.{arith}
 use borrow.Author.Needs.{needs}
 use Rattle.step.proofs.contract_front.Statement.{statement}
 use Rattle.step.proofs.contract_front.Tie as tie

@@ -1,9 +1,6 @@
 -- Each test is a number of the row.
-use mathlib.Core.Path.{_≡_, refl}
 use borrow.Author.Tests.{eq-eqb, ne-eqb}
 use Rattle.step.specs.Flat.{has}
-use native.Mathlib.Omega.{arith}
-use borrow.Author.Needs.{needs}
 use Rattle.step.proofs.holds.Statement.{statement}
 use Rattle.step.proofs.holds.Tie as tie
 

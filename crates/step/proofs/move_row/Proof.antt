@@ -1,6 +1,6 @@
 -- The row leaves, or is written with the removed number replaced.
-use mathlib.Core.Path.{_≡_, refl, sym, _∙_, ap}
-use mathlib.Core.List.{List, [], _∷_}
+use mathlib.Core.Path.{refl, sym, _∙_, ap}
+use mathlib.Core.List.{[], _∷_}
 use lib.Seq.{sets}
 use Rattle.step.proofs.Moving.{row-gone, row-stays}
 use native.Mathlib.Omega.{arith}

@@ -1,9 +1,9 @@
 -- What has moved, with what is left to move, is the whole moved up (`turn`).
-use mathlib.Core.Path.{_≡_, refl, sym, _∙_, ap}
-use mathlib.Core.List.{List, _++_}
-use Prim.Native.Nat.{ℕ, _+_, _-_, _≤_}
+use mathlib.Core.Path.{_≡_, sym, _∙_}
+use mathlib.Core.List.{_++_}
+use Prim.Native.Nat.{_+_, _-_, _≤_}
 use lib.ListN.{length, take, drop}
-use lib.Seq.{sets, length-sets}
+use lib.Seq.{length-sets}
 use Rattle.step.specs.Flat.{after, row-from}
 use Rattle.step.proofs.Moving.{turn, ended, row-short}
 use native.Mathlib.Omega.{arith}

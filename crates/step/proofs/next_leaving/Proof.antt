@@ -1,8 +1,7 @@
 -- The rows passed stay, and some row further on leaves, so the walk ends inside the table.
-use mathlib.Core.Path.{_≡_, refl, sym, _∙_, ap}
-use Prim.Native.Nat.{ℕ, _+_, _-_, _*_, _≤_, _<_}
-use lib.ListN.{length, getD}
-use borrow.Author.Count.{below-more}
+use mathlib.Core.Path.{refl, sym, _∙_}
+use Prim.Native.Nat.{ℕ, _-_, _*_, _≤_, _<_}
+use lib.ListN.{length}
 use borrow.Author.Tests.{not-true, not-false}
 use Rattle.surface.specs.Limits.{most-rows}
 use Rattle.surface.specs.Contract.{Stays}

@@ -1,7 +1,6 @@
 -- The two rows that leave, found one after the other, are the record (`recorded`).
-use mathlib.Core.Path.{_≡_, refl}
+use mathlib.Core.Path.{refl}
 use Rattle.step.proofs.Stepping.{table-most, some-first, some-second, recorded}
-use native.Mathlib.Omega.{arith}
 use borrow.Author.Needs.{needs}
 use Rattle.step.proofs.record_of.Statement.{statement}
 use Rattle.step.proofs.record_of.Tie as tie

@@ -1,7 +1,5 @@
 -- Both tests by `holds`.
-use mathlib.Core.Path.{_≡_, refl, sym, _∙_}
-use Rattle.step.specs.Flat.{has}
-use native.Mathlib.Omega.{arith}
+use mathlib.Core.Path.{refl, sym, _∙_}
 use borrow.Author.Needs.{needs}
 use Rattle.step.proofs.row_leaves.Statement.{statement}
 use Rattle.step.proofs.row_leaves.Tie as tie

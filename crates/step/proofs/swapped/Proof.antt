@@ -1,9 +1,6 @@
 -- By whether the number is the removed one.
-use mathlib.Core.Path.{_≡_, refl}
 use borrow.Author.Tests.{eq-eqb, ne-eqb}
 use Rattle.step.specs.Flat.{swap}
-use native.Mathlib.Omega.{arith}
-use borrow.Author.Needs.{needs}
 use Rattle.step.proofs.swapped.Statement.{statement}
 use Rattle.step.proofs.swapped.Tie as tie
 

@@ -2,7 +2,6 @@
 use mathlib.Core.Path.{sym, _∙_, ap, subst}
 use Rattle.text.specs.Reading.{Fits63, above-zero}
 use Rattle.text.proofs.Signs.{fits-above, read-above}
-use native.Mathlib.Omega.{arith}
 use borrow.Author.Needs.{needs}
 use Rattle.text.proofs.above_zero.Statement.{statement}
 use Rattle.text.proofs.above_zero.Tie as tie

@@ -2,7 +2,6 @@
 use mathlib.Core.Path.{sym, _∙_, ap, subst}
 use Rattle.text.specs.Reading.{Fits63, below-zero}
 use Rattle.text.proofs.Signs.{fits-above, fits-below, read-below}
-use native.Mathlib.Omega.{arith}
 use borrow.Author.Needs.{needs}
 use Rattle.text.proofs.below_zero.Statement.{statement}
 use Rattle.text.proofs.below_zero.Tie as tie

@@ -1,9 +1,8 @@
 -- `expect` meets its contract.
-use Prim.Native.Nat.{_-_, _≤_, _<_}
+use Prim.Native.Nat.{_-_}
 use lib.ListN.{length}
 use Rattle.text.specs.Reading.{Expected}
 use Rattle.text.proofs.Words.{Compared, compare-start, compare-past, compare-other, compare-more, compare-end}
-use native.Mathlib.Omega.{arith}
 use borrow.Author.Needs.{needs}
 use Rattle.text.proofs.expect.Statement.{statement}
 use Rattle.text.proofs.expect.Tie as tie

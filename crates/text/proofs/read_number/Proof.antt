@@ -1,5 +1,5 @@
 -- `read_number` meets its contract.
-use Prim.Native.Nat.{_-_, _≤_, _<_}
+use Prim.Native.Nat.{_-_}
 use lib.ListN.{length}
 use Rattle.text.specs.Reading.{ReadNumber}
 use Rattle.text.proofs.Scan.{Scanned, none-there, scan-start, scan-end, scan-needless, scan-many, scan-fits, scan-more}

@@ -4,7 +4,6 @@ use mathlib.Core.List.{[], _∷_}
 use Rattle.text.specs.Decimal.{minus}
 use Rattle.text.specs.Reading.{Expected, ReadSigned}
 use Rattle.text.proofs.Signs.{signed-below, signed-above, small-enough}
-use native.Mathlib.Omega.{arith}
 use borrow.Author.Needs.{needs}
 use Rattle.text.proofs.read_signed.Statement.{statement}
 use Rattle.text.proofs.read_signed.Tie as tie

@@ -1,12 +1,12 @@
 -- `signed_length` meets its contract.
 use mathlib.Core.Path.{_≡_, _∙_, ap}
-use Prim.Native.Nat.{ℕ, _+_}
+use Prim.Native.Nat.{ℕ}
 use mir.Syntax.{w64}
 use mir.ValLaws.{toZ-ofZ}
 use lib.IntN.{natAbs}
 use lib.ListN.{length}
 use Rattle.ints.proofs.Machine.{abs-sfits}
-use Rattle.text.specs.Decimal.{decimal, signed}
+use Rattle.text.specs.Decimal.{decimal}
 use Rattle.text.proofs.Signs.{signed-neg, signed-pos}
 use Rattle.text.proofs.Spell.{length-63}
 use native.Mathlib.Omega.{arith}

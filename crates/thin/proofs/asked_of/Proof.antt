@@ -1,7 +1,6 @@
 -- By the reading.
-use mathlib.Core.Path.{_≡_, refl, sym, ap}
+use mathlib.Core.Path.{sym, ap}
 use Rattle.thin.specs.Order.{asked-by}
-use native.Mathlib.Omega.{arith}
 use borrow.Author.Needs.{needs}
 use Rattle.thin.proofs.asked_of.Statement.{statement}
 use Rattle.thin.proofs.asked_of.Tie as tie

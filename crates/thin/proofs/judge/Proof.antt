@@ -1,5 +1,4 @@
 -- Each refusal by the line of 01 that it answers; what passes is a skin.
-use mathlib.Core.Path.{_≡_, refl, sym, _∙_, ap}
 use borrow.Author.Tests.{not-true, not-false}
 use Rattle.thin.proofs.Judging.{judge-1, judge-2, judge-3, judge-on}
 use native.Mathlib.Omega.{arith}

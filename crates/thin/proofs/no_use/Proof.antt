@@ -1,8 +1,6 @@
 -- By what is asked.
-use mathlib.Core.Path.{_≡_, refl, sym, _∙_, ap}
 use Rattle.faults.proofs.Tells.{tells-true, tells-false}
 use Rattle.thin.proofs.Judging.{under-usable}
-use native.Mathlib.Omega.{arith}
 use borrow.Author.Needs.{needs}
 use Rattle.thin.proofs.no_use.Statement.{statement}
 use Rattle.thin.proofs.no_use.Tie as tie

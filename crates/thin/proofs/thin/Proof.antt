@@ -1,8 +1,7 @@
 -- Each order by what it asks; the limit reader gives a fair bound.
-use mathlib.Core.Path.{_≡_, refl, sym, _∙_, ap}
+use mathlib.Core.Path.{sym, _∙_, ap}
 use Rattle.thin.specs.Order.{asked-by}
 use Rattle.thin.proofs.Engaged.{fair-limit}
-use native.Mathlib.Omega.{arith}
 use borrow.Author.Needs.{needs}
 use Rattle.thin.proofs.thin.Statement.{statement}
 use Rattle.thin.proofs.thin.Tie as tie

@@ -1,8 +1,7 @@
 -- Refused by the verdict, or the engine from 0.
-use mathlib.Core.Path.{_≡_, refl, sym, _∙_, ap}
+use mathlib.Core.Path.{refl}
 use lib.ListN.{length}
 use Rattle.thin.proofs.Engaged.{thin-ready, thin-measured, thin-done, thin-refused}
-use native.Mathlib.Omega.{arith}
 use borrow.Author.Needs.{needs}
 use Rattle.thin.proofs.thin_as.Statement.{statement}
 use Rattle.thin.proofs.thin_as.Tie as tie

@@ -1,8 +1,7 @@
 -- `copy` stays in what it was lent.
-use mathlib.Core.Path.{_≡_, refl, sym, _∙_, ap}
+use mathlib.Core.Path.{_≡_}
 use Prim.Native.Nat.{_-_}
-use lib.ListN.{length, length-set}
-use native.Mathlib.Omega.{arith}
+use lib.ListN.{length}
 use borrow.Author.Needs.{needs}
 use Rattle.trials.proofs.copy.Statement.{statement}
 use Rattle.trials.proofs.copy.Tie as tie

@@ -1,7 +1,6 @@
 -- The place stays inside the list.
 use Prim.Native.Nat.{_-_, _≤_}
 use lib.ListN.{length}
-use native.Mathlib.Omega.{arith}
 use borrow.Author.Needs.{needs}
 use Rattle.trials.proofs.show_numbers.Statement.{statement}
 use Rattle.trials.proofs.show_numbers.Tie as tie

@@ -1,5 +1,4 @@
 -- A size below 2,147,483,648 has its number below zero.
-use mathlib.Core.Path.{_≡_, refl}
 use Rattle.words.proofs.Below.{fits-below}
 use native.Mathlib.Omega.{arith}
 use borrow.Author.Needs.{needs}
