@@ -14,8 +14,8 @@
  *    5 a corner number not below the count 12 sheet not in its form, or too long
  *    6 a number twice in a row             13 a record does not grow back or replay
  *    7 a directed edge twice
- * A refused call leaves what it was lent as it was, and each of its values is 0. But 13 tells how many records were done before it, and leaves the
- * stage that they led to.
+ * A refused call leaves every list that it was lent as it was, and each of its values is 0, those in lent numbers too. But 13 tells how many
+ * records were done before it, and leaves the stage that they led to.
  */
 #ifndef FLAXGLIMMER_H
 #define FLAXGLIMMER_H

@@ -19,17 +19,20 @@ pub struct Bench {
     pub tally: Tally,
     /// How many calls the run is asked for.
     pub wanted: usize,
+    /// The command of the whole run, for what no single call shows again.
+    whole: String,
     calls: Option<Driven>,
     silent: usize,
 }
 
 impl Bench {
-    pub fn new(calls_path: &str, desk_path: &str, wanted: usize) -> Bench {
+    pub fn new(calls_path: &str, desk_path: &str, wanted: usize, whole: String) -> Bench {
         Bench {
             calls_path: calls_path.to_string(),
             desk_path: desk_path.to_string(),
             tally: Tally::default(),
             wanted,
+            whole,
             calls: None,
             silent: 0,
         }
@@ -109,15 +112,20 @@ impl Bench {
             program.send(sheet.to_vec());
             program.close();
         });
-        self.desk_verdict(kind, sheet, &expected, found);
+        let words: Vec<Word> = sheet.iter().map(|&byte| byte.into()).collect();
+        let again = format!("apart again-desk {} '{}'", self.desk_path, written(&words));
+        self.desk_verdict(kind, &again, &expected, found);
     }
 
-    pub fn desk_verdict(&mut self, kind: &str, sheet: &[u8], expected: &str, found: Result<Vec<u8>, String>) {
+    /// Notes what came of a sheet that was sent in a way of its own.
+    pub fn sent_verdict(&mut self, kind: &str, expected: &str, found: Result<Vec<u8>, String>) {
+        self.desk_verdict(kind, &self.whole.clone(), expected, found);
+    }
+
+    fn desk_verdict(&mut self, kind: &str, again: &str, expected: &str, found: Result<Vec<u8>, String>) {
         self.tally.note_desk();
         let wrong = desk_difference(expected, found);
-        let words: Vec<Word> = sheet.iter().map(|&byte| byte.into()).collect();
-        let path = self.desk_path.clone();
-        self.tally.verdict(kind, wrong, || format!("apart again-desk {path} '{}'", written(&words)));
+        self.tally.verdict(kind, wrong, || again.to_string());
     }
 
     /// Notes what came of bytes sent to a `calls` of their own.
@@ -131,17 +139,21 @@ impl Bench {
             }
             Err(why) => Some(format!("the program must end: {why}")),
         };
-        let whole = sent.chunks_exact(8).map(|word| Word::from_le_bytes(word.try_into().expect("eight bytes")));
-        let words: Vec<Word> = whole.collect();
-        let path = self.calls_path.clone();
-        self.tally.verdict(kind, wrong, || format!("apart again {path} '{}'", written(&words)));
+        let words = sent.chunks_exact(8).map(|word| Word::from_le_bytes(word.try_into().expect("eight bytes")));
+        let words: Vec<Word> = words.collect();
+        let again = if sent.len() % 8 == 0 {
+            format!("apart again {} '{}'", self.calls_path, written(&words))
+        } else {
+            self.whole.clone()
+        };
+        self.tally.verdict(kind, wrong, || again.clone());
     }
 
     /// Notes a property that needs no second working out.
     pub fn property(&mut self, kind: &str, holds: bool, what: &str, request: &Request) {
         let wrong = (!holds).then(|| what.to_string());
-        let path = self.calls_path.clone();
-        self.tally.verdict(kind, wrong, || format!("apart again {path} '{}'", written(&request.words())));
+        let whole = self.whole.clone();
+        self.tally.verdict(kind, wrong, || format!("{whole}, the call '{}'", written(&request.words())));
     }
 }
 

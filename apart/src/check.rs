@@ -4,6 +4,7 @@ use crate::answers::answer;
 use crate::bench::Bench;
 use crate::chance::Chance;
 use crate::figures::{sixfold_volume, SIX_CUBIC_METRES};
+use crate::grow::records_of;
 use crate::harm::{scribble, words, Input};
 use crate::limit::whole_centimetres;
 use crate::make::Skin;
@@ -51,6 +52,7 @@ pub fn run(bench: &mut Bench, skin: &Skin, order: (i64, u64), chance: &mut Chanc
     theorem(bench, &run.left, &run.request);
     endings(bench, &run);
     grown_back(bench, &run, chance);
+    all_stages(bench, &run);
     stages(bench, &run, chance);
     shifts(bench, &run, chance);
 }
@@ -121,6 +123,18 @@ fn grown_back(bench: &mut Bench, run: &Run, chance: &mut Chance) {
     let expected = [words(&run.skin.table()), room[need as usize..].to_vec()].concat();
     let holds = found.answer == [0, run.records() as Word] && found.lent[0] == expected;
     bench.property("run: growing back gives the first table", holds, "it does not", &request);
+}
+
+/// Every table that the records lead to, step by step, is a stage of the skin's Euler number.
+fn all_stages(bench: &mut Bench, run: &Run) {
+    let mut rows = run.skin.rows.clone();
+    let number = euler(&rows);
+    let mut holds = true;
+    for record in records_of(&numbers(&run.log)) {
+        rows = contract(&rows, record[0], record[1]).0;
+        holds &= is_stage(&rows, run.skin.corners.len()) && euler(&rows) == number;
+    }
+    bench.property("run: all stages are stages", holds, "one is none, or of another Euler number", &run.request);
 }
 
 /// Replays to every stage of a short run, or to two by chance and the last of a long one, and measures them.

@@ -191,7 +191,7 @@ fn desk_in_pieces(bench: &mut Bench, sheet: &[u8]) {
         }
         program.close();
     });
-    bench.desk_verdict("ends: a sheet in pieces on the desk", sheet, &desk::text(sheet), found);
+    bench.sent_verdict("ends: a sheet in pieces on the desk", &desk::text(sheet), found);
 }
 
 /// Feeds the desk for ever: it must answer 12 and end all the same.
@@ -210,5 +210,5 @@ fn desk_without_end(bench: &mut Bench, front: &[u8]) {
             }
         });
     });
-    bench.desk_verdict("ends: a sheet without end on the desk", front, "NO\t12\n", found);
+    bench.sent_verdict("ends: a sheet without end on the desk", "NO\t12\n", found);
 }

@@ -57,7 +57,7 @@ fn number(text: &str) -> Option<u64> {
 
 /// The whole run: the lines of `trials`, 01's cases, the ends, the order of refusals, the sweeps, then rounds of chance up to the count.
 fn run([calls, desk, trials]: [&str; 3], count: usize, seed: u64) -> bool {
-    let mut bench = Bench::new(calls, desk, count);
+    let mut bench = Bench::new(calls, desk, count, format!("apart {calls} {desk} {trials} {count} {seed}"));
     println!("seed {seed}");
     lines::run(&mut bench, trials);
     let parts: [fn(&mut Bench, &mut Chance); 10] = [
@@ -104,7 +104,7 @@ fn given_words(text: &str) -> Option<Vec<i64>> {
 fn again(path: &str, text: &str) -> bool {
     let Some(words) = given_words(text) else { return false };
     let mut left = words.iter().copied();
-    let mut bench = Bench::new(path, "", 1);
+    let mut bench = Bench::new(path, "", 1, String::new());
     let mut answered = Vec::new();
     while left.len() > 0 {
         let Some(request) = Request::read(&mut || left.next()) else {
@@ -126,7 +126,7 @@ fn again(path: &str, text: &str) -> bool {
 
 /// Words among which one is no request: those before it are answered, nothing is written for it, and the program ends.
 fn must_end(path: &str, words: &[i64], answered: &[u8]) -> bool {
-    let found = Bench::new(path, "", 1).output(path, END, |calls| {
+    let found = Bench::new(path, "", 1, String::new()).output(path, END, |calls| {
         calls.send(bytes_of(words));
         calls.close();
     });
@@ -137,7 +137,7 @@ fn must_end(path: &str, words: &[i64], answered: &[u8]) -> bool {
 fn again_desk(path: &str, text: &str) -> bool {
     let Some(words) = given_words(text) else { return false };
     let sheet: Vec<u8> = words.iter().map(|&word| word as u8).collect();
-    let found = Bench::new("", path, 1).output(path, PATIENCE, |program| {
+    let found = Bench::new("", path, 1, String::new()).output(path, PATIENCE, |program| {
         program.send(sheet.clone());
         program.close();
     });

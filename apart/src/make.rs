@@ -174,7 +174,7 @@ fn sphere(rows: usize, chance: &mut Chance) -> Vec<Row> {
         _ => tetrahedron(),
     };
     let flips = chance.below(4);
-    Weave::new(&start).roughen(rows, flips, chance)
+    roughened(&start, rows, flips, chance)
 }
 
 fn surface(genus: usize, rows: usize, chance: &mut Chance) -> Vec<Row> {
@@ -184,11 +184,16 @@ fn surface(genus: usize, rows: usize, chance: &mut Chance) -> Vec<Row> {
         base = glued(&base, &some_torus(share, chance), chance);
     }
     let flips = chance.below(3);
-    Weave::new(&base).roughen(rows, flips, chance)
+    roughened(&base, rows, flips, chance)
+}
+
+/// A table made rougher by splits, up to so many rows, and flips, so many for each split and each row.
+pub fn roughened(start: &[Row], rows: usize, flips: usize, chance: &mut Chance) -> Vec<Row> {
+    Weave::new(start).roughen(rows, flips, chance)
 }
 
 /// Renumbers the corners by chance, in rows and coordinates alike.
-fn relabel(skin: &mut Skin, chance: &mut Chance) {
+pub fn relabel(skin: &mut Skin, chance: &mut Chance) {
     let mut names: Vec<u32> = (0..skin.corners.len() as u32).collect();
     chance.shuffle(&mut names);
     let old = skin.corners.clone();
@@ -209,9 +214,14 @@ pub fn disguise(skin: &mut Skin, chance: &mut Chance) {
         chance.shuffle(&mut skin.rows);
     }
     if !chance.one_in(3) {
-        for row in &mut skin.rows {
-            *row = turned(*row, chance.below(3));
-        }
+        turn_rows(skin, chance);
+    }
+}
+
+/// Turns each row by chance.
+pub fn turn_rows(skin: &mut Skin, chance: &mut Chance) {
+    for row in &mut skin.rows {
+        *row = turned(*row, chance.below(3));
     }
 }
 

@@ -4,7 +4,8 @@
 use crate::chance::Chance;
 use crate::skin::{Corner, FARTHEST};
 
-fn in_box(half: i32, chance: &mut Chance) -> Corner {
+/// A place in a box round the origin.
+pub fn in_box(half: i32, chance: &mut Chance) -> Corner {
     [0; 3].map(|_: i32| chance.between((-half).into(), half.into()) as i32)
 }
 

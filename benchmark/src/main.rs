@@ -254,9 +254,9 @@ fn median(mut samples: Vec<Duration>, times: u32) -> f64 {
     samples[samples.len() / 2].as_secs_f64() * 1e6 / f64::from(times)
 }
 
-/// A call at every size: the sizes take turns too, so that a slow spell of the machine falls on all of them.
-fn measure(sizes: Vec<(usize, Pair)>) -> Vec<Measured> {
-    let mut all: Vec<Sampled> = sizes.into_iter().map(|(rows, pair)| Sampled::new(rows, pair)).collect();
+/// Every call at every size: calls and sizes take turns too, so that a slow spell of the machine falls on all of them.
+fn measure(pairs: Vec<(usize, Pair)>) -> Vec<Measured> {
+    let mut all: Vec<Sampled> = pairs.into_iter().map(|(rows, pair)| Sampled::new(rows, pair)).collect();
     for turn in 0..SAMPLES {
         for one in &mut all {
             one.sample(turn);
@@ -320,11 +320,14 @@ fn compare() {
 fn time() {
     let mut measured = skins::KINDS.map(|(kind, make)| {
         let inputs = inputs(kind, make);
-        let mut pairs = inputs.each_ref().map(|input| input.pairs().into_iter());
-        let mut all = Vec::new();
-        while let Some(calls) = pairs.each_mut().map(Iterator::next).into_iter().collect::<Option<Vec<Pair>>>() {
-            all.extend(measure(skins::SIZES.into_iter().zip(calls).collect()));
-        }
+        let pairs = skins::SIZES
+            .into_iter()
+            .zip(&inputs)
+            .flat_map(|(rows, input)| input.pairs().into_iter().map(move |pair| (rows, pair)));
+        let mut all = measure(pairs.collect());
+        // A call's sizes stand together, the calls in the order in which they came.
+        let order: Vec<&str> = all.iter().map(|one| one.call).collect();
+        all.sort_by_key(|one| order.iter().position(|&call| call == one.call));
         print(kind, &all);
         all
     });

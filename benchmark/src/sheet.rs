@@ -75,12 +75,16 @@ pub fn read_sheet(
     for line in numbers[..3 * m].chunks_exact_mut(3) {
         reader.line(b"R", line)?;
     }
-    if !reader.left.is_empty() || numbers.iter().any(|&number| number < 0) {
+    if !reader.left.is_empty() || numbers[..3 * m].iter().any(|&number| number < 0) {
         return Err(FORM);
     }
     let (mut xs, mut rows) = ([0; 3 * CORNERS], [0; SLOTS]);
-    xs.iter_mut().zip(coordinates).for_each(|(x, z): (&mut i32, i64)| *x = z as i32);
-    rows.iter_mut().zip(numbers).for_each(|(number, z): (&mut u32, i64)| *number = z as u32);
+    for (x, &z) in xs[..3 * n].iter_mut().zip(&coordinates) {
+        *x = z as i32;
+    }
+    for (number, &z) in rows[..3 * m].iter_mut().zip(&numbers) {
+        *number = z as u32;
+    }
     if table.len() < 3 * m || corners.len() < 3 * n {
         return Err(3);
     }

@@ -1,15 +1,23 @@
 //! The skins that are measured: spheres by splits and flips, shafts eight corners round, tori eight corners across.
 
 use apart::chance::Chance;
-use apart::make::{shaft_rows, skin_of_genus, Skin};
+use apart::make::{relabel, roughened, shaft_rows, tetrahedron, turn_rows, Skin};
 use apart::parts::grid;
 use apart::place;
+use apart::skin::Corner;
 
 pub const SIZES: [usize; 4] = [128, 256, 512, 1_024];
-pub const AROUND: usize = 8;
+const AROUND: usize = 8;
+const FLIPS: usize = 2;
+/// Half the side of the box, in centimetres, in which corners lie by chance.
+const BOX: i32 = 1_000;
 const SEED: u64 = 7;
 
-pub const KINDS: [(&str, fn(usize) -> Skin); 3] = [("shaft", shaft), ("sphere", sphere), ("torus", torus)];
+pub const KINDS: [(&str, fn(usize) -> Skin); 3] = [("Shafts", shaft), ("Spheres", sphere), ("Tori", torus)];
+
+fn boxed(count: usize, chance: &mut Chance) -> Vec<Corner> {
+    (0..count).map(|_| place::in_box(BOX, chance)).collect()
+}
 
 /// As a scan numbers it: ring by ring, from the bottom up.
 fn shaft(rows: usize) -> Skin {
@@ -20,14 +28,19 @@ fn shaft(rows: usize) -> Skin {
 
 /// Relabelled, its rows shuffled and turned.
 fn sphere(rows: usize) -> Skin {
-    skin_of_genus(0, rows, &mut Chance::new(SEED))
+    let chance = &mut Chance::new(SEED);
+    let corners = boxed(rows / 2 + 2, chance);
+    let mut skin = Skin { rows: roughened(&tetrahedron(), rows, FLIPS, chance), corners, genus: 0, name: "a sphere" };
+    relabel(&mut skin, chance);
+    chance.shuffle(&mut skin.rows);
+    turn_rows(&mut skin, chance);
+    skin
 }
 
 fn torus(rows: usize) -> Skin {
     let down = rows / 2 / AROUND;
-    let rows = grid(down as u32, AROUND as u32);
-    let corners = place::corners(down * AROUND, &mut Chance::new(SEED));
-    Skin { rows, corners, genus: 1, name: "a torus" }
+    let corners = boxed(down * AROUND, &mut Chance::new(SEED));
+    Skin { rows: grid(down as u32, AROUND as u32), corners, genus: 1, name: "a torus" }
 }
 
 /// A limit in centimetres that about half of a skin's edges meet.

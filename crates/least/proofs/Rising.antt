@@ -11,7 +11,7 @@ use Rattle.surface.specs.Limits.{most-corners}
 use Rattle.surface.specs.Lists.{_∈_}
 use Rattle.surface.specs.Rows.{Row}
 use Rattle.run.specs.Run.{Qualifies}
-use Rattle.link.specs.Around.{Neighbours, Corners, Marked}
+use Rattle.link.specs.Around.{Neighbours, CornerNumbers, Marked}
 use Rattle.link.proofs.Tally.{first-split, first-old, first-new}
 use Rattle.least.specs.Search.{NextAbove, NextMarked, Better, old, new}
 
@@ -72,5 +72,5 @@ module _ {P : ℕ → ℕ → Type 0} {T : List Row} {a : ℕ} {l : List ℕ} (f
         past-b d q (yes e) = absurd (k (rw e q))
         past-b d q (no e) = let z = try-least d q in omega arith
 
-    pub try-end : Corners l → most-corners ≤ b → (d : ℕ) → ¬ Qualifies P T a d
+    pub try-end : CornerNumbers l → most-corners ≤ b → (d : ℕ) → ¬ Qualifies P T a d
     try-end c h d q = let z = try-least d q in let u = c d (f .all (q .meets .edge)) in omega arith

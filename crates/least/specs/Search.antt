@@ -29,13 +29,13 @@ pub record SearchableAt (t last prev : List ℕ) (bound : Bound) (xs : List ℤ)
   pub searchable : Searchable corners t last prev bound xs
   pub below : v < corners
 
--- r is the least number of l above past that a corner may have, or above all of these where there is none
+-- r is the least number of l above past; most-corners, above all that a corner may have, where there is none
 pub record NextAbove (l : List ℕ) (past r : ℕ) : Type 0 where
   pub upto : r ≤ most-corners
   pub stands : r < most-corners → (r ∈ l) × (past < r)
   pub least : {w : ℕ} → w ∈ l → past < w → r ≤ w
 
--- r is the first number above past that m marks, or none that a corner may have
+-- r is the first number above past that m marks; or most-corners, which tells nothing
 pub record NextMarked (m : List ℕ) (past r : ℕ) : Type 0 where
   pub upto : r ≤ most-corners
   pub marked : r < most-corners → (getD m r 0 ≢ 0) × (past < r)

@@ -13,7 +13,7 @@ use Rattle.surface.specs.Table.{Edge}
 use Rattle.surface.specs.Stage.{Stage, StageTable}
 use Rattle.slots.specs.Marks.{Blank}
 use Rattle.slots.proofs.Marks.{mark-new, mark-old, mark-out}
-use Rattle.link.specs.Around.{Neighbours, Corners, Marked}
+use Rattle.link.specs.Around.{Neighbours, CornerNumbers, Marked}
 use Rattle.link.proofs.Tally.{first-split, first-old, first-new}
 
 -- m marks the first i numbers of l and no others
@@ -36,7 +36,7 @@ module _ (l m : List ℕ) where
       only w (inl e) = first-new l i h e
       only w (inr k) = first-old l i h (g .only k)
 
-  pub mark-end : (i : ℕ) → length l ≤ i → Corners l → most-corners ≤ length m → MarkedTo l i m → Marked l m
+  pub mark-end : (i : ℕ) → length l ≤ i → CornerNumbers l → most-corners ≤ length m → MarkedTo l i m → Marked l m
   mark-end i h c r g = record { corners = c; room = r; all = λ k. g .all (rw (take-all i l h) k); only = λ k. rw (take-all i l h) at (g .only k) }
 
 -- both ends of an edge are corners
@@ -44,5 +44,5 @@ pub edge-below : {n : ℕ} {T : List Row} {a b : ℕ} → Stage n T → Edge T a
 edge-below s e = s .below (s .both e .1)
 
 -- and so are the neighbours of a corner
-pub neighbours-corners : {n : ℕ} (t : List ℕ) → StageTable n t → {v : ℕ} {l : List ℕ} → Neighbours (rows t) v l → Corners l
+pub neighbours-corners : {n : ℕ} (t : List ℕ) → StageTable n t → {v : ℕ} {l : List ℕ} → Neighbours (rows t) v l → CornerNumbers l
 neighbours-corners t s f w m = let h = edge-below (s .stage) (f .only m) in let k = s .stage .many in omega arith

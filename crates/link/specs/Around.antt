@@ -35,12 +35,12 @@ abbrev pub Both : List ℕ → List ℕ → ℕ → Type 0
 Both l m w = (w ∈ l) × (w ∈ m)
 
 -- every number of l is one that a corner may have
-abbrev pub Corners : List ℕ → Type 0
-Corners l = (w : ℕ) → w ∈ l → w < most-corners
+abbrev pub CornerNumbers : List ℕ → Type 0
+CornerNumbers l = (w : ℕ) → w ∈ l → w < most-corners
 
 -- m marks the numbers of l and no others
 pub record Marked (l m : List ℕ) : Type 0 where
-  pub corners : Corners l
+  pub corners : CornerNumbers l
   pub room : most-corners ≤ length m
   pub all : {w : ℕ} → w ∈ l → getD m w 0 ≢ 0
   pub only : {w : ℕ} → getD m w 0 ≢ 0 → w ∈ l

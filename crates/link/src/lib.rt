@@ -9,7 +9,7 @@ ghost use Rattle.surface.specs.Link.{Meets};
 ghost use Rattle.faults.specs.Tells.{Tells};
 ghost use Rattle.slots.specs.Marks.{Blank};
 ghost use Rattle.link.specs.Chosen.{Chosen};
-ghost use Rattle.link.specs.Around.{Charted, Gathered, Corners, Marked, MarkedTwice, Both, TellsEdge};
+ghost use Rattle.link.specs.Around.{Charted, Gathered, CornerNumbers, Marked, MarkedTwice, Both, TellsEdge};
 
 // The numbers of four rows: the tetrahedron.
 const FOUR_ROWS: usize = 12;
@@ -59,7 +59,7 @@ fn contains(l: &[u32], w: u32) -> bool
 
 // Inner: marks the numbers of a ring.
 pub fn mark(ring: &[u32], m: &mut [u8])
-    requires { ⌜ Corners (now ring) ⌝ }
+    requires { ⌜ CornerNumbers (now ring) ⌝ }
     requires { ⌜ most-corners ≤ length (now m) ⌝ }
     requires { ⌜ Blank (now m) ⌝ }
     ensures { λ _. ⌜ Marked (now (ring .entry)) (now (m .exit)) ⌝ }

@@ -4,7 +4,7 @@ use Prim.Native.Nat.{_-_, _≤_}
 use lib.ListN.{length}
 use Rattle.surface.specs.Lists.{Distinct, Exactly}
 use Rattle.surface.proofs.Flat.{at-place}
-use Rattle.link.specs.Around.{Corners, Both}
+use Rattle.link.specs.Around.{CornerNumbers, Both}
 use Rattle.link.proofs.Laws.{chosen-has, chosen-both}
 use Rattle.link.proofs.Tally.{Among, count-none, count-past, count-more, count-end}
 use native.Mathlib.Omega.{arith}
@@ -41,7 +41,7 @@ in-both-requires c κs =
     let loop-test = c .before .loop-test in
     let near = pre .1 .0 in
     let far = pre .1 .1 in
-    let corners = chosen-has Corners (shorter-ring .ensures) (near .corners) (far .corners) in
+    let corners = chosen-has CornerNumbers (shorter-ring .ensures) (near .corners) (far .corners) in
     let below = corners _ (at-place (shorter-ring .result .now) (loop .i) 0 (loop-test .taken)) in
     (omega (arith, near .room, below), omega (arith, far .room, below))
 
