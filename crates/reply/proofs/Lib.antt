@@ -1,4 +1,3 @@
-pub mod Writing
 pub mod Widening
 pub mod Telling
 pub mod Gathering

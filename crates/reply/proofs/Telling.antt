@@ -16,7 +16,7 @@ use Rattle.reply.specs.declared.Answer.the-variants as answer
 use Rattle.reply.specs.Text.{K}
 use Rattle.reply.specs.Outcome.{Put, fits}
 use Rattle.reply.specs.Inner.{Numbered, text-of}
-use Rattle.reply.proofs.Writing.{Onward, onward-start, onward, onward-end, onward-fits, onward-front}
+use Rattle.writing.proofs.Writing.{Onward, onward-start, onward, onward-end, onward-fits, onward-front}
 
 pub line-length : (w : List ℕ) (zs : List ℤ) → length (line w zs) ≡ length w + 1 + length (fields zs)
 line-length w zs = omega (arith, length-append w (fields zs ++ (newline ∷ [])), length-append (fields zs) (newline ∷ []))

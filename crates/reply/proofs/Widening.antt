@@ -10,7 +10,7 @@ use lib.Seq.{sets, drop-cons}
 use mir.Syntax.{w32, w64}
 use mir.Val.{Fits, SFits, toZ}
 use mir.ValLaws.{toZ-ofZ}
-use Rattle.reply.proofs.Writing.{all-written}
+use Rattle.writing.proofs.Writing.{all-written}
 
 -- i numbers of ns are put, and putting the rest completes the whole
 pub record Widening (ns : List ℕ) (start : ℕ) (zs₀ zs : List ℤ) (i : ℕ) : Type 0 where

@@ -10,12 +10,10 @@ ghost use lib.IntN.{pos};
 ghost use lib.ListN.{length};
 ghost use lib.Seq.{sets};
 ghost use Rattle.surface.specs.Rows.{rows};
-ghost use Rattle.text.specs.Reading.{Written};
-ghost use Rattle.lines.specs.Lines.{fields, line, lines};
 ghost use Rattle.figure.specs.Sum.{sixfold, WithCoordinates};
 ghost use Rattle.figure.specs.Rounding.{figure};
 ghost use Rattle.reply.specs.Outcome.{Put, Replied};
-ghost use Rattle.reply.specs.Inner.{most-told, Numbered, text-of, CanTell, run-text, SheetSkin, RunPut};
+ghost use Rattle.reply.specs.Inner.{Numbered, text-of, CanTell, run-text, SheetSkin, RunPut};
 
 // Numbers of a sheet's rows, of its corners, and of the log that its thinning may need.
 const NUMBERS: usize = sheet::MOST_ROWS * 3;
@@ -39,89 +37,18 @@ pub enum Answer {
     Refused(Refusal),
 }
 
-// How many bytes the numbers take as fields.
-fn fields_length(zs: &[i64]) -> usize
-    requires { ⌜ length (now zs) ≤ most-told ⌝ }
-    ensures { λ r. ⌜ (r ≡ length (fields (now (zs .entry)))) × (r ≤ 21 * length (now (zs .entry))) ⌝ }
-{
-    let mut n: usize = 0;
-    let mut i: usize = 0;
-    while i < zs.len() {
-        n += 1 + text::signed_length(zs[i]);
-        i += 1;
-    }
-    n
-}
-
-// Puts bytes at a place; answers the place after them. The other writers do the same with what they write.
-fn write_bytes(out: &mut [u8], at: usize, w: &[u8]) -> usize
-    requires { ⌜ at + length (now w) ≤ length (now out) ⌝ }
-    ensures { λ r. ⌜ Written (now (out .entry)) at (now (w .entry)) r (now (out .exit)) ⌝ }
-{
-    let mut k = at;
-    let mut i: usize = 0;
-    while i < w.len() {
-        out[k] = w[i];
-        k += 1;
-        i += 1;
-    }
-    k
-}
-
-// Each number after one tab.
-fn write_fields(out: &mut [u8], at: usize, zs: &[i64]) -> usize
-    requires { ⌜ at + length (fields (now zs)) ≤ length (now out) ⌝ }
-    ensures { λ r. ⌜ Written (now (out .entry)) at (fields (now (zs .entry))) r (now (out .exit)) ⌝ }
-{
-    let mut k = at;
-    let mut i: usize = 0;
-    while i < zs.len() {
-        out[k] = b'\t';
-        k = text::write_signed(out, k + 1, zs[i]);
-        i += 1;
-    }
-    k
-}
-
-// A line of a word and its numbers.
-fn write_line(out: &mut [u8], at: usize, w: &[u8], zs: &[i64]) -> usize
-    requires { ⌜ at + length (line (now w) (now zs)) ≤ length (now out) ⌝ }
-    ensures { λ r. ⌜ Written (now (out .entry)) at (line (now (w .entry)) (now (zs .entry))) r (now (out .exit)) ⌝ }
-{
-    let word = write_bytes(out, at, w);
-    let numbers = write_fields(out, word, zs);
-    write_bytes(out, numbers, b"\n")
-}
-
-// So many lines of a word, each with width numbers.
-fn write_lines(out: &mut [u8], at: usize, w: &[u8], zs: &[i64], width: usize, count: usize) -> usize
-    requires { ⌜ (count * width ≤ length (now zs)) × (at + length (lines (now w) width count (now zs)) ≤ length (now out)) ⌝ }
-    ensures { λ r. ⌜ Written (now (out .entry)) at (lines (now (w .entry)) width count (now (zs .entry))) r (now (out .exit)) ⌝ }
-{
-    let mut k = at;
-    let mut from: usize = 0;
-    let mut i: usize = 0;
-    while i < count {
-        let to = from + width;
-        k = write_line(out, k, w, &zs[from..to]);
-        from = to;
-        i += 1;
-    }
-    k
-}
-
 // Tells a first line of a word and head numbers, then rows and records; measured first, so that nothing is written where it does not fit.
 fn tell(w: &[u8], zs: &[i64], head: usize, rows: usize, records: usize, out: &mut [u8]) -> Answer
     requires { ⌜ Numbered (now w) (now zs) head rows records ⌝ }
     ensures { λ a. ⌜ Put (text-of (now (w .entry)) (now (zs .entry)) head rows records) (now (out .entry)) a (now (out .exit)) ⌝ }
 {
-    if out.len() < w.len() + 1 + 2 * (rows + records) + fields_length(zs) {
+    if out.len() < w.len() + 1 + 2 * (rows + records) + writing::fields_length(zs) {
         return Answer::Refused(Refusal::RoomShort);
     }
     let table = head + rows * 3;
-    let first = write_line(out, 0, w, &zs[..head]);
-    let second = write_lines(out, first, b"R", &zs[head..], 3, rows);
-    let third = write_lines(out, second, b"K", &zs[table..], record::WIDTH, records);
+    let first = writing::write_line(out, 0, w, &zs[..head]);
+    let second = writing::write_lines(out, first, b"R", &zs[head..], 3, rows);
+    let third = writing::write_lines(out, second, b"K", &zs[table..], record::WIDTH, records);
     Answer::Written(third)
 }
 

@@ -29,7 +29,7 @@ add-if1-3 c =
     let n = pre .count in let q = pre .most in let z = pre .word in omega arith
 
 fields-length-requires : tie.Need-fields-length-requires
-fields-length-requires c κs = c .before .before .pre .most
+fields-length-requires c κs = let h = c .before .before .pre .most in omega arith
 
 add-if1-4 : tie.Need-add-if1-4
 add-if1-4 c =

@@ -1,11 +1,11 @@
 -- `write_lines` meets its contract: what is left of the lines goes on being written.
 use mathlib.Core.Path.{_≡_}
 use Prim.Native.Nat.{_+_, _-_}
-use Rattle.reply.proofs.Writing.{Lining, lining-start, numbers-there, line-fits, lining-more, lining-end}
+use Rattle.writing.proofs.Writing.{Lining, lining-start, numbers-there, line-fits, lining-more, lining-end}
 use native.Mathlib.Omega.{arith}
 use borrow.Author.Needs.{needs}
-use Rattle.reply.proofs.write_lines.Statement.{statement}
-use Rattle.reply.proofs.write_lines.Tie as tie
+use Rattle.writing.proofs.write_lines.Statement.{statement}
+use Rattle.writing.proofs.write_lines.Tie as tie
 
 abbrev Inv-loop : tie.InvT-loop
 Inv-loop out₀ at w zs width count k₀ from₀ i₀ out k from i = Lining out₀ at w zs width count out k from i

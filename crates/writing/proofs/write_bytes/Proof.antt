@@ -2,11 +2,11 @@
 use mathlib.Core.Path.{subst}
 use Prim.Native.Nat.{_-_, _≤_}
 use lib.ListN.{length, drop}
-use Rattle.reply.proofs.Writing.{Onward, onward-start, onward-end, byte-fits, byte-written, all-written}
+use Rattle.writing.proofs.Writing.{Onward, onward-start, onward-end, byte-fits, byte-written, all-written}
 use native.Mathlib.Omega.{arith}
 use borrow.Author.Needs.{needs}
-use Rattle.reply.proofs.write_bytes.Statement.{statement}
-use Rattle.reply.proofs.write_bytes.Tie as tie
+use Rattle.writing.proofs.write_bytes.Statement.{statement}
+use Rattle.writing.proofs.write_bytes.Tie as tie
 
 abbrev Inv-loop : tie.InvT-loop
 Inv-loop out₀ at w k₀ i₀ out k i = (i ≤ length w) × Onward out₀ at w out k (drop i w)

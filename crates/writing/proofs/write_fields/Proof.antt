@@ -7,11 +7,11 @@ use mir.ValLaws.{toZ-ofZ}
 use lib.IntN.{pos}
 use lib.ListN.{length, drop, getD, length-set}
 use Rattle.lines.specs.Lines.{fields}
-use Rattle.reply.proofs.Writing.{Onward, onward-start, onward-end, field-fits, field-written, all-written}
+use Rattle.writing.proofs.Writing.{Onward, onward-start, onward-end, field-fits, field-written, all-written}
 use native.Mathlib.Omega.{arith}
 use borrow.Author.Needs.{needs}
-use Rattle.reply.proofs.write_fields.Statement.{statement}
-use Rattle.reply.proofs.write_fields.Tie as tie
+use Rattle.writing.proofs.write_fields.Statement.{statement}
+use Rattle.writing.proofs.write_fields.Tie as tie
 
 abbrev Inv-loop : tie.InvT-loop
 Inv-loop out₀ at zs k₀ i₀ out k i = (i ≤ length zs) × Onward out₀ at (fields zs) out k (fields (drop i zs))

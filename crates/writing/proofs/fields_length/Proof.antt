@@ -7,11 +7,11 @@ use mir.ValLaws.{toZ-ofZ}
 use lib.IntN.{pos}
 use lib.ListN.{length, drop, getD}
 use Rattle.lines.specs.Lines.{fields}
-use Rattle.reply.proofs.Writing.{field-length, all-written}
+use Rattle.writing.proofs.Writing.{field-length, all-written}
 use native.Mathlib.Omega.{arith}
 use borrow.Author.Needs.{needs}
-use Rattle.reply.proofs.fields_length.Statement.{statement}
-use Rattle.reply.proofs.fields_length.Tie as tie
+use Rattle.writing.proofs.fields_length.Statement.{statement}
+use Rattle.writing.proofs.fields_length.Tie as tie
 
 abbrev Inv-loop : tie.InvT-loop
 Inv-loop zs n₀ i₀ n i = (i ≤ length zs) × (n + length (fields (drop i zs)) ≡ length (fields zs)) × (n ≤ 21 * i)

@@ -1,8 +1,8 @@
 -- `write_line` meets its contract: the word, the fields, one newline.
-use Rattle.reply.proofs.Writing.{word-fits, numbers-fit, newline-fits, line-written}
+use Rattle.writing.proofs.Writing.{word-fits, numbers-fit, newline-fits, line-written}
 use borrow.Author.Needs.{needs}
-use Rattle.reply.proofs.write_line.Statement.{statement}
-use Rattle.reply.proofs.write_line.Tie as tie
+use Rattle.writing.proofs.write_line.Statement.{statement}
+use Rattle.writing.proofs.write_line.Tie as tie
 
 write-bytes-requires : tie.Need-write-bytes-requires
 write-bytes-requires c κs =

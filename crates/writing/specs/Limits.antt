@@ -1,0 +1,6 @@
+-- How many numbers can be measured at once.
+use Prim.Native.Nat.{ℕ}
+
+-- far more than any text holds; at 21 bytes each their length still fits 64 bits
+abbrev pub most-fields : ℕ
+most-fields = 4294967296
