@@ -1,31 +1,13 @@
-// Every public call over a pipe: a request is read, its call made, the response written, until the requests end.
-use length::Length;
-use length::Order;
-use length::Reading;
-use refusal::Refusal;
-use regrow::Regrown;
-use reply::Answer;
+// Every public call over a pipe: a request is read, its call made, the response written, until the requests end. The calls are those of the C
+// boundary, which answer in numbers.
 use ring::Trial;
-use sheet::Sheet;
-use shift::Shifted;
-use thin::Thinning;
-use volume::Measured;
 use words::Word;
 
 // The numbers of the trial ring.
 const RING: usize = 384;
 
-// A limit that a request types, or that it has none of the units.
-enum Typed {
-    Is(Length),
-    Nothing,
-}
-
-// The order that a request gives.
-enum Given {
-    Is(Order),
-    Nothing,
-}
+// The greatest unit of a limit; 0 stands for no limit.
+const LAST_UNIT: u64 = 3;
 
 // ---- answers
 
@@ -38,46 +20,6 @@ fn answer_two(status: u64, value: u64) -> bool {
         return false;
     }
     words::write_word(value)
-}
-
-fn status_of(e: Refusal) -> u64 {
-    refusal::number_of(e) as u64
-}
-
-fn answer_thinning(a: Thinning) -> bool {
-    match a {
-        Thinning::Done(k) => answer_two(0, k as u64),
-        Thinning::Refused(e) => answer_two(status_of(e), 0),
-    }
-}
-
-fn answer_regrown(a: Regrown) -> bool {
-    match a {
-        Regrown::Done(k) => answer_two(0, k as u64),
-        Regrown::Stopped(k) => answer_two(status_of(Refusal::RecordFails), k as u64),
-        Regrown::Refused(e) => answer_two(status_of(e), 0),
-    }
-}
-
-fn answer_measured(a: Measured) -> bool {
-    match a {
-        Measured::Figure(f) => answer_two(0, words::word_of(f)),
-        Measured::Refused(e) => answer_two(status_of(e), 0),
-    }
-}
-
-fn answer_reading(a: Reading) -> bool {
-    match a {
-        Reading::Whole(c) => answer_two(0, c),
-        Reading::Unusable => answer_two(status_of(Refusal::LimitUnusable), 0),
-    }
-}
-
-fn answer_reply(a: Answer) -> bool {
-    match a {
-        Answer::Written(n) => answer_two(0, n as u64),
-        Answer::Refused(e) => answer_two(status_of(e), 0),
-    }
 }
 
 // An answer of three words.
@@ -94,38 +36,22 @@ fn answer_three(status: u64, first: u64, second: u64) -> bool {
     words::write_word(second)
 }
 
-fn answer_sheet(a: Sheet) -> bool {
-    match a {
-        Sheet::Read(n, m) => answer_three(0, n as u64, m as u64),
-        Sheet::Refused(e) => answer_three(status_of(e), 0, 0),
-    }
-}
-
 // An answer of four words.
-fn answer_four(status: u64, corner: u64, count: u64, squared: u64) -> bool {
+fn answer_four(status: u64, first: u64, second: u64, third: u64) -> bool {
     if !words::write_word(4) {
         return false;
     }
     if !words::write_word(status) {
         return false;
     }
-    if !words::write_word(corner) {
+    if !words::write_word(first) {
         return false;
     }
-    if !words::write_word(count) {
+    if !words::write_word(second) {
         return false;
     }
-    words::write_word(squared)
+    words::write_word(third)
 }
-
-fn answer_shifted(a: Shifted) -> bool {
-    match a {
-        Shifted::StandIn(c, k, d) => answer_four(0, c.0 as u64, k as u64, d),
-        Shifted::Refused(e) => answer_four(status_of(e), 0, 0, 0),
-    }
-}
-
-// ---- typed limits
 
 // The figure of a pattern. A NaN's has an exponent of ones and digits; every NaN is one figure here.
 fn figure_of(bits: u64) -> f64 {
@@ -138,44 +64,19 @@ fn figure_of(bits: u64) -> f64 {
     0.0 / 0.0
 }
 
-fn limit_of(unit: u64, bits: u64) -> Typed {
-    let v = figure_of(bits);
-    if unit == 1 {
-        return Typed::Is(Length::Metres(v));
-    }
-    if unit == 2 {
-        return Typed::Is(Length::Feet(v));
-    }
-    if unit == 3 {
-        return Typed::Is(Length::Centimetres(v));
-    }
-    Typed::Nothing
-}
-
-fn order_of(unit: u64, bits: u64) -> Given {
-    if unit == 0 {
-        return Given::Is(Order::NoLimit);
-    }
-    let t = limit_of(unit, bits);
-    match t {
-        Typed::Is(l) => Given::Is(Order::Limit(l)),
-        Typed::Nothing => Given::Nothing,
-    }
-}
-
 // ---- requests; each answers whether the next one may be read. Each list is read by a function that is lent a part of its room.
 
-fn thin_order(o: Order) -> bool {
+fn thin_order(unit: u32, figure: f64) -> bool {
     let n = words::read_length(words::MOST_NUMBERS);
     if words::MOST_NUMBERS < n {
         return false;
     }
     let mut room = words::numbers_room();
     let k = words::part_of_numbers(n, &room);
-    thin_table(o, &mut room[..k])
+    thin_table(unit, figure, &mut room[..k])
 }
 
-fn thin_table(o: Order, table: &mut [u32]) -> bool {
+fn thin_table(unit: u32, figure: f64, table: &mut [u32]) -> bool {
     if !words::read_numbers(table) {
         return false;
     }
@@ -185,10 +86,10 @@ fn thin_table(o: Order, table: &mut [u32]) -> bool {
     }
     let mut room = words::coordinates_room();
     let k = words::part_of_coordinates(n, &room);
-    thin_corners(o, table, &mut room[..k])
+    thin_corners(unit, figure, table, &mut room[..k])
 }
 
-fn thin_corners(o: Order, table: &mut [u32], corners: &mut [i32]) -> bool {
+fn thin_corners(unit: u32, figure: f64, table: &mut [u32], corners: &mut [i32]) -> bool {
     if !words::read_coordinates(corners) {
         return false;
     }
@@ -198,14 +99,15 @@ fn thin_corners(o: Order, table: &mut [u32], corners: &mut [i32]) -> bool {
     }
     let mut room = words::numbers_room();
     let k = words::part_of_numbers(n, &room);
-    thin_log(o, table, corners, &mut room[..k])
+    thin_log(unit, figure, table, corners, &mut room[..k])
 }
 
-fn thin_log(o: Order, table: &mut [u32], corners: &[i32], log: &mut [u32]) -> bool {
+fn thin_log(unit: u32, figure: f64, table: &mut [u32], corners: &[i32], log: &mut [u32]) -> bool {
     if !words::read_numbers(log) {
         return false;
     }
-    if !answer_thinning(thin::thin(table, corners, o, log)) {
+    let a = bridge::flaxglimmer_thin(unit, figure, table, corners, log);
+    if !answer_two(a.status, a.records) {
         return false;
     }
     if !words::write_numbers(table) {
@@ -224,17 +126,13 @@ fn call_thin() -> bool {
 }
 
 fn thin_unit(unit: u64) -> bool {
+    if LAST_UNIT < unit {
+        return false;
+    }
     let bits = words::read_word();
     match bits {
         Word::Nothing => false,
-        Word::Is(b) => thin_given(order_of(unit, b)),
-    }
-}
-
-fn thin_given(g: Given) -> bool {
-    match g {
-        Given::Is(o) => thin_order(o),
-        Given::Nothing => false,
+        Word::Is(b) => thin_order(unit as u32, figure_of(b)),
     }
 }
 
@@ -282,7 +180,8 @@ fn grow_log(rows: usize, corners: usize, room: &mut [u32], log: &mut [u32]) -> b
     if !words::read_numbers(log) {
         return false;
     }
-    if !answer_regrown(regrow::grow_back(room, rows, corners, log)) {
+    let a = bridge::flaxglimmer_grow_back(rows, corners, room, log);
+    if !answer_two(a.status, a.records) {
         return false;
     }
     words::write_numbers(room)
@@ -324,7 +223,8 @@ fn replay_log(corners: usize, table: &mut [u32], log: &mut [u32]) -> bool {
     if !words::read_numbers(log) {
         return false;
     }
-    if !answer_regrown(replay::replay(table, corners, log)) {
+    let a = bridge::flaxglimmer_replay(corners, table, log);
+    if !answer_two(a.status, a.records) {
         return false;
     }
     words::write_numbers(table)
@@ -358,7 +258,8 @@ fn volume_corners(table: &[u32], corners: &mut [i32]) -> bool {
     if !words::read_coordinates(corners) {
         return false;
     }
-    answer_measured(volume::volume(table, corners))
+    let a = bridge::flaxglimmer_volume(table, corners);
+    answer_two(a.status, words::word_of(a.figure))
 }
 
 // A change: earlier table; later table; corners.
@@ -402,7 +303,8 @@ fn change_corners(earlier: &[u32], later: &[u32], corners: &mut [i32]) -> bool {
     if !words::read_coordinates(corners) {
         return false;
     }
-    answer_measured(volume::change(earlier, later, corners))
+    let a = bridge::flaxglimmer_change(earlier, later, corners);
+    answer_two(a.status, words::word_of(a.figure))
 }
 
 // A shift: corner; corners; log.
@@ -446,7 +348,18 @@ fn shift_log(corner: u32, corners: &[i32], log: &mut [u32]) -> bool {
     if !words::read_numbers(log) {
         return false;
     }
-    answer_shifted(shift::shift(corners, log, corner))
+    let mut standin: u64 = 0;
+    let mut count: u64 = 0;
+    let mut squared: u64 = 0;
+    let status = bridge::flaxglimmer_shift(
+        corner,
+        corners,
+        log,
+        &mut standin,
+        &mut count,
+        &mut squared,
+    );
+    answer_four(status, standin, count, squared)
 }
 
 // A limit: unit and bits.
@@ -459,17 +372,19 @@ fn call_limit() -> bool {
 }
 
 fn limit_unit(unit: u64) -> bool {
+    if unit == 0 {
+        return false;
+    }
+    if LAST_UNIT < unit {
+        return false;
+    }
     let bits = words::read_word();
     match bits {
         Word::Nothing => false,
-        Word::Is(b) => limit_typed(limit_of(unit, b)),
-    }
-}
-
-fn limit_typed(t: Typed) -> bool {
-    match t {
-        Typed::Is(l) => answer_reading(length::read_limit(l)),
-        Typed::Nothing => false,
+        Word::Is(b) => {
+            let a = bridge::flaxglimmer_limit(unit as u32, figure_of(b));
+            answer_two(a.status, a.whole)
+        }
     }
 }
 
@@ -548,7 +463,10 @@ fn sheet_corners(bytes: &[u8], table: &mut [u32], corners: &mut [i32]) -> bool {
     if !words::read_coordinates(corners) {
         return false;
     }
-    if !answer_sheet(sheet::read_sheet(bytes, table, corners)) {
+    let mut count: u64 = 0;
+    let mut rows: u64 = 0;
+    let status = bridge::flaxglimmer_read_sheet(bytes, table, corners, &mut count, &mut rows);
+    if !answer_three(status, count, rows) {
         return false;
     }
     if !words::write_numbers(table) {
@@ -585,7 +503,8 @@ fn reply_text(bytes: &[u8], text: &mut [u8]) -> bool {
     if !words::read_bytes(text) {
         return false;
     }
-    if !answer_reply(reply::reply(bytes, text)) {
+    let a = bridge::flaxglimmer_reply(bytes, text);
+    if !answer_two(a.status, a.bytes) {
         return false;
     }
     words::write_bytes(text)
