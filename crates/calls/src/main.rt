@@ -1,7 +1,6 @@
 // Every public call over a pipe: a request is read, its call made, the response written, until the requests end. The calls are those of the C
 // boundary, which answer in numbers.
 use ring::Trial;
-use words::Word;
 
 // The numbers of the trial ring.
 const RING: usize = 384;
@@ -64,48 +63,36 @@ fn figure_of(bits: u64) -> f64 {
     0.0 / 0.0
 }
 
-// ---- requests; each answers whether the next one may be read. Each list is read by a function that is lent a part of its room.
+// ---- requests: what is read is lent to the call, and written back after its answer. Each tells whether the next request may be read; none may
+// once a word was missing or not of its kind.
 
-fn thin_order(unit: u32, figure: f64) -> bool {
-    let n = words::read_length(words::MOST_NUMBERS);
-    if words::MOST_NUMBERS < n {
+// A thinning: unit and bits of the limit; table; corners; log.
+fn call_thin() -> bool {
+    let mut ok = true;
+    let unit = words::take_word(&mut ok);
+    if LAST_UNIT < unit {
         return false;
     }
-    let mut room = words::numbers_room();
-    let k = words::part_of_numbers(n, &room);
-    thin_table(unit, figure, &mut room[..k])
+    let bits = words::take_word(&mut ok);
+    let mut table = words::numbers_room();
+    let t = words::take_numbers(&mut table, &mut ok);
+    let mut corners = words::coordinates_room();
+    let c = words::take_coordinates(&mut corners, &mut ok);
+    let mut log = words::numbers_room();
+    let l = words::take_numbers(&mut log, &mut ok);
+    if !ok {
+        return false;
+    }
+    thin_lent(
+        unit as u32,
+        figure_of(bits),
+        &mut table[..t],
+        &corners[..c],
+        &mut log[..l],
+    )
 }
 
-fn thin_table(unit: u32, figure: f64, table: &mut [u32]) -> bool {
-    if !words::read_numbers(table) {
-        return false;
-    }
-    let n = words::read_length(words::MOST_NUMBERS);
-    if words::MOST_NUMBERS < n {
-        return false;
-    }
-    let mut room = words::coordinates_room();
-    let k = words::part_of_coordinates(n, &room);
-    thin_corners(unit, figure, table, &mut room[..k])
-}
-
-fn thin_corners(unit: u32, figure: f64, table: &mut [u32], corners: &mut [i32]) -> bool {
-    if !words::read_coordinates(corners) {
-        return false;
-    }
-    let n = words::read_length(words::MOST_NUMBERS);
-    if words::MOST_NUMBERS < n {
-        return false;
-    }
-    let mut room = words::numbers_room();
-    let k = words::part_of_numbers(n, &room);
-    thin_log(unit, figure, table, corners, &mut room[..k])
-}
-
-fn thin_log(unit: u32, figure: f64, table: &mut [u32], corners: &[i32], log: &mut [u32]) -> bool {
-    if !words::read_numbers(log) {
-        return false;
-    }
+fn thin_lent(unit: u32, figure: f64, table: &mut [u32], corners: &[i32], log: &mut [u32]) -> bool {
     let a = bridge::flaxglimmer_thin(unit, figure, table, corners, log);
     if !answer_two(a.status, a.records) {
         return false;
@@ -116,70 +103,22 @@ fn thin_log(unit: u32, figure: f64, table: &mut [u32], corners: &[i32], log: &mu
     words::write_numbers(log)
 }
 
-// The order of a thinning: a unit and the figure's bits.
-fn call_thin() -> bool {
-    let unit = words::read_word();
-    match unit {
-        Word::Nothing => false,
-        Word::Is(u) => thin_unit(u),
-    }
-}
-
-fn thin_unit(unit: u64) -> bool {
-    if LAST_UNIT < unit {
-        return false;
-    }
-    let bits = words::read_word();
-    match bits {
-        Word::Nothing => false,
-        Word::Is(b) => thin_order(unit as u32, figure_of(b)),
-    }
-}
-
 // Growing back: rows told and corner count; room; log.
 fn call_grow() -> bool {
-    let rows = words::read_word();
-    match rows {
-        Word::Nothing => false,
-        Word::Is(r) => grow_rows(r as usize),
-    }
-}
-
-fn grow_rows(rows: usize) -> bool {
-    let corners = words::read_word();
-    match corners {
-        Word::Nothing => false,
-        Word::Is(c) => grow_corners(rows, c as usize),
-    }
-}
-
-fn grow_corners(rows: usize, corners: usize) -> bool {
-    let n = words::read_length(words::MOST_NUMBERS);
-    if words::MOST_NUMBERS < n {
-        return false;
-    }
+    let mut ok = true;
+    let rows = words::take_word(&mut ok);
+    let corners = words::take_word(&mut ok);
     let mut room = words::numbers_room();
-    let k = words::part_of_numbers(n, &room);
-    grow_room(rows, corners, &mut room[..k])
+    let r = words::take_numbers(&mut room, &mut ok);
+    let mut log = words::numbers_room();
+    let l = words::take_numbers(&mut log, &mut ok);
+    if !ok {
+        return false;
+    }
+    grow_lent(rows as usize, corners as usize, &mut room[..r], &log[..l])
 }
 
-fn grow_room(rows: usize, corners: usize, room: &mut [u32]) -> bool {
-    if !words::read_numbers(room) {
-        return false;
-    }
-    let n = words::read_length(words::MOST_NUMBERS);
-    if words::MOST_NUMBERS < n {
-        return false;
-    }
-    let mut space = words::numbers_room();
-    let k = words::part_of_numbers(n, &space);
-    grow_log(rows, corners, room, &mut space[..k])
-}
-
-fn grow_log(rows: usize, corners: usize, room: &mut [u32], log: &mut [u32]) -> bool {
-    if !words::read_numbers(log) {
-        return false;
-    }
+fn grow_lent(rows: usize, corners: usize, room: &mut [u32], log: &[u32]) -> bool {
     let a = bridge::flaxglimmer_grow_back(rows, corners, room, log);
     if !answer_two(a.status, a.records) {
         return false;
@@ -189,40 +128,19 @@ fn grow_log(rows: usize, corners: usize, room: &mut [u32], log: &mut [u32]) -> b
 
 // Replay: corner count; table; log.
 fn call_replay() -> bool {
-    let corners = words::read_word();
-    match corners {
-        Word::Nothing => false,
-        Word::Is(c) => replay_corners(c as usize),
+    let mut ok = true;
+    let corners = words::take_word(&mut ok);
+    let mut table = words::numbers_room();
+    let t = words::take_numbers(&mut table, &mut ok);
+    let mut log = words::numbers_room();
+    let l = words::take_numbers(&mut log, &mut ok);
+    if !ok {
+        return false;
     }
+    replay_lent(corners as usize, &mut table[..t], &log[..l])
 }
 
-fn replay_corners(corners: usize) -> bool {
-    let n = words::read_length(words::MOST_NUMBERS);
-    if words::MOST_NUMBERS < n {
-        return false;
-    }
-    let mut room = words::numbers_room();
-    let k = words::part_of_numbers(n, &room);
-    replay_table(corners, &mut room[..k])
-}
-
-fn replay_table(corners: usize, table: &mut [u32]) -> bool {
-    if !words::read_numbers(table) {
-        return false;
-    }
-    let n = words::read_length(words::MOST_NUMBERS);
-    if words::MOST_NUMBERS < n {
-        return false;
-    }
-    let mut room = words::numbers_room();
-    let k = words::part_of_numbers(n, &room);
-    replay_log(corners, table, &mut room[..k])
-}
-
-fn replay_log(corners: usize, table: &mut [u32], log: &mut [u32]) -> bool {
-    if !words::read_numbers(log) {
-        return false;
-    }
+fn replay_lent(corners: usize, table: &mut [u32], log: &[u32]) -> bool {
     let a = bridge::flaxglimmer_replay(corners, table, log);
     if !answer_two(a.status, a.records) {
         return false;
@@ -232,122 +150,52 @@ fn replay_log(corners: usize, table: &mut [u32], log: &mut [u32]) -> bool {
 
 // A volume: table; corners.
 fn call_volume() -> bool {
-    let n = words::read_length(words::MOST_NUMBERS);
-    if words::MOST_NUMBERS < n {
+    let mut ok = true;
+    let mut table = words::numbers_room();
+    let t = words::take_numbers(&mut table, &mut ok);
+    let mut corners = words::coordinates_room();
+    let c = words::take_coordinates(&mut corners, &mut ok);
+    if !ok {
         return false;
     }
-    let mut room = words::numbers_room();
-    let k = words::part_of_numbers(n, &room);
-    volume_table(&mut room[..k])
-}
-
-fn volume_table(table: &mut [u32]) -> bool {
-    if !words::read_numbers(table) {
-        return false;
-    }
-    let n = words::read_length(words::MOST_NUMBERS);
-    if words::MOST_NUMBERS < n {
-        return false;
-    }
-    let mut room = words::coordinates_room();
-    let k = words::part_of_coordinates(n, &room);
-    volume_corners(table, &mut room[..k])
-}
-
-fn volume_corners(table: &[u32], corners: &mut [i32]) -> bool {
-    if !words::read_coordinates(corners) {
-        return false;
-    }
-    let a = bridge::flaxglimmer_volume(table, corners);
+    let a = bridge::flaxglimmer_volume(&table[..t], &corners[..c]);
     answer_two(a.status, words::word_of(a.figure))
 }
 
 // A change: earlier table; later table; corners.
 fn call_change() -> bool {
-    let n = words::read_length(words::MOST_NUMBERS);
-    if words::MOST_NUMBERS < n {
+    let mut ok = true;
+    let mut earlier = words::numbers_room();
+    let e = words::take_numbers(&mut earlier, &mut ok);
+    let mut later = words::numbers_room();
+    let l = words::take_numbers(&mut later, &mut ok);
+    let mut corners = words::coordinates_room();
+    let c = words::take_coordinates(&mut corners, &mut ok);
+    if !ok {
         return false;
     }
-    let mut room = words::numbers_room();
-    let k = words::part_of_numbers(n, &room);
-    change_earlier(&mut room[..k])
-}
-
-fn change_earlier(earlier: &mut [u32]) -> bool {
-    if !words::read_numbers(earlier) {
-        return false;
-    }
-    let n = words::read_length(words::MOST_NUMBERS);
-    if words::MOST_NUMBERS < n {
-        return false;
-    }
-    let mut room = words::numbers_room();
-    let k = words::part_of_numbers(n, &room);
-    change_later(earlier, &mut room[..k])
-}
-
-fn change_later(earlier: &[u32], later: &mut [u32]) -> bool {
-    if !words::read_numbers(later) {
-        return false;
-    }
-    let n = words::read_length(words::MOST_NUMBERS);
-    if words::MOST_NUMBERS < n {
-        return false;
-    }
-    let mut room = words::coordinates_room();
-    let k = words::part_of_coordinates(n, &room);
-    change_corners(earlier, later, &mut room[..k])
-}
-
-fn change_corners(earlier: &[u32], later: &[u32], corners: &mut [i32]) -> bool {
-    if !words::read_coordinates(corners) {
-        return false;
-    }
-    let a = bridge::flaxglimmer_change(earlier, later, corners);
+    let a = bridge::flaxglimmer_change(&earlier[..e], &later[..l], &corners[..c]);
     answer_two(a.status, words::word_of(a.figure))
 }
 
 // A shift: corner; corners; log.
 fn call_shift() -> bool {
-    let corner = words::read_word();
-    match corner {
-        Word::Nothing => false,
-        Word::Is(v) => {
-            if 4294967295 < v {
-                return false;
-            }
-            shift_corner(v as u32)
-        }
+    let mut ok = true;
+    let corner = words::take_word(&mut ok);
+    if 4294967295 < corner {
+        return false;
     }
+    let mut corners = words::coordinates_room();
+    let c = words::take_coordinates(&mut corners, &mut ok);
+    let mut log = words::numbers_room();
+    let l = words::take_numbers(&mut log, &mut ok);
+    if !ok {
+        return false;
+    }
+    shift_lent(corner as u32, &corners[..c], &log[..l])
 }
 
-fn shift_corner(corner: u32) -> bool {
-    let n = words::read_length(words::MOST_NUMBERS);
-    if words::MOST_NUMBERS < n {
-        return false;
-    }
-    let mut room = words::coordinates_room();
-    let k = words::part_of_coordinates(n, &room);
-    shift_corners(corner, &mut room[..k])
-}
-
-fn shift_corners(corner: u32, corners: &mut [i32]) -> bool {
-    if !words::read_coordinates(corners) {
-        return false;
-    }
-    let n = words::read_length(words::MOST_NUMBERS);
-    if words::MOST_NUMBERS < n {
-        return false;
-    }
-    let mut room = words::numbers_room();
-    let k = words::part_of_numbers(n, &room);
-    shift_log(corner, corners, &mut room[..k])
-}
-
-fn shift_log(corner: u32, corners: &[i32], log: &mut [u32]) -> bool {
-    if !words::read_numbers(log) {
-        return false;
-    }
+fn shift_lent(corner: u32, corners: &[i32], log: &[u32]) -> bool {
     let mut standin: u64 = 0;
     let mut count: u64 = 0;
     let mut squared: u64 = 0;
@@ -364,105 +212,54 @@ fn shift_log(corner: u32, corners: &[i32], log: &mut [u32]) -> bool {
 
 // A limit: unit and bits.
 fn call_limit() -> bool {
-    let unit = words::read_word();
-    match unit {
-        Word::Nothing => false,
-        Word::Is(u) => limit_unit(u),
-    }
-}
-
-fn limit_unit(unit: u64) -> bool {
+    let mut ok = true;
+    let unit = words::take_word(&mut ok);
     if unit == 0 {
         return false;
     }
     if LAST_UNIT < unit {
         return false;
     }
-    let bits = words::read_word();
-    match bits {
-        Word::Nothing => false,
-        Word::Is(b) => {
-            let a = bridge::flaxglimmer_limit(unit as u32, figure_of(b));
-            answer_two(a.status, a.whole)
-        }
+    let bits = words::take_word(&mut ok);
+    if !ok {
+        return false;
     }
+    let a = bridge::flaxglimmer_limit(unit as u32, figure_of(bits));
+    answer_two(a.status, a.whole)
 }
 
 // Two lists of which one, or a part of one, is handed back: the ring chooser, and the catch-up part.
 fn call_pair(catch_up: bool) -> bool {
-    let n = words::read_length(words::MOST_NUMBERS);
-    if words::MOST_NUMBERS < n {
-        return false;
-    }
-    let mut room = words::numbers_room();
-    let k = words::part_of_numbers(n, &room);
-    pair_first(catch_up, &mut room[..k])
-}
-
-fn pair_first(catch_up: bool, first: &mut [u32]) -> bool {
-    if !words::read_numbers(first) {
-        return false;
-    }
-    let n = words::read_length(words::MOST_NUMBERS);
-    if words::MOST_NUMBERS < n {
-        return false;
-    }
-    let mut room = words::numbers_room();
-    let k = words::part_of_numbers(n, &room);
-    pair_second(catch_up, first, &mut room[..k])
-}
-
-fn pair_second(catch_up: bool, first: &[u32], second: &mut [u32]) -> bool {
-    if !words::read_numbers(second) {
+    let mut ok = true;
+    let mut first = words::numbers_room();
+    let f = words::take_numbers(&mut first, &mut ok);
+    let mut second = words::numbers_room();
+    let s = words::take_numbers(&mut second, &mut ok);
+    if !ok {
         return false;
     }
     if catch_up {
-        return words::write_numbers(catchup::catch_up(first, second));
+        return words::write_numbers(catchup::catch_up(&first[..f], &second[..s]));
     }
-    words::write_numbers(link::shorter_ring(first, second))
+    words::write_numbers(link::shorter_ring(&first[..f], &second[..s]))
 }
 
 // A sheet: bytes; table; corners.
 fn call_sheet() -> bool {
-    let n = words::read_length(words::MOST_BYTES);
-    if words::MOST_BYTES < n {
+    let mut ok = true;
+    let mut bytes = words::bytes_room();
+    let b = words::take_bytes(&mut bytes, &mut ok);
+    let mut table = words::numbers_room();
+    let t = words::take_numbers(&mut table, &mut ok);
+    let mut corners = words::coordinates_room();
+    let c = words::take_coordinates(&mut corners, &mut ok);
+    if !ok {
         return false;
     }
-    let mut room = words::bytes_room();
-    let k = words::part_of_bytes(n, &room);
-    sheet_bytes(&mut room[..k])
+    sheet_lent(&bytes[..b], &mut table[..t], &mut corners[..c])
 }
 
-fn sheet_bytes(bytes: &mut [u8]) -> bool {
-    if !words::read_bytes(bytes) {
-        return false;
-    }
-    let n = words::read_length(words::MOST_NUMBERS);
-    if words::MOST_NUMBERS < n {
-        return false;
-    }
-    let mut room = words::numbers_room();
-    let k = words::part_of_numbers(n, &room);
-    sheet_table(bytes, &mut room[..k])
-}
-
-fn sheet_table(bytes: &[u8], table: &mut [u32]) -> bool {
-    if !words::read_numbers(table) {
-        return false;
-    }
-    let n = words::read_length(words::MOST_NUMBERS);
-    if words::MOST_NUMBERS < n {
-        return false;
-    }
-    let mut room = words::coordinates_room();
-    let k = words::part_of_coordinates(n, &room);
-    sheet_corners(bytes, table, &mut room[..k])
-}
-
-fn sheet_corners(bytes: &[u8], table: &mut [u32], corners: &mut [i32]) -> bool {
-    if !words::read_coordinates(corners) {
-        return false;
-    }
+fn sheet_lent(bytes: &[u8], table: &mut [u32], corners: &mut [i32]) -> bool {
     let mut count: u64 = 0;
     let mut rows: u64 = 0;
     let status = bridge::flaxglimmer_read_sheet(bytes, table, corners, &mut count, &mut rows);
@@ -477,32 +274,18 @@ fn sheet_corners(bytes: &[u8], table: &mut [u32], corners: &mut [i32]) -> bool {
 
 // The desk's answer: bytes; text.
 fn call_reply() -> bool {
-    let n = words::read_length(words::MOST_BYTES);
-    if words::MOST_BYTES < n {
+    let mut ok = true;
+    let mut bytes = words::bytes_room();
+    let b = words::take_bytes(&mut bytes, &mut ok);
+    let mut text = words::bytes_room();
+    let t = words::take_bytes(&mut text, &mut ok);
+    if !ok {
         return false;
     }
-    let mut room = words::bytes_room();
-    let k = words::part_of_bytes(n, &room);
-    reply_bytes(&mut room[..k])
+    reply_lent(&bytes[..b], &mut text[..t])
 }
 
-fn reply_bytes(bytes: &mut [u8]) -> bool {
-    if !words::read_bytes(bytes) {
-        return false;
-    }
-    let n = words::read_length(words::MOST_BYTES);
-    if words::MOST_BYTES < n {
-        return false;
-    }
-    let mut room = words::bytes_room();
-    let k = words::part_of_bytes(n, &room);
-    reply_text(bytes, &mut room[..k])
-}
-
-fn reply_text(bytes: &[u8], text: &mut [u8]) -> bool {
-    if !words::read_bytes(text) {
-        return false;
-    }
+fn reply_lent(bytes: &[u8], text: &mut [u8]) -> bool {
     let a = bridge::flaxglimmer_reply(bytes, text);
     if !answer_two(a.status, a.bytes) {
         return false;
@@ -576,11 +359,12 @@ fn call_later(number: u64) -> bool {
 
 // One request; whether the next one may be read.
 fn serve() -> bool {
-    let number = words::read_word();
-    match number {
-        Word::Nothing => false,
-        Word::Is(n) => call(n),
+    let mut ok = true;
+    let number = words::take_word(&mut ok);
+    if !ok {
+        return false;
     }
+    call(number)
 }
 
 // More requests than anyone sends: that it ends is proved, and so they are counted.

@@ -5,9 +5,9 @@ ghost use lib.ListN.{length};
 ghost use Rattle.words.specs.Part.{PartOf};
 
 // The most numbers that a list may have, and the most bytes.
-pub const MOST_NUMBERS: usize = 16384;
+const MOST_NUMBERS: usize = 16384;
 
-pub const MOST_BYTES: usize = 131072;
+const MOST_BYTES: usize = 131072;
 
 // Inner: rooms for lists. The `ensures` gives only the length, which lending a part of one needs.
 pub fn numbers_room() -> [u32; MOST_NUMBERS]
@@ -30,23 +30,23 @@ pub fn bytes_room() -> [u8; MOST_BYTES]
     [0; MOST_BYTES]
 }
 
-// Inner: how much of a room a list of so many words takes: as many, and never more than there are. It takes the room and not its length, so
+// How much of a room a list of so many words takes: as many, and never more than there are. It takes the room and not its length, so
 // that lending the part needs no proof of its own.
-pub fn part_of_numbers(n: usize, room: &[u32]) -> usize
+fn part_of_numbers(n: usize, room: &[u32]) -> usize
     ensures { λ r. ⌜ PartOf r (now (room .entry)) ⌝ }
 {
     least(n, room.len())
 }
 
-// Inner: the same for coordinates.
-pub fn part_of_coordinates(n: usize, room: &[i32]) -> usize
+// The same for coordinates.
+fn part_of_coordinates(n: usize, room: &[i32]) -> usize
     ensures { λ r. ⌜ PartOf r (now (room .entry)) ⌝ }
 {
     least(n, room.len())
 }
 
-// Inner: the same for bytes.
-pub fn part_of_bytes(n: usize, room: &[u8]) -> usize
+// The same for bytes.
+fn part_of_bytes(n: usize, room: &[u8]) -> usize
     ensures { λ r. ⌜ PartOf r (now (room .entry)) ⌝ }
 {
     least(n, room.len())
@@ -59,7 +59,7 @@ fn least(a: usize, b: usize) -> usize
 }
 
 // A word that was read, or that there is none.
-pub enum Word {
+enum Word {
     Is(u64),
     Nothing,
 }
@@ -127,8 +127,8 @@ fn signed_of(w: u64) -> Signed {
     Signed::Is(-s)
 }
 
-// Inner: the next word of the input.
-pub fn read_word() -> Word {
+// The next word of the input.
+fn read_word() -> Word {
     let mut b = [0u8; 8];
     if io::read_full(0, &mut b) < 8 {
         return Word::Nothing;
@@ -136,8 +136,8 @@ pub fn read_word() -> Word {
     Word::Is(word_at(&b, 0))
 }
 
-// Inner: the length of the list that comes next; one more than the most where it has more or there is none.
-pub fn read_length(most: usize) -> usize
+// The length of the list that comes next; one more than the most where it has more or there is none.
+fn read_length(most: usize) -> usize
     requires { ⌜ most ≤ 131072 ⌝ }
 {
     let w = read_word();
@@ -152,8 +152,8 @@ pub fn read_length(most: usize) -> usize
     }
 }
 
-// Inner: fills a list with the next words of the input; false where there are not as many, or one is not of its type.
-pub fn read_numbers(out: &mut [u32]) -> bool {
+// Fills a list with the next words of the input; false where there are not as many, or one is not of its type.
+fn read_numbers(out: &mut [u32]) -> bool {
     let mut i: usize = 0;
     while i < out.len() {
         let w = read_word();
@@ -180,8 +180,8 @@ fn read_signed() -> Signed {
     }
 }
 
-// Inner: the same for coordinates.
-pub fn read_coordinates(out: &mut [i32]) -> bool {
+// The same for coordinates.
+fn read_coordinates(out: &mut [i32]) -> bool {
     let mut i: usize = 0;
     while i < out.len() {
         let s = read_signed();
@@ -196,8 +196,8 @@ pub fn read_coordinates(out: &mut [i32]) -> bool {
     true
 }
 
-// Inner: the same for bytes.
-pub fn read_bytes(out: &mut [u8]) -> bool {
+// The same for bytes.
+fn read_bytes(out: &mut [u8]) -> bool {
     let mut i: usize = 0;
     while i < out.len() {
         let w = read_word();
@@ -213,6 +213,78 @@ pub fn read_bytes(out: &mut [u8]) -> bool {
         i += 1;
     }
     true
+}
+
+// Inner: the next word of the input. Where there is none, ok becomes false, and once it is false nothing more is read.
+pub fn take_word(ok: &mut bool) -> u64 {
+    if !*ok {
+        return 0;
+    }
+    let w = read_word();
+    match w {
+        Word::Is(v) => v,
+        Word::Nothing => {
+            *ok = false;
+            0
+        }
+    }
+}
+
+// Inner: reads the next list into the front of a room, in the same way; answers how much of the room it takes.
+pub fn take_numbers(room: &mut [u32], ok: &mut bool) -> usize
+    ensures { λ r. ⌜ PartOf r (now (room .exit)) ⌝ }
+{
+    if !*ok {
+        return part_of_numbers(0, room);
+    }
+    let n = read_length(MOST_NUMBERS);
+    let k = part_of_numbers(n, room);
+    if MOST_NUMBERS < n {
+        *ok = false;
+        return k;
+    }
+    if !read_numbers(&mut room[..k]) {
+        *ok = false;
+    }
+    k
+}
+
+// Inner: the same for coordinates.
+pub fn take_coordinates(room: &mut [i32], ok: &mut bool) -> usize
+    ensures { λ r. ⌜ PartOf r (now (room .exit)) ⌝ }
+{
+    if !*ok {
+        return part_of_coordinates(0, room);
+    }
+    let n = read_length(MOST_NUMBERS);
+    let k = part_of_coordinates(n, room);
+    if MOST_NUMBERS < n {
+        *ok = false;
+        return k;
+    }
+    if !read_coordinates(&mut room[..k]) {
+        *ok = false;
+    }
+    k
+}
+
+// Inner: the same for bytes.
+pub fn take_bytes(room: &mut [u8], ok: &mut bool) -> usize
+    ensures { λ r. ⌜ PartOf r (now (room .exit)) ⌝ }
+{
+    if !*ok {
+        return part_of_bytes(0, room);
+    }
+    let n = read_length(MOST_BYTES);
+    let k = part_of_bytes(n, room);
+    if MOST_BYTES < n {
+        *ok = false;
+        return k;
+    }
+    if !read_bytes(&mut room[..k]) {
+        *ok = false;
+    }
+    k
 }
 
 // Inner: writes a word; whether it was taken.
