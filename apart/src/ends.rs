@@ -36,20 +36,30 @@ fn small_request(call: usize, chance: &mut Chance) -> Request {
     Request { call, arguments }
 }
 
+/// What stands behind bytes that are no request: the end of the input, an honest request, or nothing yet.
+#[derive(Clone, Copy, PartialEq)]
+enum Behind {
+    End,
+    More,
+    Silence,
+}
+
+const ANY_BEHIND: [Behind; 3] = [Behind::End, Behind::More, Behind::Silence];
+
 /// Sends an honest request and then bytes that are none: the honest one is answered, nothing else is written, and
-/// the program ends, whether or not more stands behind.
-fn must_end(bench: &mut Bench, kind: &str, bad: &[u8], closed: bool, chance: &mut Chance) {
+/// the program ends, whatever stands behind.
+fn must_end(bench: &mut Bench, kind: &str, bad: &[u8], behind: Behind, chance: &mut Chance) {
     if bench.enough() {
         return;
     }
     let honest = small_request(chance.pick(&[THIN, VOLUME, LIMIT, CATCH_UP]), chance);
     let expected = bytes_of(&answer(&honest).words());
     let words = bytes_of(&honest.words());
-    let behind: &[u8] = if closed { &[] } else { &words };
-    let sent = [&words, bad, behind].concat();
+    let more: &[u8] = if behind == Behind::More { &words } else { &[] };
+    let sent = [&words, bad, more].concat();
     let found = bench.output(&bench.calls_path.clone(), END, |calls| {
         calls.send(sent.clone());
-        if closed {
+        if behind == Behind::End {
             calls.close();
         }
     });
@@ -77,7 +87,7 @@ fn bad_words(bench: &mut Bench, request: &Request, chance: &mut Chance) {
             }
             let place = chance.below(bad.arguments[at].len());
             bad.arguments[at][place] = word;
-            must_end(bench, "ends: a word outside its type", &bytes_of(&bad.words()), chance.one_in(2), chance);
+            must_end(bench, "ends: a word outside its type", &bytes_of(&bad.words()), chance.pick(&ANY_BEHIND), chance);
         }
         if argument.kind.is_list() {
             long_lists(bench, request, at, chance);
@@ -97,7 +107,7 @@ fn long_lists(bench: &mut Bench, request: &Request, at: usize, chance: &mut Chan
             let rest = Request { call: request.call, arguments: request.arguments.clone() };
             words.extend(rest.words().split_off(before.words().len() + 1 + request.arguments[at].len()));
         }
-        must_end(bench, "ends: a list over its limit", &bytes_of(&words), chance.one_in(2), chance);
+        must_end(bench, "ends: a list over its limit", &bytes_of(&words), chance.pick(&ANY_BEHIND), chance);
     }
 }
 
@@ -108,14 +118,14 @@ fn cut_short(bench: &mut Bench, request: &Request, chance: &mut Chance) {
     cuts.extend((0..4).map(|_| 8 * chance.below(bytes.len() / 8)));
     cuts.extend((0..2).map(|_| chance.below(bytes.len())));
     for cut in cuts {
-        must_end(bench, "ends: a request cut short", &bytes[..cut], true, chance);
+        must_end(bench, "ends: a request cut short", &bytes[..cut], Behind::End, chance);
     }
 }
 
 fn other_calls(bench: &mut Bench, chance: &mut Chance) {
     let next = CALLS.len() as Word + 1;
     for call in [0, next, -1, 255, 256 + 11, (1 << 32) + 11, Word::MIN + 11, Word::MAX] {
-        must_end(bench, "ends: another call", &bytes_of(&[call]), chance.one_in(2), chance);
+        must_end(bench, "ends: another call", &bytes_of(&[call]), chance.pick(&ANY_BEHIND), chance);
     }
 }
 

@@ -1,5 +1,5 @@
-// Every public call over a pipe: a request is read, its call made, the response written, until the requests end. The calls are those of the C
-// boundary, which answer in numbers.
+// Every public call over a pipe: a request is read, its call made, the response written, until the requests end. Those that answer in numbers
+// go through the C boundary.
 use ring::Trial;
 
 // The numbers of the trial ring.
@@ -52,7 +52,7 @@ fn answer_four(status: u64, first: u64, second: u64, third: u64) -> bool {
     words::write_word(third)
 }
 
-// The figure of a pattern. A NaN's has an exponent of ones and digits; every NaN is one figure here.
+// The figure of a pattern. A NaN's has an exponent of ones and digits that are not all 0; every NaN is one figure here.
 fn figure_of(bits: u64) -> f64 {
     if bits % 9223372036854775808 / 4503599627370496 != 2047 {
         return f64::from_bits(bits);
@@ -63,8 +63,8 @@ fn figure_of(bits: u64) -> f64 {
     0.0 / 0.0
 }
 
-// ---- requests: what is read is lent to the call, and written back after its answer. Each tells whether the next request may be read; none may
-// once a word was missing or not of its kind.
+// ---- requests: what is read is lent to the call, and what was lent to be written is written back after its answer. Each tells whether the next
+// request may be read; none may once a word was missing or not of its kind.
 
 // A thinning: unit and bits of the limit; table; corners; log.
 fn call_thin() -> bool {
@@ -293,7 +293,7 @@ fn reply_lent(bytes: &[u8], text: &mut [u8]) -> bool {
     words::write_bytes(text)
 }
 
-// The trial ring, number by number until there is none.
+// The trial ring, number by number.
 fn call_ring() -> bool {
     let mut ring = [0u32; RING];
     let mut i: usize = 0;

@@ -92,7 +92,7 @@ fn least_above(ring: &[u32], past: u32) -> u32
     best
 }
 
-// The first number above past that is marked, if it is one of the next few; else none.
+// The first number above past that is marked, if it is among the next few; else none.
 fn next_marked(near: &[u8], past: u32, few: usize) -> u32
     requires { ⌜ most-corners ≤ length (now near) ⌝ }
     ensures { λ r. ⌜ NextMarked (now (near .entry)) past r ⌝ }
@@ -112,8 +112,8 @@ fn next_marked(near: &[u8], past: u32, few: usize) -> u32
     NONE
 }
 
-// The least number above past of a ring that near marks. In a long ring it is mostly one of the next few numbers; a short one is soon looked
-// through.
+// The least number above past of a ring that near marks. In a long ring it mostly stands among as many next numbers as the ring has; a short
+// ring is soon looked through.
 fn next_above(ring: &[u32], near: &[u8], past: u32) -> u32
     requires { ⌜ Marked (now ring) (now near) ⌝ }
     ensures { λ r. ⌜ NextAbove (now (ring .entry)) past r ⌝ }

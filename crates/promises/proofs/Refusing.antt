@@ -1,12 +1,12 @@
 -- Demand 1: a refusal is answered exactly when the list has it, call by call.
 use mathlib.Core.Path.{_≡_, refl, sym, _∙_, ap, subst}
 use mathlib.Core.Logic.{_⊎_, inl, inr}
-use mathlib.Core.List.{List}
-use Prim.Native.Nat.{ℕ}
+use mathlib.Core.List.{List, _++_}
+use Prim.Native.Nat.{ℕ, _-_}
 use native.Mathlib.Omega.{arith}
 use lib.IntN.{ℤ, pos, natAbs}
-use lib.ListN.{length, getD}
-use Rattle.surface.specs.Rows.{Row, rows}
+use lib.ListN.{length, getD, replicate}
+use Rattle.surface.specs.Rows.{Row, rows, flat}
 use Rattle.refusal.specs.declared.Refusal.{Refusal}
 use Rattle.refusal.specs.declared.Verdict.{Verdict}
 use Rattle.refusal.specs.declared.Verdict.the-variants.{Passes}
@@ -28,7 +28,7 @@ use Rattle.regrow.specs.declared.Regrown.{Regrown}
 use Rattle.regrow.specs.declared.Regrown.the-variants as regrown
 use Rattle.regrow.specs.Answer as regrowths
 use Rattle.record.specs.Layout.{records}
-use Rattle.grow.specs.Room.{standing}
+use Rattle.grow.specs.Room.{standing, filled}
 use Rattle.regrow.specs.Reached.{Reached}
 use Rattle.regrow.specs.Outcome.{grow-lines, GrownAs}
 use Rattle.regrow.specs.Outcome as growth
@@ -87,14 +87,14 @@ stops (regrown.Stopped j) k p = ap regrown.Stopped (ap (λ (v : Told). natAbs (g
 stops (regrown.Refused r) k p = absurd (failing-other k r (sym p))
 
 grow-stopped : {n m : ℕ} {room log : List ℕ} {a : Regrown} {room′ : List ℕ} (k : ℕ) → GrownAs n m room log a room′ → a ≡ regrown.Stopped k →
-    First (grow-lines n m room log) Passes × ((T : List Row) × Reached n (standing m room) (records log) (regrown.Stopped k) T)
+    First (grow-lines n m room log) Passes × (T : List Row) × Reached n (standing m room) (records log) (regrown.Stopped k) T × (room′ ≡ filled T room)
 grow-stopped k (growth.refused f ea er) q = grows.stopped-refused (sym q ∙ ea)
-grow-stopped {n} {m} {room} {log} k (growth.grown f w) q = (f, (w .table, subst (λ b. Reached n (standing m room) (records log) b (w .table)) q (w .reached)))
+grow-stopped {n} {m} {room} {log} k (growth.grown f w) q = (f, w .table, subst (λ b. Reached n (standing m room) (records log) b (w .table)) q (w .reached), w .left)
 
 replay-stopped : {n : ℕ} {t log : List ℕ} {a : Regrown} {t′ : List ℕ} (k : ℕ) → ReplayedAs n t log a t′ → a ≡ regrown.Stopped k →
-    First (replay-lines n t log) Passes × ((T : List Row) × Redone (rows t) (records log) (regrown.Stopped k) T)
+    First (replay-lines n t log) Passes × (T : List Row) × Redone (rows t) (records log) (regrown.Stopped k) T × (t′ ≡ flat T ++ replicate (length t - length (flat T)) 0)
 replay-stopped k (replay.refused f ea er) q = grows.stopped-refused (sym q ∙ ea)
-replay-stopped {t = t} {log = log} k (replay.replayed f w) q = (f, (w .table, subst (λ b. Redone (rows t) (records log) b (w .table)) q (w .redone)))
+replay-stopped {t = t} {log = log} k (replay.replayed f w) q = (f, w .table, subst (λ b. Redone (rows t) (records log) b (w .table)) q (w .redone), w .left)
 
 -- a sheet
 module _ {b troom troom′ : List ℕ} {croom croom′ : List ℤ} where
@@ -130,13 +130,13 @@ demand-one = record {
     | inr x ↦ exactly (inr (x .0, elim (x .1) [ inl e ↦ not-refused e | inr f ↦ λ r p. failing-other (length (f .2)) r (sym (f .4) ∙ p) ]))
   ];
   grow-same = λ w r p. grow-same w r p;
-  grow-fails = λ {a = a} w. record { when = λ k f x. ap regrowths.told (grows.grown-one w (growth.grown f (record { table = x .0; reached = x .1; left = refl })) .0); only = λ k p. grow-stopped k w (stops a k p) };
+  grow-fails = λ {a = a} w. record { when = λ k T f x. ap regrowths.told (grows.grown-one w (growth.grown f (record { table = T; reached = x; left = refl })) .0); only = λ k p. grow-stopped k w (stops a k p) };
   replay = λ w. elim (replays.replay-told w) [
     | inl x ↦ exactly (inl x)
     | inr x ↦ exactly (inr (x .0, elim (x .1) [ inl e ↦ not-refused e | inr f ↦ λ r p. failing-other (length (f .0)) r (sym (f .4) ∙ p) ]))
   ];
   replay-same = λ w r p. replay-same w r p;
-  replay-fails = λ {a = a} w. record { when = λ k f x. ap regrowths.told (replays.replay-one w (replay.replayed f (record { table = x .0; redone = x .1; left = refl })) .0); only = λ k p. replay-stopped k w (stops a k p) };
+  replay-fails = λ {a = a} w. record { when = λ k T f x. ap regrowths.told (replays.replay-one w (replay.replayed f (record { table = T; redone = x; left = refl })) .0); only = λ k p. replay-stopped k w (stops a k p) };
   volume = λ a w. by-verdict _ (w .verdict) (w .checked .holds) (w .tells);
   change = λ a w. by-verdict _ (w .verdict) (w .first) (w .tells);
   shift = λ a w. by-verdict _ (w .verdict) (w .first) (w .tells);

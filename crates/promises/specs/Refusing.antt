@@ -3,11 +3,11 @@
 use mathlib.Core.Path.{_≡_}
 use mathlib.Core.Logic.{_⊎_}
 use mathlib.Core.Bool.{false}
-use mathlib.Core.List.{List}
-use Prim.Native.Nat.{ℕ, _<_}
+use mathlib.Core.List.{List, _++_}
+use Prim.Native.Nat.{ℕ, _-_, _<_}
 use lib.IntN.{ℤ}
-use lib.ListN.{length}
-use Rattle.surface.specs.Rows.{Row, rows}
+use lib.ListN.{length, replicate}
+use Rattle.surface.specs.Rows.{Row, rows, flat}
 use Rattle.refusal.specs.declared.Refusal.{Refusal}
 use Rattle.refusal.specs.declared.Refusal.the-variants.{LimitUnusable, RoomShort}
 use Rattle.refusal.specs.declared.Verdict.the-variants.{Passes}
@@ -25,7 +25,7 @@ use Rattle.thin.specs.Answer as thinnings
 use Rattle.thin.specs.Order.{asked}
 use Rattle.thin.specs.Thin.{thin-lines, Thinned}
 use Rattle.record.specs.Layout.{records}
-use Rattle.grow.specs.Room.{standing}
+use Rattle.grow.specs.Room.{standing, filled}
 use Rattle.regrow.specs.declared.Regrown.{Regrown}
 use Rattle.regrow.specs.declared.Regrown.the-variants.{Stopped}
 use Rattle.regrow.specs.Answer as regrowths
@@ -53,23 +53,23 @@ pub record Refuses (l : List Clause) (v : Told) : Type 0 where
   pub when : (r : Refusal) → First l (verdict.Refused r) → v ≡ refused r
   pub only : (r : Refusal) → v ≡ refused r → First l (verdict.Refused r)
 
--- 13 and a number of records are told exactly when no refusal of the list holds and, after so many records, one fails
-pub record Fails (l : List Clause) (After : ℕ → Type 0) (v : Told) : Type 0 where
-  pub when : (k : ℕ) → First l Passes → After k → v ≡ regrowths.fails-after k
-  pub only : (k : ℕ) → v ≡ regrowths.fails-after k → First l Passes × After k
+-- 13 and a number of records are told exactly when no refusal of the list holds and the records stop after so many; the rows that these led to are left
+pub record Fails (l : List Clause) (Stops : ℕ → List Row → Type 0) (Left : List Row → Type 0) (v : Told) : Type 0 where
+  pub when : (k : ℕ) (T : List Row) → First l Passes → Stops k T → v ≡ regrowths.fails-after k
+  pub only : (k : ℕ) → v ≡ regrowths.fails-after k → First l Passes × (T : List Row) × Stops k T × Left T
 
 pub record DemandOne : Type 0 where
   pub thin : (o : Order) {xs : List ℤ} {t l : List ℕ} {a : Thinning} {t′ l′ : List ℕ} → Thinned o xs t l a t′ l′ → Refuses (thin-lines (asked o) xs t (length l)) (thinnings.told a)
   pub thin-same : (o : Order) {xs : List ℤ} {t l : List ℕ} {a : Thinning} {t′ l′ : List ℕ} → Thinned o xs t l a t′ l′ → (r : Refusal) → thinnings.told a ≡ refused r → (t′ ≡ t) × (l′ ≡ l)
-  -- 13 is told with the records done: it is no refusal of the list, and leaves the rows that those led to
+  -- 13 is told with the records done, and is no refusal of the list
   pub grow-back : {n m : ℕ} {room log : List ℕ} {a : Regrown} {room′ : List ℕ} → GrownAs n m room log a room′ → Refuses (grow-lines n m room log) (regrowths.told a)
   pub grow-same : {n m : ℕ} {room log : List ℕ} {a : Regrown} {room′ : List ℕ} → GrownAs n m room log a room′ → (r : Refusal) → regrowths.told a ≡ refused r → room′ ≡ room
   pub grow-fails : {n m : ℕ} {room log : List ℕ} {a : Regrown} {room′ : List ℕ} → GrownAs n m room log a room′ →
-      Fails (grow-lines n m room log) (λ k. (T : List Row) × Reached n (standing m room) (records log) (Stopped k) T) (regrowths.told a)
+      Fails (grow-lines n m room log) (λ k T. Reached n (standing m room) (records log) (Stopped k) T) (λ T. room′ ≡ filled T room) (regrowths.told a)
   pub replay : {n : ℕ} {t log : List ℕ} {a : Regrown} {t′ : List ℕ} → ReplayedAs n t log a t′ → Refuses (replay-lines n t log) (regrowths.told a)
   pub replay-same : {n : ℕ} {t log : List ℕ} {a : Regrown} {t′ : List ℕ} → ReplayedAs n t log a t′ → (r : Refusal) → regrowths.told a ≡ refused r → t′ ≡ t
   pub replay-fails : {n : ℕ} {t log : List ℕ} {a : Regrown} {t′ : List ℕ} → ReplayedAs n t log a t′ →
-      Fails (replay-lines n t log) (λ k. (T : List Row) × Redone (rows t) (records log) (Stopped k) T) (regrowths.told a)
+      Fails (replay-lines n t log) (λ k T. Redone (rows t) (records log) (Stopped k) T) (λ T. t′ ≡ flat T ++ replicate (length t - length (flat T)) 0) (regrowths.told a)
   pub volume : {xs : List ℤ} {t : List ℕ} (a : Measured) → VolumeReport xs t (volumes.told a) → Refuses (lines-at false xs t) (volumes.told a)
   pub change : {xs : List ℤ} {t s : List ℕ} (a : Measured) → ChangeReport xs t s (volumes.told a) → Refuses (either (lines-at false xs t) (lines-at false xs s)) (volumes.told a)
   pub shift : {xs : List ℤ} {log : List ℕ} {v : ℕ} (a : Shifted) → ShiftReport xs log v (shifts.told a) → Refuses (shift-lines xs log v) (shifts.told a)

@@ -215,7 +215,7 @@ fn read_bytes(out: &mut [u8]) -> bool {
     true
 }
 
-// Inner: the next word of the input. Where there is none, ok becomes false, and once it is false nothing more is read.
+// Inner: the next word of the input. Where there is none, ok becomes false and 0 is answered; once it is false nothing more is read.
 pub fn take_word(ok: &mut bool) -> u64 {
     if !*ok {
         return 0;
@@ -230,7 +230,7 @@ pub fn take_word(ok: &mut bool) -> u64 {
     }
 }
 
-// Inner: reads the next list into the front of a room, in the same way; answers how much of the room it takes.
+// Inner: reads the next list into the front of a room that holds the longest, in the same way; answers how much of the room it takes.
 pub fn take_numbers(room: &mut [u32], ok: &mut bool) -> usize
     ensures { λ r. ⌜ PartOf r (now (room .exit)) ⌝ }
 {
