@@ -2,3 +2,4 @@ pub mod Saying
 pub mod Lent
 pub mod Main
 pub mod OtherUnits
+pub mod Crossed

@@ -3,3 +3,4 @@ pub mod Says
 pub mod Fields
 pub mod Lent
 pub mod Calls
+pub mod Crossing

@@ -70,6 +70,7 @@ unfolding rows flat first-records
 stops =
     grown
     (grow-passes 6 4 nines spoiled (record { rows = record { least = omega arith; most = omega arith }; corners = record { few = omega arith; many = omega arith }; tens = refl; most = omega arith }) (omega arith) (O-two-table .stage))
+    (O-two-table .stage)
     (record {
       table = rows O-one;
       reached = stopped [] bad (k₂ ∷ []) refl (replayed-grown (O-one-table .stage) second-step) (λ T a. a .unused used-two) refl;

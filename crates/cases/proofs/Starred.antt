@@ -44,9 +44,12 @@ use Rattle.thin.specs.declared.Thinning.the-variants.{Done, Refused}
 use Rattle.thin.specs.Thin.{thin-lines, Thinned, refused, done}
 use Rattle.thin.proofs.Main.{thinned-one, thin-passes}
 use Rattle.thin.proofs.Judging.{under-usable}
+use Rattle.thin.specs.Answer as thinnings
+use Rattle.regrow.specs.declared.Regrown.{Regrown}
 use Rattle.regrow.specs.declared.Regrown.the-variants as regrown
+use Rattle.regrow.specs.Answer as regrowths
 use Rattle.replay.specs.Redone.{all}
-use Rattle.replay.specs.Outcome.{ReplayFits, replayed}
+use Rattle.replay.specs.Outcome.{ReplayFits, ReplayedAs, replayed}
 use Rattle.replay.proofs.Main.{replay-passes, replay-one}
 use Rattle.surface.proofs.Testing.{every}
 use Rattle.computed.proofs.Passing.{row-fits, rows-below, passes-stage}
@@ -55,9 +58,34 @@ use Rattle.cases.specs.Skins.{T, T-corners, T-turned, O, O-corners, M, M
 use Rattle.cases.specs.Cases.{thins, weighs, changes, replays, Holds, cm-141, cm-142, lent, O-last, O-log, O-one, O-two, starred, All, all-none, all-more}
 use Rattle.cases.proofs.Skinned.{T-skin, O-skin, M-skin}
 
--- the listed outcome is the only one
-only : (o : Order) {xs : List ℤ} {t l : List ℕ} {a : Thinning} {t′ l′ : List ℕ} → Thinned o xs t l a t′ l′ → Holds (thins o xs t l a t′ l′)
+-- an outcome that is allowed, and the only one
+abbrev Thins : Order → List ℤ → List ℕ → List ℕ → Thinning → List ℕ → List ℕ → Type 0
+Thins o xs t l a t′ l′ = Thinned o xs t l a t′ l′ × ((b : Thinning) (u m : List ℕ) → Thinned o xs t l b u m → (b ≡ a) × (u ≡ t′) × (m ≡ l′))
+
+abbrev Weighs : List ℤ → List ℕ → ℤ → ℤ → Type 0
+Weighs xs t s f = (sixfold xs (rows t) ≡ s) × VolumeReport xs t (told (Figure f)) × ((b : Measured) → VolumeReport xs t (told b) → b ≡ Figure f)
+
+abbrev Changes : List ℤ → List ℕ → List ℕ → ℤ → Type 0
+Changes xs t u f = ChangeReport xs t u (told (Figure f)) × ((b : Measured) → ChangeReport xs t u (told b) → b ≡ Figure f)
+
+abbrev Replays : ℕ → List ℕ → List ℕ → ℕ → List ℕ → Type 0
+Replays n t l k u = ReplayedAs n t l (regrown.Done k) u × ((b : Regrown) (v : List ℕ) → ReplayedAs n t l b v → (b ≡ regrown.Done k) × (v ≡ u))
+
+only : (o : Order) {xs : List ℤ} {t l : List ℕ} {a : Thinning} {t′ l′ : List ℕ} → Thinned o xs t l a t′ l′ → Thins o xs t l a t′ l′
 only o h = (h, λ b u m k. thinned-one k h)
+
+-- so it holds as told
+thins-told : (o : Order) {xs : List ℤ} {t l : List ℕ} (a : Thinning) {t′ l′ : List ℕ} → Thins o xs t l a t′ l′ → Holds (thins o xs t l (thinnings.told a) t′ l′)
+thins-told o a h = record { answer = a; tells = refl; allowed = h .0; no-other = λ b c k. let e = h .1 b (c .0) (c .1) k in (ap thinnings.told (e .0), λ i. (e .1 i, e .2 i)) }
+
+weighs-told : {xs : List ℤ} {t : List ℕ} {s : ℤ} (f : ℤ) → Weighs xs t s f → Holds (weighs xs t s (told (Figure f)))
+weighs-told f h = (h .0, record { answer = Figure f; tells = refl; allowed = h .1; no-other = λ b c k. (ap told (h .2 b k), refl) })
+
+changes-told : {xs : List ℤ} {t u : List ℕ} (f : ℤ) → Changes xs t u f → Holds (changes xs t u (told (Figure f)))
+changes-told f h = record { answer = Figure f; tells = refl; allowed = h .0; no-other = λ b c k. (ap told (h .1 b k), refl) }
+
+replays-told : {n : ℕ} {t l : List ℕ} (k : ℕ) {u : List ℕ} → Replays n t l k u → Holds (replays n t l (regrowths.told (regrown.Done k)) u)
+replays-told k h = record { answer = regrown.Done k; tells = refl; allowed = h .0; no-other = λ b v w. let e = h .1 b v w in (ap regrowths.told (e .0), e .1) }
 
 -- limits as computed tests
 abbrev any : ℕ → ℕ → Bool
@@ -82,11 +110,11 @@ k₂ = record { kept = 0; removed = 2; place-1 = 0; row-1 = row 0 2 3; place-2 =
 abbrev O-end : List Row
 O-end = row 0 3 4 ∷ row 5 3 0 ∷ row 5 4 3 ∷ row 5 0 4 ∷ []
 
-pub case-T : Holds (thins NoLimit T-corners T [] (Done 0) T [])
+pub case-T : Thins NoLimit T-corners T [] (Done 0) T []
 unfolding edges rows flat log-of
 case-T = only NoLimit (done {b = Free} {log = []} {last = rows T} (thin-passes T (under-usable refl) refl T-skin (omega arith)) T-skin refl (free T-corners (run-sound any (stays-at refl) tt)) refl refl refl)
 
-pub case-M : Holds (thins NoLimit M-corners M (lent 30) (Done 0) M (lent 30))
+pub case-M : Thins NoLimit M-corners M (lent 30) (Done 0) M (lent 30)
 unfolding edges rows flat log-of
 case-M = only NoLimit (done {b = Free} {log = []} {last = rows M} (thin-passes M (under-usable refl) refl M-skin (omega arith)) M-skin refl (free M-corners (run-sound any (stays-at refl) tt)) refl refl refl)
 
@@ -94,15 +122,15 @@ O-steps : (p : ℕ → ℕ → Bool) → So (least p 0 1 (rows O)) → So (least
 unfolding edges rows contract renumber replace stays? holds? ℕ-discrete leaving later
 O-steps p h₁ h₂ = goes-on h₁ refl (goes-on h₂ refl (stays-at refl))
 
-pub case-O : Holds (thins NoLimit O-corners O (lent 20) (Done 2) O-last O-log)
+pub case-O : Thins NoLimit O-corners O (lent 20) (Done 2) O-last O-log
 unfolding edges rows flat log-of contract renumber replace stays? holds? ℕ-discrete leaving later
 case-O = only NoLimit (done {b = Free} {log = k₁ ∷ k₂ ∷ []} {last = O-end} (thin-passes O (under-usable refl) refl O-skin (omega arith)) O-skin refl (free O-corners (run-sound any (O-steps any tt tt) tt)) refl refl refl)
 
-pub case-141 : Holds (thins cm-141 O-corners O (lent 20) (Done 0) O (lent 20))
+pub case-141 : Thins cm-141 O-corners O (lent 20) (Done 0) O (lent 20)
 unfolding edges rows flat log-of limit-of reading capped ofBits squared-distance
 case-141 = only cm-141 (done {b = Within 141} {log = []} {last = rows O} (thin-passes O (under-usable {b = Within 141} refl) refl O-skin (omega arith)) O-skin refl (limited 141 O-corners (run-sound (within 141 O-corners) (stays-at refl) tt)) refl refl refl)
 
-pub case-142 : Holds (thins cm-142 O-corners O (lent 20) (Done 2) O-last O-log)
+pub case-142 : Thins cm-142 O-corners O (lent 20) (Done 2) O-last O-log
 unfolding edges rows flat log-of contract renumber replace stays? holds? ℕ-discrete leaving later limit-of reading capped ofBits squared-distance
 case-142 = only cm-142 (done {b = Within 142} {log = k₁ ∷ k₂ ∷ []} {last = O-end} (thin-passes O (under-usable {b = Within 142} refl) refl O-skin (omega arith)) O-skin refl (limited 142 O-corners (run-sound (within 142 O-corners) (O-steps (within 142 O-corners) tt tt) tt)) refl refl refl)
 
@@ -142,7 +170,7 @@ turned-first =
       ),
     )
 
-case-turned : Holds (thins NoLimit T-corners T-turned [] (Refused EdgeTwice) T-turned [])
+case-turned : Thins NoLimit T-corners T-turned [] (Refused EdgeTwice) T-turned []
 case-turned = only NoLimit (refused {e = EdgeTwice} turned-first refl refl refl)
 
 -- the stages of T and O as tables
@@ -171,31 +199,31 @@ changed : {n : ℕ} {xs : List ℤ} (t u : List ℕ) {f : ℤ} → length xs ≡
     ChangeReport xs t u (told (Figure f)) × ((b : Measured) → ChangeReport xs t u (told b) → b ≡ Figure f)
 changed t u e r s z h = let v = change-there e r s z in (rw h at v, λ b p. change-one b _ p v ∙ ap Figure h)
 
-weighs-T : Holds (weighs T-corners T (negℤ (pos 27000000)) (negℤ (pos 5)))
+weighs-T : Weighs T-corners T (negℤ (pos 27000000)) (negℤ (pos 5))
 unfolding rows sixfold determinant minor figure
 weighs-T = let w = weighed T (T-skin .corners) (T-skin .in-range) T-table refl in (refl, w .0, w .1)
 
-pub weighs-O : Holds (weighs O-corners O (pos 8000000) (pos 1))
+pub weighs-O : Weighs O-corners O (pos 8000000) (pos 1)
 unfolding rows sixfold determinant minor figure
 weighs-O = let w = weighed O (O-skin .corners) (O-skin .in-range) O-table refl in (refl, w .0, w .1)
 
-pub weighs-one : Holds (weighs O-corners O-one (pos 4000000) (pos 1))
+pub weighs-one : Weighs O-corners O-one (pos 4000000) (pos 1)
 unfolding rows sixfold determinant minor figure
 weighs-one = let w = weighed O-one (O-skin .corners) (O-skin .in-range) O-one-table refl in (refl, w .0, w .1)
 
-weighs-two : Holds (weighs O-corners O-two (pos 2000000) (pos 0))
+weighs-two : Weighs O-corners O-two (pos 2000000) (pos 0)
 unfolding rows sixfold determinant minor figure
 weighs-two = let w = weighed O-two (O-skin .corners) (O-skin .in-range) O-two-table refl in (refl, w .0, w .1)
 
-changes-one : Holds (changes O-corners O O-one (negℤ (pos 1)))
+changes-one : Changes O-corners O O-one (negℤ (pos 1))
 unfolding rows sixfold determinant minor figure
 changes-one = changed O O-one (O-skin .corners) (O-skin .in-range) O-table O-one-table refl
 
-changes-two : Holds (changes O-corners O-one O-two (pos 0))
+changes-two : Changes O-corners O-one O-two (pos 0)
 unfolding rows sixfold determinant minor figure
 changes-two = changed O-one O-two (O-skin .corners) (O-skin .in-range) O-one-table O-two-table refl
 
-changes-both : Holds (changes O-corners O O-two (negℤ (pos 1)))
+changes-both : Changes O-corners O O-two (negℤ (pos 1))
 unfolding rows sixfold determinant minor figure
 changes-both = changed O O-two (O-skin .corners) (O-skin .in-range) O-table O-two-table refl
 
@@ -214,9 +242,9 @@ both-steps = taken-replayed (steps-taken any (goes-on {k = k₁} tt refl (goes-o
 
 -- a log that leads from O to T is replayed whole, and nothing else is allowed
 replayed-only : (l : List ℕ) (k : ℕ) (u : List ℕ) {T : List Row} → ReplayFits 6 O l → Replayed (rows O) (records l) T → k ≡ length (records l) → u ≡ flat T ++ replicate (length O - length (flat T)) 0 →
-    Holds (replays 6 O l k u)
+    Replays 6 O l k u
 replayed-only l k u {T} fits r e f =
-    let h = replayed (replay-passes 6 O l fits (O-skin .stage)) (record { table = T; redone = all r (ap regrown.Done e); left = f }) in
+    let h = replayed (replay-passes 6 O l fits (O-skin .stage)) (O-skin .stage) (record { table = T; redone = all r (ap regrown.Done e); left = f }) in
     (h, λ b v w. replay-one w h)
 
 O-fits : (l : List ℕ) → length l % 10 ≡ 0 → length l ≤ 20 → ReplayFits 6 O l
@@ -227,17 +255,30 @@ O-fits l h m = record {
   least = omega arith;
 }
 
-replays-one : Holds (replays 6 O (take 10 O-log) 1 (O-one ++ replicate 6 0))
+replays-one : Replays 6 O (take 10 O-log) 1 (O-one ++ replicate 6 0)
 unfolding rows flat first-records
 replays-one = replayed-only (take 10 O-log) 1 (O-one ++ replicate 6 0) (O-fits (take 10 O-log) refl (omega arith)) first-step refl refl
 
-replays-two : Holds (replays 6 O O-log 2 O-last)
+replays-two : Replays 6 O O-log 2 O-last
 unfolding rows flat first-records
 replays-two = replayed-only O-log 2 O-last (O-fits O-log refl (omega arith)) both-steps refl refl
 
 -- every starred case holds
 pub all-starred : All Holds starred
 all-starred =
-    all-more case-T (all-more case-turned (all-more case-O (all-more case-141 (all-more case-142 (all-more case-M
-    (all-more replays-one (all-more replays-two (all-more weighs-T (all-more weighs-O (all-more weighs-one (all-more weighs-two
-    (all-more changes-one (all-more changes-two (all-more changes-both all-none))))))))))))))
+    all-more (thins-told NoLimit (Done 0) case-T)
+    (all-more (thins-told NoLimit (Refused EdgeTwice) case-turned)
+    (all-more (thins-told NoLimit (Done 2) case-O)
+    (all-more (thins-told cm-141 (Done 0) case-141)
+    (all-more (thins-told cm-142 (Done 2) case-142)
+    (all-more (thins-told NoLimit (Done 0) case-M)
+    (all-more (replays-told 1 replays-one)
+    (all-more (replays-told 2 replays-two)
+    (all-more (weighs-told (negℤ (pos 5)) weighs-T)
+    (all-more (weighs-told (pos 1) weighs-O)
+    (all-more (weighs-told (pos 1) weighs-one)
+    (all-more (weighs-told (pos 0) weighs-two)
+    (all-more (changes-told (negℤ (pos 1)) changes-one)
+    (all-more (changes-told (pos 0) changes-two)
+    (all-more (changes-told (negℤ (pos 1)) changes-both)
+    all-none))))))))))))))

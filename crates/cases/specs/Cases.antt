@@ -6,39 +6,42 @@ use lib.IntN.{ℤ, pos, negℤ}
 use lib.Ieee.{binary64, ofBits}
 use lib.ListN.{replicate, take}
 use Rattle.surface.specs.Rows.{rows}
-use Rattle.refusal.specs.declared.Refusal.the-variants.{EdgeTwice}
+use Rattle.refusal.specs.Told.{Told, done, refused-as}
 use Rattle.length.specs.declared.Order.{Order}
 use Rattle.length.specs.declared.Order.the-variants.{NoLimit, Limit}
 use Rattle.length.specs.declared.Length.the-variants.{Centimetres}
 use Rattle.figure.specs.Sum.{sixfold}
-use Rattle.volume.specs.declared.Measured.{Measured}
-use Rattle.volume.specs.declared.Measured.the-variants.{Figure}
-use Rattle.volume.specs.Answer.{told}
+use Rattle.volume.specs.Answer as volumes
 use Rattle.volume.specs.Report.{VolumeReport, ChangeReport}
-use Rattle.thin.specs.declared.Thinning.{Thinning}
-use Rattle.thin.specs.declared.Thinning.the-variants.{Done, Refused}
+use Rattle.thin.specs.Answer as thinnings
 use Rattle.thin.specs.Thin.{Thinned}
-use Rattle.regrow.specs.declared.Regrown.{Regrown}
-use Rattle.regrow.specs.declared.Regrown.the-variants as regrown
+use Rattle.regrow.specs.Answer as regrowths
 use Rattle.replay.specs.Outcome.{ReplayedAs}
 use Rattle.cases.specs.Skins.{T, T-corners, T-turned, O, O-corners, M, M-corners}
 
 pub data Case : Type 0 where
-  -- order, corners, table, log; then the answer, and what stands in table and log
-  thins : Order → List ℤ → List ℕ → List ℕ → Thinning → List ℕ → List ℕ → Case
-  -- corners and table; then the exact sixfold sum and the figure
-  weighs : List ℤ → List ℕ → ℤ → ℤ → Case
-  -- corners, earlier and later table; then the change
-  changes : List ℤ → List ℕ → List ℕ → ℤ → Case
-  -- corner count, table and log; then how many records were done, and what stands in the table
-  replays : ℕ → List ℕ → List ℕ → ℕ → List ℕ → Case
+  -- order, corners, table, log; then what the answer tells, and what stands in table and log
+  thins : Order → List ℤ → List ℕ → List ℕ → Told → List ℕ → List ℕ → Case
+  -- corners and table; then the exact sixfold sum, and what the answer tells
+  weighs : List ℤ → List ℕ → ℤ → Told → Case
+  -- corners, earlier and later table; then what the answer tells
+  changes : List ℤ → List ℕ → List ℕ → Told → Case
+  -- corner count, table and log; then what the answer tells, and what stands in the table
+  replays : ℕ → List ℕ → List ℕ → Told → List ℕ → Case
 
--- the listed outcome is one that the call's contract allows, and every outcome that it allows is the one listed
+-- the contract allows an answer that tells v and leaves b, and every outcome that it allows does
+pub record Pinned {A B : Type 0} (Allows : A → B → Type 0) (told : A → Told) (v : Told) (b : B) : Type 0 where
+  pub answer : A
+  pub tells : told answer ≡ v
+  pub allowed : Allows answer b
+  pub no-other : (a : A) (c : B) → Allows a c → (told a ≡ v) × (c ≡ b)
+
+-- the listed outcome is allowed by the call's contract, and no other is. A volume and a change leave nothing.
 abbrev pub Holds : Case → Type 0
-Holds (thins o xs t l a t′ l′) = Thinned o xs t l a t′ l′ × ((b : Thinning) (u m : List ℕ) → Thinned o xs t l b u m → (b ≡ a) × (u ≡ t′) × (m ≡ l′))
-Holds (weighs xs t s f) = (sixfold xs (rows t) ≡ s) × VolumeReport xs t (told (Figure f)) × ((b : Measured) → VolumeReport xs t (told b) → b ≡ Figure f)
-Holds (changes xs t u f) = ChangeReport xs t u (told (Figure f)) × ((b : Measured) → ChangeReport xs t u (told b) → b ≡ Figure f)
-Holds (replays n t l k u) = ReplayedAs n t l (regrown.Done k) u × ((b : Regrown) (v : List ℕ) → ReplayedAs n t l b v → (b ≡ regrown.Done k) × (v ≡ u))
+Holds (thins o xs t l v t′ l′) = Pinned (λ a (b : List ℕ × List ℕ). Thinned o xs t l a (b .0) (b .1)) thinnings.told v (t′, l′)
+Holds (weighs xs t s v) = (sixfold xs (rows t) ≡ s) × Pinned (λ a (b : Unit {0}). VolumeReport xs t (volumes.told a)) volumes.told v tt
+Holds (changes xs t u v) = Pinned (λ a (b : Unit {0}). ChangeReport xs t u (volumes.told a)) volumes.told v tt
+Holds (replays n t l v u) = Pinned (λ a b. ReplayedAs n t l a b) regrowths.told v u
 
 -- limits of 141 and 142 cm
 abbrev pub cm-141 : Order
@@ -65,23 +68,30 @@ O-one = 0 ∷ 2 ∷ 3 ∷ 0 ∷ 3 ∷ 4 ∷ 5 ∷ 2 ∷ 0 ∷ 5 ∷ 3 ∷ 2 ∷ 
 abbrev pub O-two : List ℕ
 O-two = 0 ∷ 3 ∷ 4 ∷ 5 ∷ 3 ∷ 0 ∷ 5 ∷ 4 ∷ 3 ∷ 5 ∷ 0 ∷ 4 ∷ []
 
+-- 0 and so many records; 0 and a figure
+abbrev pub records-done : ℕ → Told
+records-done k = done (pos k ∷ [])
+
+abbrev pub cubic-metres : ℤ → Told
+cubic-metres f = done (f ∷ [])
+
 abbrev pub starred : List Case
 starred =
-    thins NoLimit T-corners T [] (Done 0) T []
-    ∷ thins NoLimit T-corners T-turned [] (Refused EdgeTwice) T-turned []
-    ∷ thins NoLimit O-corners O (lent 20) (Done 2) O-last O-log
-    ∷ thins cm-141 O-corners O (lent 20) (Done 0) O (lent 20)
-    ∷ thins cm-142 O-corners O (lent 20) (Done 2) O-last O-log
-    ∷ thins NoLimit M-corners M (lent 30) (Done 0) M (lent 30)
-    ∷ replays 6 O (take 10 O-log) 1 (O-one ++ replicate 6 0)
-    ∷ replays 6 O O-log 2 O-last
-    ∷ weighs T-corners T (negℤ (pos 27000000)) (negℤ (pos 5))
-    ∷ weighs O-corners O (pos 8000000) (pos 1)
-    ∷ weighs O-corners O-one (pos 4000000) (pos 1)
-    ∷ weighs O-corners O-two (pos 2000000) (pos 0)
-    ∷ changes O-corners O O-one (negℤ (pos 1))
-    ∷ changes O-corners O-one O-two (pos 0)
-    ∷ changes O-corners O O-two (negℤ (pos 1))
+    thins NoLimit T-corners T [] (records-done 0) T []
+    ∷ thins NoLimit T-corners T-turned [] (refused-as 7) T-turned []
+    ∷ thins NoLimit O-corners O (lent 20) (records-done 2) O-last O-log
+    ∷ thins cm-141 O-corners O (lent 20) (records-done 0) O (lent 20)
+    ∷ thins cm-142 O-corners O (lent 20) (records-done 2) O-last O-log
+    ∷ thins NoLimit M-corners M (lent 30) (records-done 0) M (lent 30)
+    ∷ replays 6 O (take 10 O-log) (records-done 1) (O-one ++ replicate 6 0)
+    ∷ replays 6 O O-log (records-done 2) O-last
+    ∷ weighs T-corners T (negℤ (pos 27000000)) (cubic-metres (negℤ (pos 5)))
+    ∷ weighs O-corners O (pos 8000000) (cubic-metres (pos 1))
+    ∷ weighs O-corners O-one (pos 4000000) (cubic-metres (pos 1))
+    ∷ weighs O-corners O-two (pos 2000000) (cubic-metres (pos 0))
+    ∷ changes O-corners O O-one (cubic-metres (negℤ (pos 1)))
+    ∷ changes O-corners O-one O-two (cubic-metres (pos 0))
+    ∷ changes O-corners O O-two (cubic-metres (negℤ (pos 1)))
     ∷ []
 
 -- all of them

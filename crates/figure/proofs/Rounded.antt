@@ -6,7 +6,7 @@ use native.Mathlib.Decide.{ℕ-discrete}
 use native.Mathlib.Omega.{arith}
 use lib.IntN.{ℤ, pos, negsuc, negℤ, _-ℤ_, _*ℤ_, natAbs, negℤ-negℤ}
 use Rattle.ints.proofs.Ints.{abs-neg, abs-diff, abs-across, times-neg, minus-neg, minus-back, minus-self}
-use Rattle.figure.specs.Rounding.{divisor, half, rounded, figure, change, Nearest}
+use Rattle.figure.specs.Rounding.{divisor, half, rounded, figure, change, Nearest, WithinHalf}
 
 -- ---- the sign
 
@@ -35,7 +35,7 @@ figure-nearest (pos n) = above-nearest n
 figure-nearest (negsuc n) = nearest-neg (above-nearest (suc n))
 
 -- demand 3: within half a cubic metre
-pub figure-near : (s : ℤ) → 2 * natAbs (pos divisor *ℤ figure s -ℤ s) ≤ divisor
+pub figure-near : (s : ℤ) → WithinHalf s (figure s)
 figure-near s = figure-nearest s .near
 
 -- a half goes away from zero, on both sides
@@ -73,7 +73,7 @@ nearest-one (negsuc n) f h =
 -- ---- changes
 
 -- the change is within half of the exact one
-pub change-near : (earlier later : ℤ) → 2 * natAbs (pos divisor *ℤ change earlier later -ℤ (later -ℤ earlier)) ≤ divisor
+pub change-near : (earlier later : ℤ) → WithinHalf (later -ℤ earlier) (change earlier later)
 change-near earlier later = figure-near (later -ℤ earlier)
 
 pub change-none : (s : ℤ) → change s s ≡ pos 0

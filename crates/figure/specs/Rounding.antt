@@ -24,8 +24,11 @@ figure (negsuc n) = negℤ (pos (rounded (suc n)))
 abbrev pub change : ℤ → ℤ → ℤ
 change earlier later = figure (later -ℤ earlier)
 
--- the same rounding without a computation: the figure f is within half of the sum s over the divisor, and where it is just half off, it is
--- the one farther from zero
+-- the figure f is within half a cubic metre of exact: of the sum s over the divisor
+abbrev pub WithinHalf : ℤ → ℤ → Type 0
+WithinHalf s f = 2 * natAbs (pos divisor *ℤ f -ℤ s) ≤ divisor
+
+-- the same rounding without a computation: the figure is within half, and where it is just half off, it is the one farther from zero
 pub record Nearest (s f : ℤ) : Type 0 where
-  pub near : 2 * natAbs (pos divisor *ℤ f -ℤ s) ≤ divisor
+  pub near : WithinHalf s f
   pub away : 2 * natAbs (pos divisor *ℤ f -ℤ s) ≡ divisor → natAbs s < divisor * natAbs f

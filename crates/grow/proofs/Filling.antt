@@ -18,8 +18,12 @@ standing-length m room h = rows-length m (take (3 * m) room) (length-take-le (3 
 pub standing-flat : (m : ℕ) (room : List ℕ) → 3 * m ≤ length room → flat (standing m room) ≡ take (3 * m) room
 standing-flat m room h = flat-rows m (take (3 * m) room) (length-take-le (3 * m) room h)
 
+-- rows in front of anything
+pub standing-front : (m : ℕ) (T : List Row) (rest : List ℕ) → length T ≡ m → standing m (flat T ++ rest) ≡ T
+standing-front m T rest h = ap rows (take-at (flat T) rest (3 * m) (flat-length T ∙ ap (λ z. 3 * z) h)) ∙ rows-flat T
+
 pub standing-filled : (m : ℕ) (T : List Row) (room : List ℕ) → length T ≡ m → standing m (filled T room) ≡ T
-standing-filled m T room h = ap rows (take-at (flat T) (drop (3 * length T) room) (3 * m) (flat-length T ∙ ap (λ z. 3 * z) h)) ∙ rows-flat T
+standing-filled m T room h = standing-front m T (drop (3 * length T) room) h
 
 pub filled-length : (T : List Row) (room : List ℕ) → 3 * length T ≤ length room → length (filled T room) ≡ length room
 filled-length T room h =

@@ -6,11 +6,11 @@ use native.Mathlib.Nat.{mul-div-cancel-left}
 use native.Mathlib.Omega.{arith}
 use lib.IntN.{ℤ, pos}
 use lib.ListN.{length, take, drop, replicate, length-append, length-replicate}
-use lib.Seq.{take-at, drop-append-add}
+use lib.Seq.{drop-append-add}
 use Rattle.surface.specs.Rows.{Row, rows, flat}
 use Rattle.surface.specs.Stage.{Stage}
 use Rattle.surface.specs.Record.{Record, Replayed}
-use Rattle.surface.proofs.Flat.{rows-flat, flat-rows, flat-length}
+use Rattle.surface.proofs.Flat.{flat-rows, flat-length}
 use Rattle.refusal.specs.Told as answers
 use Rattle.faults.specs.Counts.{corners}
 use Rattle.faults.proofs.Opposites.{stage-rows, stage-corners}
@@ -27,6 +27,7 @@ use Rattle.thin.specs.Thin.{Thinned}
 use Rattle.thin.specs.Run.{RunOf}
 use Rattle.thin.proofs.Main.{thinned-run, last-stage}
 use Rattle.grow.specs.Room.{standing, filled}
+use Rattle.grow.proofs.Filling.{standing-front}
 use Rattle.regrow.specs.declared.Regrown.{Regrown}
 use Rattle.regrow.specs.declared.Regrown.the-variants.{Done}
 use Rattle.regrow.specs.Answer.{told}
@@ -91,9 +92,7 @@ module _ {d : Asked} {xs : List ℤ} {t l : List ℕ} {k : ℕ} {t′ l′ : Lis
         omega (arith, many)
 
     stands : standing (length (w .last)) t′ ≡ w .last
-    stands =
-        let m = length (w .last) in
-        ap (standing m) (w .table) ∙ ap rows (take-at (flat (w .last)) (replicate (length t - length (flat (w .last))) 0) (3 * m) (flat-length (w .last))) ∙ rows-flat (w .last)
+    stands = ap (standing (length (w .last))) (w .table) ∙ standing-front (length (w .last)) (w .last) (replicate (length t - length (flat (w .last))) 0) refl
 
     filled-left : filled T₁ t′ ≡ left-of t T₁
     filled-left =
@@ -136,6 +135,13 @@ module _ {d : Asked} {xs : List ℤ} {t l : List ℕ} {k : ℕ} {t′ l′ : Lis
           tens = let z = log-length p in omega arith;
           least = let a = records-many p in let b = replayed-rows first begun in let c = there .least in omega arith;
         }
+
+-- what thinning leaves in front is a stage
+pub thinned-leaves : (o : Order) {xs : List ℤ} {t l : List ℕ} {k : ℕ} {t′ l′ : List ℕ} → Thinned o xs t l (thinning.Done k) t′ l′ → Stage (corners xs) (standing (length (rows t) - 2 * k) t′)
+thinned-leaves o {t = t} {k = k} z =
+    let w = thinned-run z in
+    let m = rows-left w [] (w .log) refl (none-yet refl) in
+    rw (m, stands w [] (w .log) refl (none-yet refl)) (last-stage w)
 
 -- growing back the whole log of any accepted thinning restores the first table, number for number
 pub restored : (o : Order) {xs : List ℤ} {t l : List ℕ} {k : ℕ} {t′ l′ : List ℕ} → Thinned o xs t l (thinning.Done k) t′ l′ → {a : Regrown} {r : List ℕ} →

@@ -4,8 +4,8 @@ use mathlib.Core.Logic.{_⊎_, inl, inr}
 use mathlib.Core.List.{List, _++_}
 use Prim.Native.Nat.{ℕ, _-_}
 use native.Mathlib.Omega.{arith}
-use lib.IntN.{ℤ, pos, natAbs}
-use lib.ListN.{length, getD, replicate}
+use lib.IntN.{ℤ}
+use lib.ListN.{length, replicate}
 use Rattle.surface.specs.Rows.{Row, rows, flat}
 use Rattle.refusal.specs.declared.Refusal.{Refusal}
 use Rattle.refusal.specs.declared.Verdict.{Verdict}
@@ -33,6 +33,7 @@ use Rattle.regrow.specs.Reached.{Reached}
 use Rattle.regrow.specs.Outcome.{grow-lines, GrownAs}
 use Rattle.regrow.specs.Outcome as growth
 use Rattle.regrow.proofs.Main as grows
+use Rattle.regrow.proofs.Counted.{failing-other, stops, stopped-refused}
 use Rattle.replay.specs.Redone.{Redone}
 use Rattle.replay.specs.Outcome.{replay-lines, ReplayedAs}
 use Rattle.replay.specs.Outcome as replay
@@ -66,10 +67,6 @@ thin-same : (o : Order) {xs : List ℤ} {t l : List ℕ} {a : Thinning} {t′ l�
 thin-same o {a = thinning.Done k} w r p = absurd (refused-done r (sym p))
 thin-same o {a = thinning.Refused e} w r p = thins.refused-same w
 
--- 13 carries its count, so it is no refusal of a list
-failing-other : (k : ℕ) (r : Refusal) → ¬ (regrowths.fails-after k ≡ refused r)
-failing-other k r p = let e = ap (λ (v : Told). length (v .values)) p in omega arith
-
 grow-same : {n m : ℕ} {room log : List ℕ} {a : Regrown} {room′ : List ℕ} → GrownAs n m room log a room′ → (r : Refusal) → regrowths.told a ≡ refused r → room′ ≡ room
 grow-same {a = regrown.Done k} w r p = absurd (refused-done r (sym p))
 grow-same {a = regrown.Stopped k} w r p = absurd (failing-other k r p)
@@ -80,21 +77,15 @@ replay-same {a = regrown.Done k} w r p = absurd (refused-done r (sym p))
 replay-same {a = regrown.Stopped k} w r p = absurd (failing-other k r p)
 replay-same {a = regrown.Refused e} w r p = replays.refused-same w
 
--- 13 and a number tell that the records stopped there
-stops : (a : Regrown) (k : ℕ) → regrowths.told a ≡ regrowths.fails-after k → a ≡ regrown.Stopped k
-stops (regrown.Done j) k p = let e = ap (λ (v : Told). v .number) p in absurd (omega arith)
-stops (regrown.Stopped j) k p = ap regrown.Stopped (ap (λ (v : Told). natAbs (getD (v .values) 0 (pos 0))) p)
-stops (regrown.Refused r) k p = absurd (failing-other k r (sym p))
-
 grow-stopped : {n m : ℕ} {room log : List ℕ} {a : Regrown} {room′ : List ℕ} (k : ℕ) → GrownAs n m room log a room′ → a ≡ regrown.Stopped k →
     First (grow-lines n m room log) Passes × (T : List Row) × Reached n (standing m room) (records log) (regrown.Stopped k) T × (room′ ≡ filled T room)
-grow-stopped k (growth.refused f ea er) q = grows.stopped-refused (sym q ∙ ea)
-grow-stopped {n} {m} {room} {log} k (growth.grown f w) q = (f, w .table, subst (λ b. Reached n (standing m room) (records log) b (w .table)) q (w .reached), w .left)
+grow-stopped k (growth.refused f ea er) q = stopped-refused (sym q ∙ ea)
+grow-stopped {n} {m} {room} {log} k (growth.grown f s w) q = (f, w .table, subst (λ b. Reached n (standing m room) (records log) b (w .table)) q (w .reached), w .left)
 
 replay-stopped : {n : ℕ} {t log : List ℕ} {a : Regrown} {t′ : List ℕ} (k : ℕ) → ReplayedAs n t log a t′ → a ≡ regrown.Stopped k →
     First (replay-lines n t log) Passes × (T : List Row) × Redone (rows t) (records log) (regrown.Stopped k) T × (t′ ≡ flat T ++ replicate (length t - length (flat T)) 0)
-replay-stopped k (replay.refused f ea er) q = grows.stopped-refused (sym q ∙ ea)
-replay-stopped {t = t} {log = log} k (replay.replayed f w) q = (f, w .table, subst (λ b. Redone (rows t) (records log) b (w .table)) q (w .redone), w .left)
+replay-stopped k (replay.refused f ea er) q = stopped-refused (sym q ∙ ea)
+replay-stopped {t = t} {log = log} k (replay.replayed f s w) q = (f, w .table, subst (λ b. Redone (rows t) (records log) b (w .table)) q (w .redone), w .left)
 
 -- a sheet
 module _ {b troom troom′ : List ℕ} {croom croom′ : List ℤ} where
@@ -130,13 +121,13 @@ demand-one = record {
     | inr x ↦ exactly (inr (x .0, elim (x .1) [ inl e ↦ not-refused e | inr f ↦ λ r p. failing-other (length (f .2)) r (sym (f .4) ∙ p) ]))
   ];
   grow-same = λ w r p. grow-same w r p;
-  grow-fails = λ {a = a} w. record { when = λ k T f x. ap regrowths.told (grows.grown-one w (growth.grown f (record { table = T; reached = x; left = refl })) .0); only = λ k p. grow-stopped k w (stops a k p) };
+  grow-fails = λ {a = a} w. record { when = λ k T f x. ap regrowths.told (grows.grown-one w (growth.grown f (grows.grown-stands w f) (record { table = T; reached = x; left = refl })) .0); only = λ k p. grow-stopped k w (stops a k p) };
   replay = λ w. elim (replays.replay-told w) [
     | inl x ↦ exactly (inl x)
     | inr x ↦ exactly (inr (x .0, elim (x .1) [ inl e ↦ not-refused e | inr f ↦ λ r p. failing-other (length (f .0)) r (sym (f .4) ∙ p) ]))
   ];
   replay-same = λ w r p. replay-same w r p;
-  replay-fails = λ {a = a} w. record { when = λ k T f x. ap regrowths.told (replays.replay-one w (replay.replayed f (record { table = T; redone = x; left = refl })) .0); only = λ k p. replay-stopped k w (stops a k p) };
+  replay-fails = λ {a = a} w. record { when = λ k T f x. ap regrowths.told (replays.replay-one w (replay.replayed f (replays.replay-stands w f) (record { table = T; redone = x; left = refl })) .0); only = λ k p. replay-stopped k w (stops a k p) };
   volume = λ a w. by-verdict _ (w .verdict) (w .checked .holds) (w .tells);
   change = λ a w. by-verdict _ (w .verdict) (w .first) (w .tells);
   shift = λ a w. by-verdict _ (w .verdict) (w .first) (w .tells);

@@ -3,8 +3,8 @@ use mathlib.Core.Path.{ap}
 use Rattle.length.proofs.Laws.{reading-one}
 use Rattle.thin.specs.Answer as thinnings
 use Rattle.thin.proofs.Main.{thinned-one, accepted, thinned-run, thinned-kept}
-use Rattle.regrow.proofs.Main.{grown-one}
-use Rattle.replay.proofs.Main.{replay-one}
+use Rattle.regrow.proofs.Main.{grown-one, grown-leaves}
+use Rattle.replay.proofs.Main.{replay-one, replay-leaves}
 use Rattle.volume.proofs.Main.{volume-one, change-one}
 use Rattle.shift.proofs.Main.{shift-one}
 use Rattle.link.proofs.Laws.{chosen-one}
@@ -14,8 +14,9 @@ use Rattle.ring.proofs.Rule.{trial-one}
 use Rattle.reply.proofs.Main.{replied-one}
 use Rattle.promises.specs.Choice.{NothingLeft}
 use Rattle.promises.specs.Thinning.{DemandTwo, DemandThree}
-use Rattle.promises.proofs.Back.{restored, restored-from, replayed}
-use Rattle.promises.proofs.Figures.{volume-promised, change-promised, shift-promised}
+use Rattle.promises.specs.Stages.{StagesLeft}
+use Rattle.promises.proofs.Back.{restored, restored-from, replayed, thinned-leaves}
+use Rattle.promises.proofs.Figures.{volume-promised, change-promised, shift-promised, printed-promised}
 
 pub nothing-left : NothingLeft
 nothing-left = record {
@@ -33,6 +34,9 @@ nothing-left = record {
   reply = λ p q. replied-one p q;
 }
 
+pub stages-left : StagesLeft
+stages-left = record { thin = λ o w. thinned-leaves o w; replay = λ w d. replay-leaves w d; grow-back = λ w d. grown-leaves w d }
+
 pub demand-two : DemandTwo
 demand-two = record {
   accepts = λ o u threes s h w. let k = accepted u threes s h w in (k .0, ap thinnings.told (k .1));
@@ -47,5 +51,6 @@ pub demand-three : DemandThree
 demand-three = record {
   volumes-near = λ o w p h a r. volume-promised w p h a r;
   changes-near = λ o w p q h i a r. change-promised w p q h i a r;
-  shifts-within = λ w p q e v b a r. shift-promised w p q e v b a r;
+  shifts-within = λ d read w p q e v b a r. shift-promised d read w p q e v b a r;
+  printed-near = λ w s. printed-promised w s;
 }

@@ -1,3 +1,4 @@
 pub mod Choice
 pub mod Refusing
 pub mod Thinning
+pub mod Stages

@@ -9,11 +9,10 @@ use lib.IntN.{ℤ}
 use lib.ListN.{length, replicate}
 use Rattle.surface.specs.Rows.{Row, rows, flat}
 use Rattle.refusal.specs.declared.Refusal.{Refusal}
-use Rattle.refusal.specs.declared.Refusal.the-variants.{LimitUnusable, RoomShort}
 use Rattle.refusal.specs.declared.Verdict.the-variants.{Passes}
 use Rattle.refusal.specs.declared.Verdict.the-variants as verdict
 use Rattle.refusal.specs.First.{Clause, First}
-use Rattle.refusal.specs.Told.{Told, refused}
+use Rattle.refusal.specs.Told.{Told, refused-as, refused, stopped-as}
 use Rattle.verdicts.specs.Lesser.{either}
 use Rattle.faults.specs.Order.{lines-at}
 use Rattle.length.specs.declared.Order.{Order}
@@ -55,8 +54,8 @@ pub record Refuses (l : List Clause) (v : Told) : Type 0 where
 
 -- 13 and a number of records are told exactly when no refusal of the list holds and the records stop after so many; the rows that these led to are left
 pub record Fails (l : List Clause) (Stops : ℕ → List Row → Type 0) (Left : List Row → Type 0) (v : Told) : Type 0 where
-  pub when : (k : ℕ) (T : List Row) → First l Passes → Stops k T → v ≡ regrowths.fails-after k
-  pub only : (k : ℕ) → v ≡ regrowths.fails-after k → First l Passes × (T : List Row) × Stops k T × Left T
+  pub when : (k : ℕ) (T : List Row) → First l Passes → Stops k T → v ≡ stopped-as 13 k
+  pub only : (k : ℕ) → v ≡ stopped-as 13 k → First l Passes × (T : List Row) × Stops k T × Left T
 
 pub record DemandOne : Type 0 where
   pub thin : (o : Order) {xs : List ℤ} {t l : List ℕ} {a : Thinning} {t′ l′ : List ℕ} → Thinned o xs t l a t′ l′ → Refuses (thin-lines (asked o) xs t (length l)) (thinnings.told a)
@@ -73,7 +72,7 @@ pub record DemandOne : Type 0 where
   pub volume : {xs : List ℤ} {t : List ℕ} (a : Measured) → VolumeReport xs t (volumes.told a) → Refuses (lines-at false xs t) (volumes.told a)
   pub change : {xs : List ℤ} {t s : List ℕ} (a : Measured) → ChangeReport xs t s (volumes.told a) → Refuses (either (lines-at false xs t) (lines-at false xs s)) (volumes.told a)
   pub shift : {xs : List ℤ} {log : List ℕ} {v : ℕ} (a : Shifted) → ShiftReport xs log v (shifts.told a) → Refuses (shift-lines xs log v) (shifts.told a)
-  pub limit : (l : Length) → (Unfit (typed l) → limits.told (limit-of l) ≡ refused LimitUnusable) × ((r : Refusal) → limits.told (limit-of l) ≡ refused r → Unfit (typed l))
+  pub limit : (l : Length) → (Unfit (typed l) → limits.told (limit-of l) ≡ refused-as 1) × ((r : Refusal) → limits.told (limit-of l) ≡ refused r → Unfit (typed l))
   -- a sheet: for its form, or else for what it holds, and only for one of these
   pub sheet-form : {b troom troom′ : List ℕ} {croom croom′ : List ℤ} {a : Sheet} → ReadSheet b troom troom′ croom croom′ a → (r : Refusal) → First (form-refusals b) (verdict.Refused r) → sheets.told a ≡ refused r
   pub sheet-skin : {b troom troom′ : List ℕ} {croom croom′ : List ℤ} {a : Sheet} → ReadSheet b troom troom′ croom croom′ a → First (form-refusals b) Passes →
@@ -83,5 +82,5 @@ pub record DemandOne : Type 0 where
       ⊎ (First (form-refusals b) Passes × (n m : ℕ) × (xs : List ℤ) × (t : List ℕ) × SheetOf b n m xs t × First (skin-refusals troom croom xs t) (verdict.Refused r))
   pub sheet-same : {b troom troom′ : List ℕ} {croom croom′ : List ℤ} {a : Sheet} → ReadSheet b troom troom′ croom croom′ a → (r : Refusal) → sheets.told a ≡ refused r → (troom′ ≡ troom) × (croom′ ≡ croom)
   -- the desk's answer: only where its text does not fit
-  pub reply : {b text : List ℕ} {a : Answer} {text′ : List ℕ} → (w : Replied b text a text′) → (length text < length (w .txt) → replies.told a ≡ refused RoomShort)
+  pub reply : {b text : List ℕ} {a : Answer} {text′ : List ℕ} → (w : Replied b text a text′) → (length text < length (w .txt) → replies.told a ≡ refused-as 3)
       × ((r : Refusal) → replies.told a ≡ refused r → (length text < length (w .txt)) × (text′ ≡ text))

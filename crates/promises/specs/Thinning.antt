@@ -9,13 +9,18 @@ use Rattle.surface.specs.Stage.{Skin}
 use Rattle.surface.specs.Record.{Record}
 use Rattle.refusal.specs.Told as answers
 use Rattle.faults.specs.Counts.{corners}
-use Rattle.run.specs.Run.{Taken}
+use Rattle.run.specs.Run.{Taken, Run}
 use Rattle.figure.specs.Sum.{sixfold}
+use Rattle.figure.specs.Rounding.{WithinHalf}
 use Rattle.record.specs.Layout.{width}
 use Rattle.length.specs.declared.Order.{Order}
-use Rattle.least.specs.declared.Bound.the-variants.{Within}
+use Rattle.length.specs.declared.Order.the-variants.{Limit}
+use Rattle.length.specs.declared.Length.{Length}
+use Rattle.length.specs.declared.Reading.the-variants.{Whole}
+use Rattle.length.specs.Limit.{limit-of}
+use Rattle.least.specs.declared.Bound.the-variants.{Free}
 use Rattle.least.specs.Limited.{Allowed}
-use Rattle.thin.specs.declared.Asked.the-variants.{Under, NoUse}
+use Rattle.thin.specs.declared.Asked.the-variants.{NoUse}
 use Rattle.thin.specs.declared.Thinning.{Thinning}
 use Rattle.thin.specs.declared.Thinning.the-variants.{Done}
 use Rattle.thin.specs.Answer as thinnings
@@ -32,6 +37,10 @@ use Rattle.volume.specs.Report.{VolumeReport, ChangeReport, Near}
 use Rattle.shift.specs.declared.Shifted.{Shifted}
 use Rattle.shift.specs.Answer as shifts
 use Rattle.shift.specs.Report.{ShiftReport, Bounded}
+use Rattle.lines.specs.Lines.{line}
+use Rattle.reply.specs.declared.Answer.{Answer}
+use Rattle.reply.specs.Text.{OK}
+use Rattle.reply.specs.Outcome.{SkinOf, Replied}
 
 -- the table that stands when the rows are T: they are in front, and zeros in the rest of the first table's length
 abbrev pub left-of : List ℕ → List Row → List ℕ
@@ -61,6 +70,19 @@ pub record DemandTwo : Type 0 where
   pub replays : (o : Order) {xs : List ℤ} {t l : List ℕ} {k : ℕ} {t′ l′ : List ℕ} → DoneWith o xs t l k t′ l′ → {a : Regrown} {r : List ℕ} →
       ReplayedAs (corners xs) t (take (width * k) l′) a r → (regrowths.told a ≡ answers.done (pos k ∷ [])) × (r ≡ t′)
 
+-- txt begins with the desk's first line, `OK`, rows left, records, first and last volume, and the two are within half a cubic metre of exact: of the
+-- table t over the coordinates xs, and of the last stage of the run without limit from it
+pub record PrintedNear (xs : List ℤ) (t txt : List ℕ) : Type 0 where
+  pub log : List Record
+  pub last : List Row
+  pub run : Run (Allowed Free xs) (rows t) log last
+  pub first-volume : ℤ
+  pub last-volume : ℤ
+  pub rest : List ℕ
+  pub begins : txt ≡ line OK (pos (length last) ∷ pos (length log) ∷ first-volume ∷ last-volume ∷ []) ++ rest
+  pub first-near : WithinHalf (sixfold xs (rows t)) first-volume
+  pub last-near : WithinHalf (sixfold xs last) last-volume
+
 pub record DemandThree : Type 0 where
   -- each volume shown is within half a cubic metre of exact for that stage's own triangles; p are the records before the stage T₁
   pub volumes-near : (o : Order) {xs : List ℤ} {t l : List ℕ} {k : ℕ} {t′ l′ : List ℕ} (w : RunOf (asked o) xs t l k t′ l′) (p : List Record) {T₁ : List Row} →
@@ -68,6 +90,8 @@ pub record DemandThree : Type 0 where
   -- each change too
   pub changes-near : (o : Order) {xs : List ℤ} {t l : List ℕ} {k : ℕ} {t′ l′ : List ℕ} (w : RunOf (asked o) xs t l k t′ l′) (p q : List Record) {T₁ T₂ : List Row} →
       Taken (Allowed (w .b) xs) (rows t) p T₁ → Taken (Allowed (w .b) xs) (rows t) q T₂ → (a : Measured) → ChangeReport xs (flat T₁) (flat T₂) (volumes.told a) → Near (sixfold xs T₂ -ℤ sixfold xs T₁) a
-  -- under a limit of L cm every first corner lies within k x L of its stand-in, for the log or a beginning of it
-  pub shifts-within : {L : ℕ} {xs : List ℤ} {t l : List ℕ} {k : ℕ} {t′ l′ : List ℕ} (w : RunOf (Under (Within L)) xs t l k t′ l′) (p q : List Record) → w .log ≡ p ++ q →
+  -- under an order whose limit reads as L cm every first corner lies within k x L of its stand-in, for the log or a beginning of it
+  pub shifts-within : (d : Length) {L : ℕ} → limit-of d ≡ Whole L → {xs : List ℤ} {t l : List ℕ} {k : ℕ} {t′ l′ : List ℕ} (w : RunOf (asked (Limit d)) xs t l k t′ l′) (p q : List Record) → w .log ≡ p ++ q →
       (v : ℕ) → v < corners xs → (a : Shifted) → ShiftReport xs (take (width * length p) l′) v (shifts.told a) → Bounded L a
+  -- the two volumes that the desk prints of a skin's sheet too
+  pub printed-near : {b text : List ℕ} {a : Answer} {text′ : List ℕ} (w : Replied b text a text′) {xs : List ℤ} {t : List ℕ} → SkinOf b xs t → PrintedNear xs t (w .txt)

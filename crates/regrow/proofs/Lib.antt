@@ -1,4 +1,5 @@
 pub mod Main
+pub mod Counted
 pub mod Undoing
 pub mod One
 pub mod Judging

@@ -1,4 +1,5 @@
 -- What the answer of growing back and of replay tells: 01's number and the values of each case.
+use mathlib.Core.Path.{_≡_}
 use mathlib.Core.List.{[], _∷_}
 use Prim.Native.Nat.{ℕ}
 use lib.IntN.{pos}
@@ -10,7 +11,7 @@ use Rattle.regrow.specs.declared.Regrown.the-variants.{Done, Stopped, Re
 
 -- 13 and how many records were done
 abbrev pub fails-after : ℕ → answers.Told
-fails-after k = record { number = number RecordFails; values = pos k ∷ [] }
+fails-after k = answers.stopped-as (number RecordFails) k
 
 abbrev pub told : Regrown → answers.Told
 -- 0 and how many records were done
@@ -18,3 +19,8 @@ told (Done k) = answers.done (pos k ∷ [])
 told (Stopped k) = fails-after k
 -- the refusal's number
 told (Refused r) = answers.refused r
+
+-- k records were done: all of them, 0 and k; or those before one that fails, 13 and k
+pub data Did (k : ℕ) (v : answers.Told) : Type 0 where
+  all-done : v ≡ answers.done (pos k ∷ []) → Did k v
+  some-done : v ≡ fails-after k → Did k v

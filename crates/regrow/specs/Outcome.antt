@@ -44,5 +44,5 @@ pub record Judged (n m : ℕ) (room log : List ℕ) (v : Verdict) : Type 0 where
 pub data GrownAs (n m : ℕ) (room log : List ℕ) (a : Regrown) (room′ : List ℕ) : Type 0 where
   -- every refusal but 13 leaves all untouched
   refused : {e : Refusal} → First (grow-lines n m room log) (verdict.Refused e) → a ≡ Refused e → room′ ≡ room → GrownAs n m room log a room′
-  -- else the answer counts the records done, and the rows reached stand in the room; what lies past them is as it was
-  grown : First (grow-lines n m room log) Passes → GrownIn n m room log a room′ → GrownAs n m room log a room′
+  -- else the rows that stand are a stage, the answer counts the records done, and the rows reached stand in the room; what lies past them is as it was
+  grown : First (grow-lines n m room log) Passes → Stage n (standing m room) → GrownIn n m room log a room′ → GrownAs n m room log a room′

@@ -6,7 +6,7 @@ use Prim.Native.Nat.{ℕ, _+_, _*_, _≤_, _%_}
 use lib.ListN.{length}
 use Rattle.surface.specs.Limits.{least-rows}
 use Rattle.surface.specs.Rows.{rows}
-use Rattle.surface.specs.Stage.{StageTable}
+use Rattle.surface.specs.Stage.{Stage, StageTable}
 use Rattle.refusal.specs.declared.Refusal.{Refusal}
 use Rattle.refusal.specs.declared.Refusal.the-variants.{CountsOutside}
 use Rattle.refusal.specs.declared.Verdict.{Verdict}
@@ -40,5 +40,5 @@ pub record Judged (n : ℕ) (t log : List ℕ) (v : Verdict) : Type 0 where
 pub data ReplayedAs (n : ℕ) (t log : List ℕ) (a : Regrown) (t′ : List ℕ) : Type 0 where
   -- every refusal but 13 leaves the table untouched
   refused : {e : Refusal} → First (replay-lines n t log) (verdict.Refused e) → a ≡ Refused e → t′ ≡ t → ReplayedAs n t log a t′
-  -- else the answer counts the records done, the stage reached stands in front, and the rest of the table's length is zeroed
-  replayed : First (replay-lines n t log) Passes → RedoneIn t log a t′ → ReplayedAs n t log a t′
+  -- else the table is a stage, the answer counts the records done, the stage reached stands in front, and the rest of the table's length is zeroed
+  replayed : First (replay-lines n t log) Passes → Stage n (rows t) → RedoneIn t log a t′ → ReplayedAs n t log a t′

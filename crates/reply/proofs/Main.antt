@@ -44,7 +44,7 @@ no-skin-one (bad-skin f s k) (bad-form g) = not-passed (first-one _ g f)
 no-skin-one {r = r} (bad-skin f s k) (bad-skin g u l) = same-refusal (first-one _ (moved (verdict.Refused r) (one-skin s u) k) l)
 
 -- what is refused holds no skin
-no-skin-or-skin : {X : Type 0} {b : List ℕ} {r : Refusal} {xs : List ℤ} {t : List ℕ} → NoSkin b r → SkinOf b xs t → X
+pub no-skin-or-skin : {X : Type 0} {b : List ℕ} {r : Refusal} {xs : List ℤ} {t : List ℕ} → NoSkin b r → SkinOf b xs t → X
 no-skin-or-skin (bad-form f) w = not-passed (first-one _ f (w .form))
 no-skin-or-skin {r = r} (bad-skin f s k) w = not-passed (first-one _ (moved (verdict.Refused r) (one-skin s (w .sheet)) k) (w .passes))
 
@@ -56,6 +56,11 @@ answers-one (no k e) (no l d) = e ∙ ap no-text (no-skin-one k l) ∙ sym d
 answers-one (no k e) (ok w q) = no-skin-or-skin k w
 answers-one (ok w p) (no k e) = no-skin-or-skin k w
 answers-one (ok w p) (ok z q) = let s = one-skin (w .sheet) (z .sheet) in tells-one (rw (s .coordinates, s .numbers) at p) q
+
+-- of a skin's sheet it tells the run
+pub skin-tells : {b txt : List ℕ} {xs : List ℤ} {t : List ℕ} → Answers b txt → SkinOf b xs t → Tells xs t txt
+skin-tells (no k e) w = no-skin-or-skin k w
+skin-tells (ok z p) w = let s = one-skin (z .sheet) (w .sheet) in rw (s .coordinates, s .numbers) at p
 
 -- ---- one outcome
 

@@ -29,9 +29,12 @@ unfolding numbers-from
 numbers-length zero k = refl
 numbers-length (suc n) k = ap suc (numbers-length n (suc k))
 
-pub ring-length : length (rows ring) ≡ 128
+pub ring-numbers : length ring ≡ size
 unfolding ring
-ring-length = rows-length 128 ring (numbers-length size 0)
+ring-numbers = numbers-length size 0
+
+pub ring-length : length (rows ring) ≡ 128
+ring-length = rows-length 128 ring ring-numbers
 
 -- number j of the six that corner v gives
 six-at : (v j k : ℕ) → v < 64 → j < 6 → k ≡ 6 * v + j → getD ring k 0 ≡ getD (six (v / 8) (v % 8)) j 0
@@ -65,14 +68,3 @@ trial-one k Nothing Nothing p q = refl
 pub trial-told : (k : ℕ) (r : Trial) → Tells k r → ((k < size) × (told r ≡ done (pos (number-at k) ∷ []))) ⊎ ((size ≤ k) × (told r ≡ done []))
 trial-told k (Number v) p = inl (p .0, ap (λ z. done (pos z ∷ [])) (p .1))
 trial-told k Nothing p = inr (p, refl)
-
--- the stored table, number by number as `trial_number` answers it, is the table that follows the rule
-pub stored : (l : List ℕ) → length l ≡ size → ((k : ℕ) → k < size → Tells k (Number (getD l k 0))) → l ≡ ring
-unfolding ring
-stored l h t = same l (numbers-from 0 size) (h ∙ sym (numbers-length size 0)) (λ k b. let c : k < size = omega (arith, h, b) in t k c .1 ∙ sym (ring-at k c))
-  where
-    same : (l m : List ℕ) → length l ≡ length m → ((k : ℕ) → k < length l → getD l k 0 ≡ getD m k 0) → l ≡ m
-    same [] [] h e = refl
-    same [] (y ∷ m) h e = absurd (omega arith)
-    same (x ∷ l) [] h e = absurd (omega arith)
-    same (x ∷ l) (y ∷ m) h e = λ i. e 0 (omega arith) i ∷ same l m (omega arith) (λ k b. e (suc k) (omega arith)) i

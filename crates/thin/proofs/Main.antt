@@ -10,7 +10,8 @@ use lib.IntN.{ℤ, pos}
 use lib.ListN.{length, drop, replicate}
 use Rattle.surface.specs.Rows.{Row, rows, flat}
 use Rattle.surface.specs.Stage.{Stage, Skin}
-use Rattle.surface.specs.Record.{Record}
+use Rattle.surface.specs.Record.{Record, Replayed}
+use Rattle.surface.proofs.Main.{euler-there, corners-there}
 use Rattle.refusal.specs.declared.Refusal.{Refusal}
 use Rattle.refusal.specs.declared.Verdict.the-variants.{Passes}
 use Rattle.refusal.specs.declared.Verdict.the-variants as verdict
@@ -94,21 +95,26 @@ thinned-run {a} {xs} {t} {l} (done {b = b} {log = log} {last = last} f s eb r er
 pub last-stage : {a : Asked} {xs : List ℤ} {t l : List ℕ} {k : ℕ} {t′ l′ : List ℕ} (w : RunOf a xs t l k t′ l′) → Stage (corners xs) (w .last)
 last-stage w = replayed-stage (w .skin .stage) (taken-replayed (w .run .taken))
 
+replayed-kept : {n : ℕ} {T T₁ : List Row} {l : List Record} → Stage n T → Replayed T l T₁ → KeptAfter n T l T₁
+replayed-kept {n} {T} {T₁} s r =
+    let z = replayed-stage s r in
+    let x = euler-there n T s in
+    let y = euler-there n T₁ z in
+    let v = corners-there n T s in
+    let u = corners-there n T₁ z in record {
+      stage = z;
+      χ = x .0;
+      euler-before = x .1;
+      euler-after = rw (sym (replayed-euler s r (x .1) (y .1))) at (y .1);
+      fewer-rows = replayed-rows s r;
+      v = u .0;
+      used-before = rw (replayed-corners s r (v .1) (u .1)) at (v .1);
+      used-after = u .1;
+    }
+
 pub thinned-kept : {a : Asked} {xs : List ℤ} {t l : List ℕ} {k : ℕ} {t′ l′ : List ℕ} (w : RunOf a xs t l k t′ l′) (p q : List Record) → w .log ≡ p ++ q →
     (T₁ : List Row) × Taken (Allowed (w .b) xs) (rows t) p T₁ × KeptAfter (corners xs) (rows t) p T₁
-thinned-kept w p q e =
-    let s = w .skin .stage in
-    let c = taken-cut p (rw e at (w .run .taken)) in
-    let r = taken-replayed (c .1) in (
-      c .0,
-      c .1,
-      record {
-        stage = replayed-stage s r;
-        euler = λ χ χ′ x y. replayed-euler s r x y;
-        fewer-rows = replayed-rows s r;
-        fewer-corners = λ v v′ x y. replayed-corners s r x y;
-      },
-    )
+thinned-kept w p q e = let c = taken-cut p (rw e at (w .run .taken)) in (c .0, c .1, replayed-kept (w .skin .stage) (taken-replayed (c .1)))
 
 -- the answer tells the first refusal that holds, and else 0 and how many records were written
 pub thin-told : {a : Asked} {xs : List ℤ} {t l : List ℕ} {r : Thinning} {t′ l′ : List ℕ} → ThinnedAs a xs t l r t′ l′ →

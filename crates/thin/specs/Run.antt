@@ -35,6 +35,12 @@ pub record RunOf (a : Asked) (xs : List ℤ) (t l : List ℕ) (k : ℕ) (t′ l�
 -- after each beginning of the log a stage stands, of the same Euler number, with 2 k fewer rows and k fewer corners used
 pub record KeptAfter (n : ℕ) (T : List Row) (l : List Record) (T₁ : List Row) : Type 0 where
   pub stage : Stage n T₁
-  pub euler : (χ χ′ : ℤ) → Euler T χ → Euler T₁ χ′ → χ ≡ χ′
+  -- the Euler number is there, and the same
+  pub χ : ℤ
+  pub euler-before : Euler T χ
+  pub euler-after : Euler T₁ χ
   pub fewer-rows : length T ≡ length T₁ + 2 * length l
-  pub fewer-corners : (v v′ : ℕ) → Exactly (Used T) v → Exactly (Used T₁) v′ → v ≡ v′ + length l
+  -- so many corners are used after, and k more before
+  pub v : ℕ
+  pub used-before : Exactly (Used T) (v + length l)
+  pub used-after : Exactly (Used T₁) v

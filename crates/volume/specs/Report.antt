@@ -2,8 +2,8 @@
 use mathlib.Core.Path.{_≡_}
 use mathlib.Core.Bool.{false}
 use mathlib.Core.List.{List, [], _∷_}
-use Prim.Native.Nat.{ℕ, _*_, _≤_}
-use lib.IntN.{ℤ, pos, _-ℤ_, _*ℤ_, natAbs}
+use Prim.Native.Nat.{ℕ}
+use lib.IntN.{ℤ}
 use Rattle.surface.specs.Rows.{rows}
 use Rattle.surface.specs.Stage.{Stage, InRange}
 use Rattle.refusal.specs.declared.Verdict.{Verdict}
@@ -15,7 +15,7 @@ use Rattle.answer.specs.Outcome.{outcome}
 use Rattle.faults.specs.Counts.{corners}
 use Rattle.faults.specs.Order.{lines-at, CheckedStageAt}
 use Rattle.figure.specs.Sum.{sixfold}
-use Rattle.figure.specs.Rounding.{divisor, figure, change}
+use Rattle.figure.specs.Rounding.{figure, change, WithinHalf}
 use Rattle.volume.specs.declared.Measured.{Measured}
 use Rattle.volume.specs.declared.Measured.the-variants.{Figure}
 
@@ -40,4 +40,4 @@ pub record ChangeReport (xs : List ℤ) (earlier later : List ℕ) (a : Told) : 
 pub record Near (s : ℤ) (a : Measured) : Type 0 where
   pub f : ℤ
   pub is : a ≡ Figure f
-  pub near : 2 * natAbs (pos divisor *ℤ f -ℤ s) ≤ divisor
+  pub near : WithinHalf s f

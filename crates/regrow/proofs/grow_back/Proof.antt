@@ -39,7 +39,7 @@ returns-2 c =
     let enum-told = c .before .before .before .before .enum-told in
     let judge = c .before .before .before .before .before .before .judge in
     let grow-log = c .before .before .grow-log in
-    grown (rw (enum-told .given .1) at (judge .ensures .holds)) (grow-log .ensures)
+    grown (rw (enum-told .given .1) at (judge .ensures .holds)) (judge .ensures .stage (enum-told .given .1)) (grow-log .ensures)
 
 pub grow-back-spec : {M : Type 1} → statement M
 grow-back-spec =

@@ -37,7 +37,7 @@ returns-2 c =
     let enum-told = c .before .before .before .before .enum-told in
     let judge = c .before .before .before .before .before .before .judge in
     let replay-log = c .before .before .replay-log in
-    replayed (rw (enum-told .given .1) at (judge .ensures .holds)) (replay-log .ensures)
+    replayed (rw (enum-told .given .1) at (judge .ensures .holds)) (judge .ensures .stage (enum-told .given .1) .stage) (replay-log .ensures)
 
 pub replay-spec : {M : Type 1} → statement M
 replay-spec =

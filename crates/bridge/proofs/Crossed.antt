@@ -1,0 +1,61 @@
+-- Each function that crosses answers as its call does, and has no second outcome.
+use mathlib.Core.Path.{_≡_, sym, _∙_}
+use mathlib.Core.List.{List}
+use Prim.Native.Nat.{ℕ}
+use denote.Ref.{RefT}
+use Rattle.thin.specs.Answer as thin-answer
+use Rattle.thin.proofs.Main.{thinned-one}
+use Rattle.regrow.specs.Answer as regrow-answer
+use Rattle.regrow.proofs.Main.{grown-one}
+use Rattle.replay.proofs.Main.{replay-one}
+use Rattle.volume.specs.Answer as volume-answer
+use Rattle.volume.proofs.Main.{volume-one, change-one}
+use Rattle.shift.specs.Answer as shift-answer
+use Rattle.shift.proofs.Main.{shift-one}
+use Rattle.length.specs.Answer as length-answer
+use Rattle.sheet.specs.Answer as sheet-answer
+use Rattle.sheet.proofs.Promises.{one-outcome}
+use Rattle.reply.specs.Answer as reply-answer
+use Rattle.reply.proofs.Main.{replied-one}
+use Rattle.ring.proofs.Rule.{trial-one}
+use Rattle.link.proofs.Laws.{chosen-one}
+use Rattle.catchup.proofs.One.{SamePart, caught-up-one}
+use Rattle.bridge.specs.declared.Part.{Part}
+use Rattle.bridge.specs.Lent.{Places, nothing, of-second, of-first}
+use Rattle.bridge.specs.Crossing.{Crossing}
+use Rattle.bridge.proofs.Saying.{said}
+use Rattle.bridge.proofs.Main.{thin-crosses, grow-crosses, replay-crosses, volume-crosses, change-crosses, shift-crosses, limit-crosses, sheet-crosses, reply-crosses, trial-crosses, ring-crosses, part-crosses}
+
+-- the places tell of the same memory, by whatever name
+places-same : {first second x y : RefT (List ℕ)} {r : Part} → SamePart x y → Places first second x r → Places first second y r
+places-same e (nothing h k) = nothing (sym (e .1) ∙ h) k
+places-same e (of-second n lt p k) = of-second (λ z. n (e .1 ∙ z)) lt (record { place = sym (e .0) ∙ p .place; holds = sym (e .1) ∙ p .holds }) k
+places-same e (of-first n lt p k) = of-first (λ z. n (e .1 ∙ z)) lt (record { place = sym (e .0) ∙ p .place; holds = sym (e .1) ∙ p .holds }) k
+
+pub crossing : Crossing
+crossing = record {
+  thin = λ u v p w. let e = thinned-one w (p .gives) in (said thin-answer.told (e .0) (p .says), sym (e .1), sym (e .2));
+  thin-one = λ u v p q. thin-crosses u v p q;
+  grow-back = λ p w. let e = grown-one w (p .gives) in (said regrow-answer.told (e .0) (p .says), sym (e .1));
+  grow-back-one = λ p q. grow-crosses p q;
+  replay = λ p w. let e = replay-one w (p .gives) in (said regrow-answer.told (e .0) (p .says), sym (e .1));
+  replay-one = λ p q. replay-crosses p q;
+  volume = λ a p w. said volume-answer.told (volume-one a (p .answer) w (p .gives)) (p .says);
+  volume-one = λ p q. volume-crosses p q;
+  change = λ a p w. said volume-answer.told (change-one a (p .answer) w (p .gives)) (p .says);
+  change-one = λ p q. change-crosses p q;
+  shift = λ a p w. said shift-answer.told (shift-one a (p .answer) w (p .gives)) (p .says);
+  shift-one = λ p q. shift-crosses p q;
+  limit = λ u v p w. said length-answer.told (w ∙ sym (p .gives)) (p .says);
+  limit-one = λ u v p q. limit-crosses u v p q;
+  shorter-ring = λ p w. rw (chosen-one w (p .chosen)) (p .which);
+  shorter-ring-one = λ p q. ring-crosses p q;
+  catch-up = λ p w. places-same (caught-up-one (p .caught-up) w) (p .places);
+  catch-up-one = λ p q. part-crosses p q;
+  read-sheet = λ {b} {t} {xs = xs} p w. let e = one-outcome b t xs w (p .gives) in (said sheet-answer.told (e .answer) (p .says), sym (e .table), sym (e .corners));
+  read-sheet-one = λ p q. sheet-crosses p q;
+  trial-number = λ {k} a p w. rw (trial-one k a (p .answer) w (p .tells)) (p .stores);
+  trial-number-one = λ p q. trial-crosses p q;
+  reply = λ p w. let e = replied-one w (p .gives) in (said reply-answer.told (e .0) (p .says), sym (e .1));
+  reply-one = λ p q. reply-crosses p q;
+}

@@ -1,0 +1,77 @@
+-- "Each public call states its entire outcome": of each of the twelve functions that cross, that it answers as its call does, and that no second outcome
+-- satisfies the same words.
+use mathlib.Core.Path.{_≡_}
+use mathlib.Core.List.{List}
+use Prim.Native.Nat.{ℕ}
+use lib.IntN.{ℤ}
+use lib.Ieee.{Float}
+use denote.Ref.{RefT}
+use Rattle.length.specs.declared.Reading.{Reading}
+use Rattle.length.specs.Limit.{limit-of}
+use Rattle.length.specs.Answer as length-answer
+use Rattle.thin.specs.declared.Thinning.{Thinning}
+use Rattle.thin.specs.Thin.{Thinned}
+use Rattle.thin.specs.Answer as thin-answer
+use Rattle.regrow.specs.declared.Regrown.{Regrown}
+use Rattle.regrow.specs.Outcome.{GrownAs}
+use Rattle.regrow.specs.Answer as regrow-answer
+use Rattle.replay.specs.Outcome.{ReplayedAs}
+use Rattle.volume.specs.declared.Measured.{Measured}
+use Rattle.volume.specs.Report.{VolumeReport, ChangeReport}
+use Rattle.volume.specs.Answer as volume-answer
+use Rattle.shift.specs.declared.Shifted.{Shifted}
+use Rattle.shift.specs.Report.{ShiftReport}
+use Rattle.shift.specs.Answer as shift-answer
+use Rattle.sheet.specs.declared.Sheet.{Sheet}
+use Rattle.sheet.specs.Outcome.{ReadSheet}
+use Rattle.sheet.specs.Answer as sheet-answer
+use Rattle.reply.specs.declared.Answer.{Answer}
+use Rattle.reply.specs.Outcome.{Replied}
+use Rattle.reply.specs.Answer as reply-answer
+use Rattle.ring.specs.declared.Trial.{Trial}
+use Rattle.ring.specs.Ring.{Tells}
+use Rattle.link.specs.Chosen.{Chosen}
+use Rattle.catchup.specs.CatchUp.{CaughtUp}
+use Rattle.bridge.specs.declared.Counted.{Counted}
+use Rattle.bridge.specs.declared.Measure.{Measure}
+use Rattle.bridge.specs.declared.StandIn.{StandIn}
+use Rattle.bridge.specs.declared.Centimetres.{Centimetres}
+use Rattle.bridge.specs.declared.Counts.{Counts}
+use Rattle.bridge.specs.declared.Written.{Written}
+use Rattle.bridge.specs.declared.Stored.{Stored}
+use Rattle.bridge.specs.declared.Part.{Part}
+use Rattle.bridge.specs.Units.{length-of, order-of}
+use Rattle.bridge.specs.Says.{Says}
+use Rattle.bridge.specs.Fields.{of-counted, of-measure, of-stand-in, of-centimetres, of-counts, of-written}
+use Rattle.bridge.specs.Calls.{ThinShown, GrowShown, ReplayShown, VolumeShown, ChangeShown, ShiftShown, LimitShown, SheetShown, ReplyShown}
+use Rattle.bridge.specs.Lent.{Stores, TrialShown, Which, RingShown, Places, PartShown}
+
+-- the calls in the order of their numbers over a pipe, 1 to 12
+pub record Crossing : Type 0 where
+  -- what is said is what the call answers, and what is left is what the call leaves
+  pub thin : (u : ℕ) (v : Float) {xs : List ℤ} {t l : List ℕ} {r : Counted} {t₁ t₂ l₁ l₂ : List ℕ} {a : Thinning} → ThinShown u v xs t l r t₁ l₁ → Thinned (order-of u v) xs t l a t₂ l₂ →
+      Says (thin-answer.told a) (of-counted r) × (t₁ ≡ t₂) × (l₁ ≡ l₂)
+  pub thin-one : (u : ℕ) (v : Float) {xs : List ℤ} {t l : List ℕ} {r q : Counted} {t₁ t₂ l₁ l₂ : List ℕ} → ThinShown u v xs t l r t₁ l₁ → ThinShown u v xs t l q t₂ l₂ → (r ≡ q) × (t₁ ≡ t₂) × (l₁ ≡ l₂)
+  pub grow-back : {n m : ℕ} {room log : List ℕ} {r : Counted} {room₁ room₂ : List ℕ} {a : Regrown} → GrowShown n m room log r room₁ → GrownAs n m room log a room₂ → Says (regrow-answer.told a) (of-counted r) × (room₁ ≡ room₂)
+  pub grow-back-one : {n m : ℕ} {room log : List ℕ} {r q : Counted} {room₁ room₂ : List ℕ} → GrowShown n m room log r room₁ → GrowShown n m room log q room₂ → (r ≡ q) × (room₁ ≡ room₂)
+  pub replay : {n : ℕ} {t log : List ℕ} {r : Counted} {t₁ t₂ : List ℕ} {a : Regrown} → ReplayShown n t log r t₁ → ReplayedAs n t log a t₂ → Says (regrow-answer.told a) (of-counted r) × (t₁ ≡ t₂)
+  pub replay-one : {n : ℕ} {t log : List ℕ} {r q : Counted} {t₁ t₂ : List ℕ} → ReplayShown n t log r t₁ → ReplayShown n t log q t₂ → (r ≡ q) × (t₁ ≡ t₂)
+  pub volume : {xs : List ℤ} {t : List ℕ} {r : Measure} (a : Measured) → VolumeShown xs t r → VolumeReport xs t (volume-answer.told a) → Says (volume-answer.told a) (of-measure r)
+  pub volume-one : {xs : List ℤ} {t : List ℕ} {r q : Measure} → VolumeShown xs t r → VolumeShown xs t q → r ≡ q
+  pub change : {xs : List ℤ} {t s : List ℕ} {r : Measure} (a : Measured) → ChangeShown xs t s r → ChangeReport xs t s (volume-answer.told a) → Says (volume-answer.told a) (of-measure r)
+  pub change-one : {xs : List ℤ} {t s : List ℕ} {r q : Measure} → ChangeShown xs t s r → ChangeShown xs t s q → r ≡ q
+  pub shift : {xs : List ℤ} {log : List ℕ} {v : ℕ} {r : StandIn} (a : Shifted) → ShiftShown xs log v r → ShiftReport xs log v (shift-answer.told a) → Says (shift-answer.told a) (of-stand-in r)
+  pub shift-one : {xs : List ℤ} {log : List ℕ} {v : ℕ} {r q : StandIn} → ShiftShown xs log v r → ShiftShown xs log v q → r ≡ q
+  pub limit : (u : ℕ) (v : Float) {r : Centimetres} {a : Reading} → LimitShown u v r → a ≡ limit-of (length-of u v) → Says (length-answer.told a) (of-centimetres r)
+  pub limit-one : (u : ℕ) (v : Float) {r q : Centimetres} → LimitShown u v r → LimitShown u v q → r ≡ q
+  -- which of the two lent rings, and which part of which log
+  pub shorter-ring : {first second ring : RefT (List ℕ)} {r : ℕ} → RingShown first second r → Chosen first second ring → Which first second ring r
+  pub shorter-ring-one : {first second : RefT (List ℕ)} {r q : ℕ} → RingShown first second r → RingShown first second q → r ≡ q
+  pub catch-up : {first second part : RefT (List ℕ)} {r : Part} → PartShown first second r → CaughtUp first second part → Places first second part r
+  pub catch-up-one : {first second : RefT (List ℕ)} {r q : Part} → PartShown first second r → PartShown first second q → r ≡ q
+  pub read-sheet : {b t t₁ t₂ : List ℕ} {xs xs₁ xs₂ : List ℤ} {r : Counts} {a : Sheet} → SheetShown b t t₁ xs xs₁ r → ReadSheet b t t₂ xs xs₂ a → Says (sheet-answer.told a) (of-counts r) × (t₁ ≡ t₂) × (xs₁ ≡ xs₂)
+  pub read-sheet-one : {b t t₁ t₂ : List ℕ} {xs xs₁ xs₂ : List ℤ} {r q : Counts} → SheetShown b t t₁ xs xs₁ r → SheetShown b t t₂ xs xs₂ q → (r ≡ q) × (t₁ ≡ t₂) × (xs₁ ≡ xs₂)
+  pub trial-number : {k : ℕ} {r : Stored} (a : Trial) → TrialShown k r → Tells k a → Stores a r
+  pub trial-number-one : {k : ℕ} {r q : Stored} → TrialShown k r → TrialShown k q → r ≡ q
+  pub reply : {b text : List ℕ} {r : Written} {text₁ text₂ : List ℕ} {a : Answer} → ReplyShown b text r text₁ → Replied b text a text₂ → Says (reply-answer.told a) (of-written r) × (text₁ ≡ text₂)
+  pub reply-one : {b text : List ℕ} {r q : Written} {text₁ text₂ : List ℕ} → ReplyShown b text r text₁ → ReplyShown b text q text₂ → (r ≡ q) × (text₁ ≡ text₂)
