@@ -8,7 +8,8 @@ use lib.IntN.{pos}
 use lib.ListN.{getD, replicate, drop}
 use Rattle.surface.specs.Rows.{rows, flat, row}
 use Rattle.surface.specs.Table.{Used}
-use Rattle.surface.specs.Record.{Record, Replayed, one-step}
+use Rattle.follow.specs.Leads.{one-step}
+use Rattle.surface.specs.Record.{Record, Replayed}
 use Rattle.surface.proofs.Recorded.{replayed-grown}
 use Rattle.record.specs.Layout.{first-records}
 use Rattle.length.specs.declared.Order.the-variants.{NoLimit}

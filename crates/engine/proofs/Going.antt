@@ -18,7 +18,8 @@ use Rattle.run.proofs.Main.{taken-more, step-corners}
 use Rattle.record.specs.declared.Record.{Record}
 use Rattle.record.specs.Layout.{width, log-of, numbers, meant}
 use Rattle.record.proofs.Log.{numbers-length, log-length, log-append}
-use Rattle.step.specs.Front.{front, SteppedFront, Fallen}
+use Rattle.record.specs.Front.{front}
+use Rattle.step.specs.Front.{SteppedFront, Fallen}
 use Rattle.step.proofs.Front.{fallen-none, front-replays, fallen-on, fallen-left}
 use Rattle.engine.specs.Engine.{Ready, WentOn}
 

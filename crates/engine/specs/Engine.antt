@@ -11,7 +11,7 @@ use Rattle.surface.specs.Stage.{StageTable}
 use Rattle.surface.specs.Record as surface
 use Rattle.run.specs.Run.{Run}
 use Rattle.record.specs.Layout.{width, log-of}
-use Rattle.step.specs.Front.{front}
+use Rattle.record.specs.Front.{front}
 
 -- the front of t is a stage over n corners, and the log l, which has d records, has room for as many as may follow: one for each used
 -- corner but four

@@ -9,7 +9,8 @@ use Rattle.surface.specs.Rows.{Row, row, rows, flat}
 use Rattle.surface.specs.Grow.{put}
 use Rattle.surface.proofs.Flat.{rows-flat, flat-length, flat-rows, rows-length}
 use Rattle.surface.proofs.Put.{put-length}
-use Rattle.grow.specs.Room.{standing, filled, MovedOn}
+use Rattle.record.specs.Front.{standing, filled}
+use Rattle.grow.specs.Room.{MovedOn}
 
 -- as many rows stand in front as are told
 pub standing-length : (m : ℕ) (room : List ℕ) → 3 * m ≤ length room → length (standing m room) ≡ m

@@ -21,7 +21,8 @@ use Rattle.ends.specs.declared.Ends.the-variants.{At, Nothing}
 use Rattle.accept.specs.Noted.{Round}
 use Rattle.accept.specs.Test.{Answered}
 use Rattle.grow.specs.Walk.{Walkable, Renamed}
-use Rattle.grow.specs.Room.{standing, filled, GrewBack}
+use Rattle.record.specs.Front.{standing, filled}
+use Rattle.grow.specs.Room.{GrewBack}
 use Rattle.grow.proofs.Filling.{standing-length, standing-filled, filled-again}
 
 -- the earlier row put in, then the later

@@ -1,20 +1,13 @@
--- A room: so many rows stand in it, from its front on, and whatever lies past them is the caller's.
+-- Growing back in a room: what moves, and what one record makes of the rows that stand there.
 use mathlib.Core.Path.{_≡_}
 use mathlib.Core.Bool.{Bool, true, false}
 use mathlib.Core.List.{List, _++_}
-use Prim.Native.Nat.{ℕ, _+_, _*_}
-use lib.ListN.{length, take, drop}
-use Rattle.surface.specs.Rows.{Row, rows, flat}
+use Prim.Native.Nat.{ℕ, _+_}
+use lib.ListN.{take, drop}
+use Rattle.surface.specs.Rows.{Row}
 use Rattle.surface.specs.Record.{Record}
 use Rattle.surface.specs.Accept.{Accepted}
-
--- the m rows that stand in a room
-abbrev pub standing : ℕ → List ℕ → List Row
-standing m room = rows (take (3 * m) room)
-
--- a room with the rows T in front, and all that lies past them as it was
-abbrev pub filled : List Row → List ℕ → List ℕ
-filled T room = flat T ++ drop (3 * length T) room
+use Rattle.record.specs.Front.{standing, filled}
 
 -- the numbers from slot i up to slot j have moved three slots on, and no others
 pub record MovedOn (i j : ℕ) (room room′ : List ℕ) : Type 0 where

@@ -12,7 +12,8 @@ ghost use Rattle.surface.specs.Record.{placed};
 ghost use Rattle.record.specs.Layout.{meant};
 ghost use Rattle.ends.specs.Rows.{row-of};
 ghost use Rattle.grow.specs.Walk.{Walkable, Renamed};
-ghost use Rattle.grow.specs.Room.{standing, filled, MovedOn, GrewBack};
+ghost use Rattle.record.specs.Front.{standing, filled};
+ghost use Rattle.grow.specs.Room.{MovedOn, GrewBack};
 
 // The removed number goes on the rows round the kept corner, from y forward to x.
 fn rename(t: &mut [u32], at: &[usize], r: Record, x: Corner, y: Corner)

@@ -26,12 +26,13 @@ use Rattle.thin.specs.declared.Thinning.the-variants as thinning
 use Rattle.thin.specs.Thin.{Thinned}
 use Rattle.thin.specs.Run.{RunOf}
 use Rattle.thin.proofs.Main.{thinned-run, last-stage}
-use Rattle.grow.specs.Room.{standing, filled}
+use Rattle.record.specs.Front.{standing, filled}
 use Rattle.grow.proofs.Filling.{standing-front}
 use Rattle.regrow.specs.declared.Regrown.{Regrown}
 use Rattle.regrow.specs.declared.Regrown.the-variants.{Done}
 use Rattle.regrow.specs.Answer.{told}
-use Rattle.regrow.specs.Reached.{count, need}
+use Rattle.record.specs.Layout.{count}
+use Rattle.regrow.specs.Reached.{need}
 use Rattle.regrow.specs.Outcome.{GrowFits, GrownAs}
 use Rattle.regrow.proofs.Main.{restores}
 use Rattle.replay.specs.Outcome.{ReplayFits, ReplayedAs}

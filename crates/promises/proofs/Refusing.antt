@@ -28,7 +28,7 @@ use Rattle.regrow.specs.declared.Regrown.{Regrown}
 use Rattle.regrow.specs.declared.Regrown.the-variants as regrown
 use Rattle.regrow.specs.Answer as regrowths
 use Rattle.record.specs.Layout.{records}
-use Rattle.grow.specs.Room.{standing, filled}
+use Rattle.record.specs.Front.{standing, filled}
 use Rattle.regrow.specs.Reached.{Reached}
 use Rattle.regrow.specs.Outcome.{grow-lines, GrownAs}
 use Rattle.regrow.specs.Outcome as growth

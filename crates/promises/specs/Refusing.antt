@@ -24,7 +24,7 @@ use Rattle.thin.specs.Answer as thinnings
 use Rattle.thin.specs.Order.{asked}
 use Rattle.thin.specs.Thin.{thin-lines, Thinned}
 use Rattle.record.specs.Layout.{records}
-use Rattle.grow.specs.Room.{standing, filled}
+use Rattle.record.specs.Front.{standing, filled}
 use Rattle.regrow.specs.declared.Regrown.{Regrown}
 use Rattle.regrow.specs.declared.Regrown.the-variants.{Stopped}
 use Rattle.regrow.specs.Answer as regrowths

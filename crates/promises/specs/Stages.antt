@@ -7,7 +7,7 @@ use Rattle.surface.specs.Rows.{rows}
 use Rattle.surface.specs.Stage.{Stage}
 use Rattle.faults.specs.Counts.{corners}
 use Rattle.length.specs.declared.Order.{Order}
-use Rattle.grow.specs.Room.{standing}
+use Rattle.record.specs.Front.{standing}
 use Rattle.regrow.specs.declared.Regrown.{Regrown}
 use Rattle.regrow.specs.Answer.{told, Did}
 use Rattle.regrow.specs.Outcome.{GrownAs}

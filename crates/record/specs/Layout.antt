@@ -1,7 +1,7 @@
 -- A record as it stands in a log: ten numbers. Nothing else lays a record out.
 use mathlib.Core.Path.{_≡_}
 use mathlib.Core.List.{List, [], _∷_, _++_}
-use Prim.Native.Nat.{ℕ, zero, suc, _+_, _/_}
+use Prim.Native.Nat.{ℕ, zero, suc, _+_, _*_, _/_, _%_}
 use lib.ListN.{length, drop, getD}
 use Rattle.surface.specs.Rows.{Row, row}
 use Rattle.surface.specs.Record as surface
@@ -56,6 +56,17 @@ unfoldable pub first-records : ℕ → List ℕ → List surface.Record
 first-records zero l = []
 first-records (suc k) l = record-at l 0 ∷ first-records k (drop width l)
 
--- the records of a log; numbers over at its end are no record
+-- how many records a log has; numbers over at its end are no record
+abbrev pub count : List ℕ → ℕ
+count l = length l / width
+
 abbrev pub records : List ℕ → List surface.Record
-records l = first-records (length l / width) l
+records l = first-records (count l) l
+
+-- a log of whole records: its length is a multiple of ten
+abbrev pub WholeRecords : List ℕ → Type 0
+WholeRecords l = length l % width ≡ 0
+
+-- how many numbers so many records take
+abbrev pub room-for : ℕ → ℕ
+room-for k = width * k

@@ -17,8 +17,8 @@ use Rattle.faults.specs.Counts.{CountsFit}
 use Rattle.faults.specs.Order.{CheckedStage}
 use Rattle.faults.proofs.Order.{after-2}
 use Rattle.grow.proofs.Filling.{standing-length}
-use Rattle.regrow.specs.Reached.{need, Ready}
-use Rattle.regrow.specs.Outcome.{GrowFits, grow-lines, Judged}
+use Rattle.regrow.specs.Outcome.{GrowFits, need, grow-lines}
+use Rattle.regrow.specs.Inner.{Judged, Ready}
 
 module _ (n m : ℕ) (room log : List ℕ) where
   no : {r : Refusal} → First (grow-lines n m room log) (verdict.Refused r) → Judged n m room log (verdict.Refused r)

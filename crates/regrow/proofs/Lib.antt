@@ -1,5 +1,4 @@
 pub mod Main
 pub mod Counted
 pub mod Undoing
-pub mod One
 pub mod Judging

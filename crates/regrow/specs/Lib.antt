@@ -1,3 +1,3 @@
 pub mod Answer
-pub mod Reached
 pub mod Outcome
+pub mod Inner

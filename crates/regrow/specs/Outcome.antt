@@ -1,31 +1,36 @@
 -- Growing back in 01's words: the refusals in their order, or the rows reached and what they leave.
 use mathlib.Core.Path.{_≡_}
 use mathlib.Core.Bool.{false}
-use mathlib.Core.List.{List, _∷_}
-use Prim.Native.Nat.{ℕ, _+_, _*_, _≤_, _<_, _%_}
+use mathlib.Core.List.{List, _∷_, reverse}
+use Prim.Native.Nat.{ℕ, _+_, _*_, _≤_, _<_}
 use lib.ListN.{length}
+use Rattle.follow.specs.Follow.{Answers, Call, Outcome}
 use Rattle.surface.specs.Limits.{most-rows}
+use Rattle.surface.specs.Rows.{Row}
 use Rattle.surface.specs.Stage.{Stage}
+use Rattle.surface.specs.Record.{Record}
+use Rattle.surface.specs.Accept.{Accepted}
 use Rattle.refusal.specs.declared.Refusal.{Refusal}
-use Rattle.refusal.specs.declared.Refusal.the-variants.{CountsOutside, RoomShort}
-use Rattle.refusal.specs.declared.Verdict.{Verdict}
-use Rattle.refusal.specs.declared.Verdict.the-variants.{Passes}
+use Rattle.refusal.specs.declared.Refusal.the-variants.{CountsOutside, RoomShort, RecordFails}
 use Rattle.refusal.specs.declared.Verdict.the-variants as verdict
 use Rattle.refusal.specs.First.{Clause, _when_, First}
 use Rattle.faults.specs.Counts.{RowsFit, CornersFit}
 use Rattle.faults.specs.Order.{row-lines}
-use Rattle.record.specs.Layout.{width}
-use Rattle.grow.specs.Room.{standing}
+use Rattle.record.specs.Layout.{count, records, WholeRecords}
+use Rattle.record.specs.Front.{standing, filled}
 use Rattle.regrow.specs.declared.Regrown.{Regrown}
-use Rattle.regrow.specs.declared.Regrown.the-variants.{Refused}
-use Rattle.regrow.specs.Reached.{count, need, GrownIn}
+use Rattle.regrow.specs.declared.Regrown.the-variants.{Done, Stopped, Refused}
 
 -- not 2: the rows told and the corner count are within their limits, the log is a multiple of 10, and the rows would not pass 1,024
 pub record GrowFits (n m : ℕ) (log : List ℕ) : Type 0 where
   pub rows : RowsFit m
   pub corners : CornersFit n
-  pub tens : length log % width ≡ 0
+  pub whole : WholeRecords log
   pub most : m + 2 * count log ≤ most-rows
+
+-- growing back needs 3 x (rows + 2k) numbers
+abbrev pub need : ℕ → List ℕ → ℕ
+need m log = 3 * (m + 2 * count log)
 
 -- 2, 3, then 5 to 11 of the rows that stand in the room
 unfoldable pub grow-lines : ℕ → ℕ → List ℕ → List ℕ → List Clause
@@ -34,15 +39,31 @@ grow-lines n m room log =
     ∷ (RoomShort when (length room < need m log))
     ∷ row-lines false n (standing m room)
 
--- the verdict on growing back: the first that holds; and where none does, a stage, with room
-pub record Judged (n m : ℕ) (room log : List ℕ) (v : Verdict) : Type 0 where
-  pub holds : First (grow-lines n m room log) v
-  pub room-enough : v ≡ Passes → need m log ≤ length room
-  pub stage : v ≡ Passes → Stage n (standing m room)
+-- the answers of growing back and of replay: both answer how many records were done
+abbrev pub regrown : Answers Refusal Refusal Regrown
+regrown = record { refused = Refused; finished = Done; stopped = λ r k. Stopped k }
 
--- the answer a to growing back a log on the m rows over n corners that stand in a room, and what then stands there
-pub data GrownAs (n m : ℕ) (room log : List ℕ) (a : Regrown) (room′ : List ℕ) : Type 0 where
-  -- every refusal but 13 leaves all untouched
-  refused : {e : Refusal} → First (grow-lines n m room log) (verdict.Refused e) → a ≡ Refused e → room′ ≡ room → GrownAs n m room log a room′
-  -- else the rows that stand are a stage, the answer counts the records done, and the rows reached stand in the room; what lies past them is as it was
-  grown : First (grow-lines n m room log) Passes → Stage n (standing m room) → GrownIn n m room log a room′ → GrownAs n m room log a room′
+-- 13: the record is accepted to no table
+abbrev pub NotAccepted : ℕ → List Row → Record → Refusal → Type 0
+NotAccepted n T k r = ((T₀ : List Row) → ¬ Accepted n T k T₀) × (r ≡ RecordFails)
+
+-- growing back a log on the m rows over n corners that stand in a room
+abbrev pub growing : ℕ → ℕ → List ℕ → List ℕ → Call (List Row) Record Refusal Refusal Regrown (List ℕ)
+growing n m room log = record {
+  -- the first that holds; where none does, the rows that stand are a stage
+  Refuses = λ e. First (grow-lines n m room log) (verdict.Refused e);
+  Passes = First (grow-lines n m room log) verdict.Passes × Stage n (standing m room);
+  -- a log is grown back from its last record to its first
+  items = reverse (records log);
+  start = standing m room;
+  Does = Accepted n;
+  Fails = NotAccepted n;
+  answers = regrown;
+  -- every refusal but 13 leaves all untouched; else the rows reached stand in the room, and what lies past them is as it was
+  lent = room;
+  left = λ T. filled T room;
+}
+
+-- the answer a to growing back, and what then stands in the room
+pub record GrownAs (n m : ℕ) (room log : List ℕ) (a : Regrown) (room′ : List ℕ) : Type 0 where
+  pub outcome : Outcome (growing n m room log) a room′

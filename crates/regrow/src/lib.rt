@@ -2,8 +2,8 @@
 use refusal::Refusal;
 use refusal::Verdict;
 ghost use Rattle.faults.specs.Tells.{Tells};
-ghost use Rattle.regrow.specs.Reached.{Ready, GrownIn};
-ghost use Rattle.regrow.specs.Outcome.{GrowFits, Judged, GrownAs};
+ghost use Rattle.regrow.specs.Outcome.{GrowFits, GrownAs};
+ghost use Rattle.regrow.specs.Inner.{Judged, Ready, GrownIn};
 
 // What growing back and replay answer: all records done, those before one that fails, or the refusal.
 pub enum Regrown {

@@ -20,12 +20,12 @@ use Rattle.faults.proofs.Order.{after-2, stage-passes}
 use Rattle.run.proofs.Main.{replayed-stage, replayed-rows}
 use Rattle.record.specs.Layout.{records}
 use Rattle.record.proofs.Log.{first-length}
-use Rattle.grow.specs.Room.{standing}
+use Rattle.record.specs.Front.{standing}
 use Rattle.grow.proofs.Filling.{standing-front}
 use Rattle.regrow.specs.declared.Regrown.{Regrown}
 use Rattle.regrow.specs.declared.Regrown.the-variants.{Done, Stopped, Refused}
 use Rattle.regrow.specs.Answer.{told, fails-after, Did}
-use Rattle.regrow.specs.Reached.{count}
+use Rattle.record.specs.Layout.{count}
 use Rattle.regrow.proofs.Counted.{did-either, did-refused, done-one, stopped-one, done-stopped, done-refused, stopped-refused}
 use Rattle.replay.specs.Redone.{Redone, all, stopped}
 use Rattle.replay.specs.Outcome.{ReplayFits, replay-lines, ReplayedAs, refused, replayed}

@@ -14,10 +14,11 @@ use Rattle.run.proofs.Main.{step-one}
 use Rattle.record.specs.declared.Record.{Record}
 use Rattle.record.specs.Layout.{width, meant, record-at, records}
 use Rattle.record.proofs.Places.{records-length, records-at, records-from}
-use Rattle.step.specs.Front.{front, SteppedFront, Fallen}
+use Rattle.record.specs.Front.{front}
+use Rattle.step.specs.Front.{SteppedFront, Fallen}
 use Rattle.step.proofs.Front.{fallen-none, front-replays, fallen-on, fallen-left}
 use Rattle.regrow.specs.declared.Regrown.the-variants.{Done, Stopped}
-use Rattle.regrow.specs.Reached.{count}
+use Rattle.record.specs.Layout.{count}
 use Rattle.replay.specs.Redone.{Accepts, all, stopped, RedoneIn}
 
 -- one step more at the end

@@ -18,7 +18,7 @@ use Rattle.faults.specs.Order.{row-lines}
 use Rattle.record.specs.Layout.{width}
 use Rattle.regrow.specs.declared.Regrown.{Regrown}
 use Rattle.regrow.specs.declared.Regrown.the-variants.{Refused}
-use Rattle.regrow.specs.Reached.{count}
+use Rattle.record.specs.Layout.{count}
 use Rattle.replay.specs.Redone.{RedoneIn}
 
 -- not 2: the table and the corner count are within their limits, the log is a multiple of 10, and no fewer than 4 rows would stand

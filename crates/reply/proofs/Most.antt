@@ -10,7 +10,8 @@ use Rattle.surface.specs.Lists.{_∈_}
 use Rattle.surface.specs.Rows.{Row, row, rows, flat, turn-0, turn-1, turn-2}
 use Rattle.surface.specs.Table.{Follows}
 use Rattle.surface.specs.Stage.{Stage, InRange}
-use Rattle.surface.specs.Record.{Record, Replays, Replayed, no-step, one-step}
+use Rattle.follow.specs.Leads.{no-step, one-step}
+use Rattle.surface.specs.Record.{Record, Replays, Replayed}
 use Rattle.surface.proofs.Flat.{flat-length, rows-length, at-place}
 use Rattle.surface.proofs.TwoPlaces.{two-places}
 use Rattle.refusal.specs.declared.Refusal.{Refusal}
@@ -83,7 +84,7 @@ flat-few (row i j k ∷ T) h = let f = h (row i j k) (List·Memᴰ·head refl) i
 log-few : {n : ℕ} {T T′ : List Row} {l : List Record} → Stage n T → Replayed T l T′ → Few (log-of l)
 unfolding log-of
 log-few s (no-step e) = tt
-log-few s (one-step {k = k} {l = l} r w) = few-append (numbers k) (log-of l) (record-few s r) (log-few (step-stage s r) w)
+log-few s (one-step {i = k} {l = l} r w) = few-append (numbers k) (log-of l) (record-few s r) (log-few (step-stage s r) w)
 
 -- ---- lines
 

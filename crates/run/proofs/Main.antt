@@ -10,7 +10,9 @@ use Rattle.surface.specs.Lists.{_∈_, Exactly}
 use Rattle.surface.specs.Rows.{Row}
 use Rattle.surface.specs.Table.{Used}
 use Rattle.surface.specs.Stage.{Stage}
-use Rattle.surface.specs.Record.{at, leaving, Record, placed, Replays, Replayed, no-step, one-step}
+use Rattle.follow.specs.Leads.{no-step, one-step}
+use Rattle.follow.proofs.Leading.{leads-keep}
+use Rattle.surface.specs.Record.{at, leaving, Record, placed, Replays, Replayed}
 use Rattle.surface.specs.Euler.{Euler}
 use Rattle.surface.proofs.Main.{contraction, euler-kept, euler-there, euler-one, corners-there, two-fewer, one-fewer, counts-one, left}
 use Rattle.run.specs.Run.{NotAfter, lower, level, Least, Taken, none-yet, one-more, Over, Run}
@@ -97,26 +99,25 @@ module _ {P : ℕ → ℕ → Type 0} where
 
 -- replayed steps keep a stage, its Euler number, and take two rows and one corner each
 pub replayed-stage : {n : ℕ} {T T′ : List Row} {l : List Record} → Stage n T → Replayed T l T′ → Stage n T′
-replayed-stage s (no-step e) = rw e at s
-replayed-stage s (one-step r t) = replayed-stage (step-stage s r) t
+replayed-stage {n} s w = leads-keep (Stage n) (λ T T′ k z r. step-stage z r) s w
 
 pub replayed-rows : {n : ℕ} {T T′ : List Row} {l : List Record} → Stage n T → Replayed T l T′ → length T ≡ length T′ + 2 * length l
 replayed-rows s (no-step e) = let h = ap length e in omega arith
-replayed-rows {n} {T} s (one-step {T₁ = T₁} r t) =
+replayed-rows {n} {T} s (one-step {u = T₁} r t) =
     let i = replayed-rows (step-stage s r) t in
     let h : length T ≡ 2 + length T₁ = rw (r .leaves) at (two-fewer n T s _ _ (r .meets)) in
     omega arith
 
 pub replayed-euler : {n : ℕ} {T T′ : List Row} {l : List Record} {χ χ′ : ℤ} → Stage n T → Replayed T l T′ → Euler T χ → Euler T′ χ′ → χ ≡ χ′
 replayed-euler {n} {T} s (no-step e) c d = euler-one n T s c (rw (sym e) at d)
-replayed-euler {n} {T} s (one-step {T₁ = T₁} r t) c d =
+replayed-euler {n} {T} s (one-step {u = T₁} r t) c d =
     let z = step-stage s r in
     let m = euler-there n T₁ z in
     step-euler s r c (m .1) ∙ replayed-euler z t (m .1) d
 
 pub replayed-corners : {n : ℕ} {T T′ : List Row} {l : List Record} {v v′ : ℕ} → Stage n T → Replayed T l T′ → Exactly (Used T) v → Exactly (Used T′) v′ → v ≡ v′ + length l
 replayed-corners s (no-step e) c d = let h = counts-one c (rw (sym e) at d) in omega arith
-replayed-corners {n} {T} s (one-step {T₁ = T₁} r t) c d =
+replayed-corners {n} {T} s (one-step {u = T₁} r t) c d =
     let z = step-stage s r in
     let m = corners-there n T₁ z in
     let h = step-corners s r c (m .1) in

@@ -10,7 +10,8 @@ use Rattle.surface.specs.Lists.{_∈_}
 use Rattle.surface.specs.Rows.{Row}
 use Rattle.surface.specs.Table.{Used}
 use Rattle.surface.specs.Stage.{Stage, Skin}
-use Rattle.surface.specs.Record.{Record, Replayed, no-step, one-step}
+use Rattle.follow.specs.Leads.{no-step, one-step}
+use Rattle.surface.specs.Record.{Record, Replayed}
 use Rattle.surface.proofs.Counted.{used-new}
 use Rattle.surface.proofs.Linked.{opposite}
 use Rattle.refusal.specs.Told.{Told}
@@ -87,7 +88,7 @@ shift-bound-begun xs L within l m t v = shift-bound xs L within (taken-cut l t .
 pub stand-in-used : {n : ℕ} {T T′ : List Row} (l : List Record) → Stage n T → Replayed T l T′ → (v : ℕ) → Used T v → Used T′ (stand-in v l)
 unfolding stand-in
 stand-in-used [] s (no-step e) v u = rw e at u
-stand-in-used {n} {T} {T′} (k ∷ l) s (one-step {T₁ = T₁} r t) v u = go (ℕ-discrete v (k .removed)) (λ w x. stand-in-used l (step-stage s r) t w x)
+stand-in-used {n} {T} {T′} (k ∷ l) s (one-step {u = T₁} r t) v u = go (ℕ-discrete v (k .removed)) (λ w x. stand-in-used l (step-stage s r) t w x)
   where
     still : {w : ℕ} → Used T w → w ≢ k .removed → Used T₁ w
     still x ne = let o = opposite n T s (r .meets) in rw (r .leaves) at (used-new n T (k .kept) (k .removed) (o .0) (o .1) s (o .2) x ne)

@@ -13,7 +13,8 @@ use Rattle.surface.proofs.Main.{contraction}
 use Rattle.record.specs.declared.Record.{Record}
 use Rattle.record.specs.Layout.{meant}
 use Rattle.step.specs.Step.{Stepped}
-use Rattle.step.specs.Front.{front, SteppedFront, Fallen}
+use Rattle.record.specs.Front.{front}
+use Rattle.step.specs.Front.{SteppedFront, Fallen}
 
 pub step-in : (t : List ℕ) (r a b : ℕ) (k : Record) (p : List ℕ) → 3 * r ≤ length t → length p ≡ length (front r t) → Stepped (front r t) a b k p → SteppedFront t r a b k (p ++ drop (3 * r) t)
 step-in t r a b k p h same s =

@@ -2,14 +2,11 @@
 use mathlib.Core.Path.{_≡_}
 use mathlib.Core.List.{List, _++_}
 use Prim.Native.Nat.{ℕ, _-_, _*_, _≤_}
-use lib.ListN.{length, take, drop, replicate}
+use lib.ListN.{length, drop, replicate}
 use Rattle.surface.specs.Stage.{StageTable}
 use Rattle.record.specs.declared.Record.{Record}
+use Rattle.record.specs.Front.{front}
 use Rattle.step.specs.Step.{Stepped}
-
--- the front of a lent table, r rows of it
-abbrev pub front : ℕ → List ℕ → List ℕ
-front r t = take (3 * r) t
 
 -- the step of the edge from a up to b on the front of a lent table; what lies past it stays as it was
 pub record SteppedFront (t : List ℕ) (r a b : ℕ) (k : Record) (t′ : List ℕ) : Type 0 where

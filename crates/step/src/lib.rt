@@ -11,7 +11,8 @@ ghost use lib.Seq.{sets};
 ghost use Rattle.surface.specs.Limits.{most-rows};
 ghost use Rattle.step.specs.Flat.{has, swap, leaves, after, Moved};
 ghost use Rattle.step.specs.Step.{Ready, NextLeaving, SomeLeaves, Recorded, Stepped};
-ghost use Rattle.step.specs.Front.{front, SteppedFront};
+ghost use Rattle.record.specs.Front.{front};
+ghost use Rattle.step.specs.Front.{SteppedFront};
 
 // Whether a row holds a number.
 fn holds(a: u32, x: u32, y: u32, z: u32) -> bool

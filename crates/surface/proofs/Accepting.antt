@@ -25,12 +25,12 @@ use Rattle.surface.proofs.Walked.{grow-back, grow-back-grown}
 -- no second table is accepted
 pub accepted-one : {n₁ n₂ : ℕ} {T′ T₁ T₂ : List Row} {k : Record} → Accepted n₁ T′ k T₁ → Accepted n₂ T′ k T₂ → T₁ ≡ T₂
 accepted-one {n₁} {n₂} {T₁ = T₁} {T₂ = T₂} {k = k} g h =
-    no-second n₁ n₂ (k .kept) (k .removed) T₁ T₂ (g .stage) (h .stage) (g .meets) (h .meets) (g .back ∙ sym (h .back)) (g .record-is ∙ sym (h .record-is))
+    no-second n₁ n₂ (k .kept) (k .removed) T₁ T₂ (g .stage) (h .stage) (g .replays .meets) (h .replays .meets) (g .replays .leaves ∙ sym (h .replays .leaves)) (g .replays .record-is ∙ sym (h .replays .record-is))
 
 -- what is accepted meets the local rule
 pub accepted-local : {n : ℕ} {T′ T : List Row} {k : Record} → Accepted n T′ k T → Local n T′ k
 accepted-local {n} {T′} {T} {k} g = record {
-  lower = g .lower;
+  lower = g .replays .lower;
   below = g .below;
   unused = g .unused;
   in-order = g .grows .in-order;
@@ -51,7 +51,7 @@ accepted-local {n} {T′} {T} {k} g = record {
     b = k .removed
 
     w : (x : ℕ) × (y : ℕ) × Opposite T a b x y
-    w = opposite n T (g .stage) (g .meets)
+    w = opposite n T (g .stage) (g .replays .meets)
 
     x : ℕ
     x = w .0
@@ -63,19 +63,19 @@ accepted-local {n} {T′} {T} {k} g = record {
     o = w .2
 
     len : length T ≡ 2 + length T′
-    len = rw (g .back) at (two-leave n T a b x y (g .stage) o)
+    len = rw (g .replays .leaves) at (two-leave n T a b x y (g .stage) o)
 
     at-x : Edge T′ a x
-    at-x = rw (g .back) at (from-a n T a b x y (g .stage) o ((g .stage) .both (b, turn (turn (o .left)))) (λ e. b≢x n T a b x y (g .stage) o (sym e)))
+    at-x = rw (g .replays .leaves) at (from-a n T a b x y (g .stage) o ((g .stage) .both (b, turn (turn (o .left)))) (λ e. b≢x n T a b x y (g .stage) o (sym e)))
 
     at-y : Edge T′ a y
-    at-y = rw (g .back) at (from-a n T a b x y (g .stage) o (b, turn (o .right)) (y≢b n T a b x y (g .stage) o))
+    at-y = rw (g .replays .leaves) at (from-a n T a b x y (g .stage) o (b, turn (o .right)) (y≢b n T a b x y (g .stage) o))
 
     in-1 : k .row-1 ∈ T
-    in-1 = (leaving-out a b T {i = k .place-1} {r = k .row-1} (rw (g .record-is) (List·Memᴰ·head refl))) .0
+    in-1 = (leaving-out a b T {i = k .place-1} {r = k .row-1} (rw (g .replays .record-is) (List·Memᴰ·head refl))) .0
 
     in-2 : k .row-2 ∈ T
-    in-2 = (leaving-out a b T {i = k .place-2} {r = k .row-2} (rw (g .record-is) (List·Memᴰ·tail (List·Memᴰ·head refl)))) .0
+    in-2 = (leaving-out a b T {i = k .place-2} {r = k .row-2} (rw (g .replays .record-is) (List·Memᴰ·tail (List·Memᴰ·head refl)))) .0
 
     ex : g .grows .x ≡ x
     ex = go (g .grows .ends)
@@ -96,7 +96,6 @@ module _ (n : ℕ) (T′ : List Row) (k : Record) (s : Stage n T′) (l : Local 
   pub local-accepts : (T : List Row) → Grown (k .kept) (k .removed) (l .x) (l .y) (placed k) T′ T → Accepted n T′ k T
   unfolding put-back
   local-accepts T g = rw (g .whole) (record {
-    lower = l .lower;
     below = l .below;
     unused = l .unused;
     grows = record {
@@ -108,9 +107,12 @@ module _ (n : ℕ) (T′ : List Row) (k : Record) (s : Stage n T′) (l : Local 
       grown = record { middle = g .middle; each = g .each; whole = refl };
     };
     stage = stage;
-    meets = meets n T₀ stage (T-opposite n T′ a b (l .x) (l .y) s (l .at-x) (l .at-y) (l .differ) a≢b (l .unused) (l .below) (g .middle) (g .each) i j (k .row-1) (k .row-2) (l .ends));
-    back = T-back n T′ a b (l .x) (l .y) s (l .at-x) (l .at-y) (l .differ) a≢b (l .unused) (l .below) (g .middle) (g .each) i j (k .row-1) (k .row-2) (l .ends);
-    record-is = T-leaving n T′ a b (l .x) (l .y) s (l .at-x) (l .at-y) (l .differ) a≢b (l .unused) (l .below) (g .middle) (g .each) i j (k .row-1) (k .row-2) (l .ends) (l .in-order) (l .inside);
+    replays = record {
+      lower = l .lower;
+      meets = meets n T₀ stage (T-opposite n T′ a b (l .x) (l .y) s (l .at-x) (l .at-y) (l .differ) a≢b (l .unused) (l .below) (g .middle) (g .each) i j (k .row-1) (k .row-2) (l .ends));
+      leaves = T-back n T′ a b (l .x) (l .y) s (l .at-x) (l .at-y) (l .differ) a≢b (l .unused) (l .below) (g .middle) (g .each) i j (k .row-1) (k .row-2) (l .ends);
+      record-is = T-leaving n T′ a b (l .x) (l .y) s (l .at-x) (l .at-y) (l .differ) a≢b (l .unused) (l .below) (g .middle) (g .each) i j (k .row-1) (k .row-2) (l .ends) (l .in-order) (l .inside);
+    };
   })
     where
       a : ℕ

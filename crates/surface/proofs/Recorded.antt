@@ -1,18 +1,20 @@
 -- What a step writes: two rows, the earlier first. Growing back accepts it.
 use mathlib.Core.Path.{_≡_, refl, sym, _∙_}
 use mathlib.Core.Logic.{_⊎_, inl, inr, _↔_}
-use mathlib.Core.List.{List, [], _∷_, List·Memᴰ·cases-cons, List·Memᴰ·eq-of-singleton}
+use mathlib.Core.List.{List, [], _∷_, List·Memᴰ·cases-cons, List·Memᴰ·eq-of-singleton, reverse-reverse}
 use Prim.Native.Nat.{ℕ, _<_}
 use native.Mathlib.Omega.{arith}
+use Rattle.follow.specs.Leads.{Leads}
+use Rattle.follow.proofs.Leading.{leads-one, leads-keep, leads-back}
 use Rattle.surface.specs.Lists.{_∈_}
 use Rattle.surface.specs.Rows.{Row}
 use Rattle.surface.specs.Table.{Follows}
 use Rattle.surface.specs.Stage.{Stage}
 use Rattle.surface.specs.Link.{Meets, Opposite}
 use Rattle.surface.specs.Contract.{at-0, at-1, Stays, contract}
-use Rattle.surface.specs.Record.{at, leaving, Record, placed, Replays, Replayed, no-step, one-step}
+use Rattle.surface.specs.Record.{at, leaving, Record, placed, Replays, Replayed}
 use Rattle.surface.specs.Grow.{Ends, in-order, crossed}
-use Rattle.surface.specs.Accept.{Accepted, GrownBack, no-record, one-record}
+use Rattle.surface.specs.Accept.{Accepted, GrownBack}
 use Rattle.surface.proofs.Once.{turn}
 use Rattle.surface.proofs.Renumber.{stays-turned}
 use Rattle.surface.proofs.Regrow.{Third, third-0, third-1, third-2, third}
@@ -43,7 +45,6 @@ module _ (n : ℕ) (T : List Row) (k : Record) (s : Stage n T) (m : Meets T (k .
   -- growing back accepts it, and gives the table back
   pub step-accepted : a < b → Accepted n (contract a b T) k T
   step-accepted h = record {
-    lower = h;
     below = s .below (o .right);
     unused = λ u. (used-old n T a b x y s o u) .1 refl;
     grows = record {
@@ -55,9 +56,7 @@ module _ (n : ℕ) (T : List Row) (k : Record) (s : Stage n T) (m : Meets T (k .
       grown = rw is at (grown n T a b x y s o);
     };
     stage = s;
-    meets = m;
-    back = refl;
-    record-is = is;
+    replays = record { lower = h; meets = m; leaves = refl; record-is = is };
   }
     where
       x : ℕ
@@ -113,24 +112,20 @@ written-replays n T a b s m h = record { lower = h; meets = m; leaves = refl; re
 
 -- growing back accepts just what replaying accepts, the other way round
 pub replay-iff : (n : ℕ) (T : List Row) (k : Record) (T′ : List Row) → Accepted n T′ k T ↔ (Stage n T × Replays T k T′)
-replay-iff n T k T′ = (λ g. (g .stage, record { lower = g .lower; meets = g .meets; leaves = g .back; record-is = g .record-is }), λ h. there (h .0) (h .1))
+replay-iff n T k T′ = (λ g. (g .stage, g .replays), λ h. there (h .0) (h .1))
   where
     there : Stage n T → Replays T k T′ → Accepted n T′ k T
     there s r = rw (r .leaves) at (step-accepted n T k s (r .meets) (r .record-is) (r .lower))
 
-pub grown-replayed : {n : ℕ} {T T′ : List Row} {l : List Record} → GrownBack n T′ l T → Replayed T l T′
-grown-replayed (no-record e) = no-step e
-grown-replayed {n} (one-record g h) = one-step (((replay-iff _ _ _ _) .0 h) .1) (grown-replayed g)
+pub grown-replayed : (n : ℕ) {T T′ : List Row} (l : List Record) → GrownBack n T′ l T → Replayed T l T′
+grown-replayed n l g = rw (reverse-reverse l) at (leads-back (λ T. Unit {0}) (λ T T′ k u a. (tt, a .replays)) tt g)
 
 pub replayed-grown : {n : ℕ} {T T′ : List Row} {l : List Record} → Stage n T → Replayed T l T′ → GrownBack n T′ l T
-replayed-grown s (no-step e) = no-record e
-replayed-grown {n} s (one-step {T = T} {k = k} r c) = one-record (replayed-grown (rw (r .leaves) at (contraction n T (k .kept) (k .removed) s (r .meets))) c) ((replay-iff _ _ _ _) .1 (s, r))
+replayed-grown {n} s r = leads-back (Stage n) (λ T T′ k z d. (rw (d .leaves) at (contraction n T (k .kept) (k .removed) z (d .meets)), replay-iff n T k T′ .1 (z, d))) s r
 
 -- a log grows back to one table, and that is a stage
-pub grown-back-one : {n : ℕ} {T′ T₁ T₂ : List Row} {l : List Record} → GrownBack n T′ l T₁ → GrownBack n T′ l T₂ → T₁ ≡ T₂
-grown-back-one (no-record e) (no-record f) = e ∙ sym f
-grown-back-one {n} (one-record g h) (one-record g₂ h₂) = accepted-one (rw (grown-back-one g g₂) at h) h₂
+pub grown-back-one : (n : ℕ) {T′ T₁ T₂ : List Row} (l : List Record) → GrownBack n T′ l T₁ → GrownBack n T′ l T₂ → T₁ ≡ T₂
+grown-back-one n l g h = leads-one (λ T T₁ T₂ k a b. accepted-one a b) g h
 
-pub grown-back-stage : {n : ℕ} {T′ T : List Row} {l : List Record} → Stage n T′ → GrownBack n T′ l T → Stage n T
-grown-back-stage s (no-record e) = rw e s
-grown-back-stage s (one-record g h) = h .stage
+pub grown-back-stage : (n : ℕ) {T′ T : List Row} {l : List Record} → Stage n T′ → Leads (Accepted n) T′ l T → Stage n T
+grown-back-stage n s g = leads-keep (Stage n) (λ T T′ k z a. a .stage) s g

@@ -1,29 +1,24 @@
 -- When a record is accepted for growing back: the words of the scope, and the local rule, which looks round the kept corner alone.
-use mathlib.Core.Path.{_≡_}
 use mathlib.Core.Logic.{_≢_}
-use mathlib.Core.List.{List, [], _∷_}
+use mathlib.Core.List.{List, reverse}
 use Prim.Native.Nat.{ℕ, _+_, _≤_, _<_}
 use lib.ListN.{length}
+use Rattle.follow.specs.Leads.{Leads}
 use Rattle.surface.specs.Limits.{most-rows}
 use Rattle.surface.specs.Rows.{Row}
 use Rattle.surface.specs.Table.{Edge, Used}
 use Rattle.surface.specs.Stage.{Stage}
-use Rattle.surface.specs.Link.{Meets}
-use Rattle.surface.specs.Contract.{contract}
-use Rattle.surface.specs.Record.{Record, placed, leaving}
+use Rattle.surface.specs.Record.{Record, Replays}
 use Rattle.surface.specs.Grow.{Ends, Grows}
 
 -- kept is below removed, removed is below the corner count and unused, the grown table is a stage, its edge meets the link condition, and
--- contracting it gives the present table and this record
+-- contracting it gives the present table and this record: the record is one that replays from the grown table to the present one
 pub record Accepted (n : ℕ) (T′ : List Row) (k : Record) (T : List Row) : Type 0 where
-  pub lower : k .kept < k .removed
   pub below : k .removed < n
   pub unused : ¬ Used T′ (k .removed)
   pub grows : Grows T′ k T
   pub stage : Stage n T
-  pub meets : Meets T (k .kept) (k .removed)
-  pub back : contract (k .kept) (k .removed) T ≡ T′
-  pub record-is : leaving (k .kept) (k .removed) T ≡ placed k
+  pub replays : Replays T k T′
 
 -- the local rule: x and y are two neighbours of the kept corner
 pub record Local (n : ℕ) (T′ : List Row) (k : Record) : Type 0 where
@@ -41,6 +36,5 @@ pub record Local (n : ℕ) (T′ : List Row) (k : Record) : Type 0 where
   pub at-y : Edge T′ (k .kept) y
 
 -- a log grown back from T′ to T, last record first
-pub data GrownBack (n : ℕ) : List Row → List Record → List Row → Type 0 where
-  no-record : {T′ T : List Row} → T ≡ T′ → GrownBack n T′ [] T
-  one-record : {T′ T₁ T : List Row} {k : Record} {l : List Record} → GrownBack n T′ l T₁ → Accepted n T₁ k T → GrownBack n T′ (k ∷ l) T
+abbrev pub GrownBack : ℕ → List Row → List Record → List Row → Type 0
+GrownBack n T′ l T = Leads (Accepted n) T′ (reverse l) T

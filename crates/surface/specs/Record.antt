@@ -3,6 +3,7 @@ use mathlib.Core.Path.{_≡_}
 use mathlib.Core.Logic.{ite}
 use mathlib.Core.List.{List, [], _∷_, map}
 use Prim.Native.Nat.{ℕ, zero, suc, _<_}
+use Rattle.follow.specs.Leads.{Leads}
 use Rattle.surface.specs.Rows.{Row}
 use Rattle.surface.specs.Contract.{stays?, contract}
 use Rattle.surface.specs.Link.{Meets}
@@ -39,6 +40,5 @@ pub record Replays (T : List Row) (k : Record) (T′ : List Row) : Type 0 where
   pub record-is : leaving (k .kept) (k .removed) T ≡ placed k
 
 -- a log, first record first, leads from T to T′
-pub data Replayed : List Row → List Record → List Row → Type 0 where
-  no-step : {T T′ : List Row} → T ≡ T′ → Replayed T [] T′
-  one-step : {T T₁ T′ : List Row} {k : Record} {l : List Record} → Replays T k T₁ → Replayed T₁ l T′ → Replayed T (k ∷ l) T′
+abbrev pub Replayed : List Row → List Record → List Row → Type 0
+Replayed = Leads Replays

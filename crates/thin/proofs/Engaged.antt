@@ -28,7 +28,7 @@ use Rattle.length.proofs.Laws.{limit-most}
 use Rattle.least.specs.declared.Bound.{Bound}
 use Rattle.least.specs.declared.Bound.the-variants.{Free, Within}
 use Rattle.least.specs.Limited.{Allowed, Measurable}
-use Rattle.step.specs.Front.{front}
+use Rattle.record.specs.Front.{front}
 use Rattle.engine.specs.Engine.{Ready, WentOn}
 use Rattle.thin.specs.declared.Asked.{Asked}
 use Rattle.thin.specs.declared.Asked.the-variants.{Under}

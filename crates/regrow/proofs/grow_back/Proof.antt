@@ -1,6 +1,6 @@
 -- `grow_back` meets its contract.
 use mathlib.Core.Path.{refl}
-use Rattle.regrow.specs.Outcome.{refused, grown}
+use Rattle.follow.specs.Follow.{refused, followed}
 use Rattle.regrow.proofs.Judging.{grow-ready}
 use borrow.Author.Needs.{needs}
 use Rattle.regrow.proofs.grow_back.Statement.{statement}
@@ -29,7 +29,7 @@ returns : tie.Need-returns
 returns c =
     let v = c .before .v in
     let judge = c .before .before .before .judge in
-    refused (rw (v .given .1) at (judge .ensures .holds)) refl refl
+    record { outcome = refused (rw (v .given .1) at (judge .ensures .holds)) refl refl }
 
 same-length-2 : tie.Need-same-length-2
 same-length-2 c = search needs
@@ -39,7 +39,7 @@ returns-2 c =
     let enum-told = c .before .before .before .before .enum-told in
     let judge = c .before .before .before .before .before .before .judge in
     let grow-log = c .before .before .grow-log in
-    grown (rw (enum-told .given .1) at (judge .ensures .holds)) (judge .ensures .stage (enum-told .given .1)) (grow-log .ensures)
+    record { outcome = followed (rw (enum-told .given .1) at (judge .ensures .holds), judge .ensures .stage (enum-told .given .1)) (grow-log .ensures .reached) (grow-log .ensures .left) }
 
 pub grow-back-spec : {M : Type 1} → statement M
 grow-back-spec =

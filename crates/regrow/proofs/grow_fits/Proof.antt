@@ -27,7 +27,7 @@ returns-2 c =
 returns-3 : tie.Need-returns-3
 returns-3 c =
     let if3 = c .if3 in
-    tells-false (λ w. if3 .taken (w .tens))
+    tells-false (λ w. if3 .taken (w .whole))
 
 mul-if4 : tie.Need-mul-if4
 mul-if4 c = search needs
@@ -49,7 +49,7 @@ returns-5 c =
     let if2 = c .before .before .if2 in
     let if3 = c .before .if3 in
     let if4 = c .if4 in
-    tells-true (record { rows = rows-fit .ensures .when-true (not-false (rows-fit .result) (if1 .left)); corners = corners-fit .ensures .when-true (not-false (corners-fit .result) (if2 .left)); tens = if3 .left; most = if4 .left })
+    tells-true (record { rows = rows-fit .ensures .when-true (not-false (rows-fit .result) (if1 .left)); corners = corners-fit .ensures .when-true (not-false (corners-fit .result) (if2 .left)); whole = if3 .left; most = if4 .left })
 
 pub grow-fits-spec : {M : Type 1} → statement M
 grow-fits-spec =
