@@ -10,6 +10,7 @@ use Rattle.surface.specs.Rows.{rows, flat, row}
 use Rattle.surface.specs.Table.{Used}
 use Rattle.follow.specs.Leads.{one-step}
 use Rattle.surface.specs.Record.{Record, Replayed}
+use Rattle.surface.specs.Grow.{put}
 use Rattle.surface.proofs.Recorded.{replayed-grown}
 use Rattle.record.specs.Layout.{first-records}
 use Rattle.length.specs.declared.Order.the-variants.{NoLimit}
@@ -44,10 +45,20 @@ pub grow-miscounts : (k : ℕ) (r : List ℕ) → k ≢ 2 → ¬ GrownAs 6 4 O-l
 unfolding rows
 grow-miscounts k r n h = n (told-count ((restored NoLimit (case-O .0) h) .0))
 
--- rows put back the wrong way round: the first row of O is not there
-pub grow-later-first : (a : Regrown) (r : List ℕ) → getD r 1 0 ≢ 1 → ¬ GrownAs 6 4 O-last O-log a r
+-- 13 where every record was done
+pub grow-stops-where-done : (k : ℕ) (r : List ℕ) → ¬ GrownAs 6 4 O-last O-log (Stopped k) r
 unfolding rows
-grow-later-first a r n h = n (ap (λ l. getD l 1 0) ((restored NoLimit (case-O .0) h) .1))
+grow-stops-where-done k r h = let e : _≡_ {A = ℕ} 13 0 = ap (λ (v : Told). v .number) ((restored NoLimit (case-O .0) h) .0) in omega arith
+
+-- O's log grown back with the later row of each record put in first. The second record leaves (5,3,2) before (5,2,0), and not after it; the
+-- first then puts 1 on the rows from 4 forward to 2, and (0,4,1) in at place 3 before (0,1,2) at place 0. So the row at place 3, number 9 on,
+-- is (5,3,2), where O has (0,4,1)
+abbrev pub later-first : List ℕ
+later-first = flat (put 0 (row 0 1 2) (put 3 (row 0 4 1) (row 0 2 3 ∷ row 0 3 4 ∷ row 5 3 2 ∷ row 5 2 1 ∷ row 5 4 3 ∷ row 5 1 4 ∷ [])))
+
+pub grow-later-first : (a : Regrown) → ¬ GrownAs 6 4 O-last O-log a later-first
+unfolding rows flat put
+grow-later-first a h = let f : _≡_ {A = ℕ} 5 0 = ap (λ l. getD l 9 0) ((restored NoLimit (case-O .0) h) .1) in omega arith
 
 -- O's log with a first record whose removed number is used, and its last rows in a room with nines past them
 abbrev bad : Record

@@ -1,22 +1,34 @@
 -- Programs that 01 warns of: what each would answer on T or O is not allowed by the words of the contract.
-use mathlib.Core.Path.{_≡_, sym, _∙_, ap}
+use mathlib.Core.Path.{_≡_, refl, sym, _∙_, ap}
 use mathlib.Core.Logic.{_≢_}
 use mathlib.Core.List.{List, []}
-use Prim.Native.Nat.{ℕ, suc}
+use Prim.Native.Nat.{ℕ, suc, _<_}
 use native.Mathlib.Omega.{arith}
-use lib.IntN.{pos}
+use lib.IntN.{pos, _-ℤ_}
 use lib.ListN.{getD}
+use Rattle.surface.specs.Rows.{rows, flat}
+use Rattle.surface.specs.Record.{no-step}
 use Rattle.refusal.specs.declared.Refusal.{Refusal}
+use Rattle.run.specs.Run.{none-yet}
+use Rattle.figure.specs.Sum.{sixfold}
+use Rattle.record.specs.Layout.{log-of}
 use Rattle.length.specs.declared.Order.the-variants.{NoLimit}
+use Rattle.volume.specs.declared.Measured.{Measured}
 use Rattle.volume.specs.declared.Measured.the-variants.{Figure}
 use Rattle.volume.specs.Answer.{told}
-use Rattle.volume.specs.Report.{VolumeReport}
+use Rattle.volume.specs.Report.{VolumeReport, ChangeReport, Near}
+use Rattle.volume.proofs.Main.{log-volume, log-change}
+use Rattle.shift.specs.declared.Shifted.{Shifted}
+use Rattle.shift.specs.Answer as shifts
+use Rattle.shift.specs.Report.{ShiftReport, Bounded}
+use Rattle.shift.proofs.Main.{log-shift-bound}
 use Rattle.thin.specs.declared.Thinning.{Thinning}
 use Rattle.thin.specs.declared.Thinning.the-variants.{Done, Refused}
 use Rattle.thin.specs.Thin.{Thinned}
 use Rattle.thin.proofs.Main.{done-refused, done-count}
 use Rattle.cases.specs.Skins.{T, T-corners, O, O-corners, M, M-corners}
 use Rattle.cases.specs.Cases.{lent, cm-141, cm-142, O-one}
+use Rattle.cases.proofs.Skinned.{O-skin}
 use Rattle.cases.proofs.Starred.{case-T, case-M, case-O, case-141, case-142, weighs-O, weighs-one}
 
 -- one that refuses everything
@@ -34,6 +46,19 @@ tetrahedron-for-M k u m h = let e = done-count ((case-M .1 (Done (suc k)) u m h)
 -- one that contracts nothing
 pub contracts-nothing : (u m : List ℕ) → ¬ Thinned NoLimit O-corners O (lent 20) (Done 0) u m
 contracts-nothing u m h = let e = done-count ((case-O .1 (Done 0) u m h) .0) in omega arith
+
+-- it satisfies demand 3 all the same. What it leaves of O is the first table and no record: each volume shown of that table, and each change
+-- from it to itself, is within half a cubic metre of exact, and under a limit of L, any L, each corner lies within k x L of its stand-in
+pub contracts-nothing-near :
+    ((a : Measured) → VolumeReport O-corners O (told a) → Near (sixfold O-corners (rows O)) a)
+    × ((a : Measured) → ChangeReport O-corners O O (told a) → Near (sixfold O-corners (rows O) -ℤ sixfold O-corners (rows O)) a)
+    × ((L v : ℕ) → v < 6 → (a : Shifted) → ShiftReport O-corners [] v (shifts.told a) → Bounded L a)
+unfolding rows flat log-of
+contracts-nothing-near = (
+  log-volume O-skin (no-step refl),
+  log-change O-skin (no-step refl) (no-step refl),
+  λ L v h. log-shift-bound L O-skin (λ x y s. s) [] [] (none-yet refl) h,
+)
 
 -- one that does all steps under the first record: the log's second record does not remove corner 2
 pub all-under-one : (b : Thinning) (u m : List ℕ) → getD m 11 0 ≢ 2 → ¬ Thinned NoLimit O-corners O (lent 20) b u m

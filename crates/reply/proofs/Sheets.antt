@@ -28,7 +28,7 @@ use Rattle.lines.specs.Lines.{line}
 use Rattle.reply.specs.declared.Answer.{Answer}
 use Rattle.reply.specs.Text.{NO, no-text}
 use Rattle.reply.specs.Outcome.{NoSkin, bad-form, bad-skin, SkinOf, no, ok, Put, Replied}
-use Rattle.reply.specs.Inner.{most-numbers, Numbered, text-of, SheetSkin, RunPut}
+use Rattle.reply.specs.Inner.{most-numbers, text-of, SheetSkin, RunPut}
 
 read-refused : {X : Type 0} {n m : ℕ} {r : Refusal} → Read n m ≡ Refused r → X
 read-refused e = let z : _≡_ {A = ℕ} 0 1 = cc in absurd (omega arith)
@@ -72,9 +72,6 @@ sheet-refused e (read f s k w d p q) = read-refused (sym d ∙ e)
 
 -- `NO` and the number of a refusal, told as a line with no rows and no records
 module _ (r : Refusal) {z : ℤ} (e : z ≡ pos (number r)) where
-  pub no-numbered : Numbered NO (z ∷ []) 1 0 0
-  no-numbered = record { word = omega arith; count = refl; most = omega arith }
-
   pub no-told : text-of NO (z ∷ []) 1 0 0 ≡ no-text r
   unfolding text-of no-text
   no-told = append-nil (line NO (z ∷ [])) ∙ ap (λ x. line NO (x ∷ [])) e

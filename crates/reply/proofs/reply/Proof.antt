@@ -1,11 +1,11 @@
 -- `reply` meets its contract: the sheet is refused and its number told, or it is read, thinned and told.
-use mathlib.Core.Path.{sym, _∙_, ap}
+use mathlib.Core.Path.{refl, sym, _∙_, ap}
 use Prim.Native.Nat.{_*_}
 use lib.IntN.{pos}
 use lib.Seq.{length-take-le}
 use mir.Syntax.{w64}
 use mir.ValLaws.{toZ-ofZ}
-use Rattle.reply.proofs.Sheets.{sheet-refused, no-numbered, replied-no, sheet-read, replied-ok}
+use Rattle.reply.proofs.Sheets.{sheet-refused, replied-no, sheet-read, replied-ok}
 use native.Mathlib.Omega.{arith}
 use borrow.Author.Needs.{needs}
 use Rattle.reply.proofs.reply.Statement.{statement}
@@ -36,10 +36,7 @@ slice-aggregate-tell-2 : tie.Need-slice-aggregate-tell-2
 slice-aggregate-tell-2 c = search needs
 
 tell-requires : tie.Need-tell-requires
-tell-requires c κs =
-    let read = c .before .before .before .before .before .read in
-    let number-of = c .before .before .before .number-of in
-    no-numbered (read .given .0 .0) (let f = number-of .ok in toZ-ofZ w64 (pos (number-of .result)) (record { sfits = omega arith }) ∙ ap pos (number-of .ensures))
+tell-requires c κs = record { word = omega arith; count = refl; most = omega arith }
 
 enum-known-read-2 : tie.Need-enum-known-read-2
 enum-known-read-2 c = search needs
