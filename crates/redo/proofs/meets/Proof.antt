@@ -5,8 +5,8 @@ use Rattle.slots.proofs.Slots.{under-more}
 use Rattle.slots.proofs.Staged.{table-whole, table-under}
 use native.Mathlib.Omega.{arith}
 use borrow.Author.Needs.{needs}
-use Rattle.replay.proofs.meets.Statement.{statement}
-use Rattle.replay.proofs.meets.Tie as tie
+use Rattle.redo.proofs.meets.Statement.{statement}
+use Rattle.redo.proofs.meets.Tie as tie
 
 slice-aggregate-chains : tie.Need-slice-aggregate-chains
 slice-aggregate-chains c = search needs

@@ -3,8 +3,8 @@ use borrow.Author.Tests.{eqb-true, eqb-false}
 use Rattle.surface.specs.Rows.{row}
 use Rattle.surface.specs.Record.{at}
 use Rattle.faults.proofs.Tells.{tells-false}
-use Rattle.replay.proofs.same_leaving.Statement.{statement}
-use Rattle.replay.proofs.same_leaving.Tie as tie
+use Rattle.redo.proofs.same_leaving.Statement.{statement}
+use Rattle.redo.proofs.same_leaving.Tie as tie
 
 returns : tie.Need-returns
 returns c =

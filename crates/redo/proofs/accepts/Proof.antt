@@ -1,11 +1,11 @@
 -- `accepts` meets its contract, test by test.
 use borrow.Author.Tests.{not-true, not-false}
 use Rattle.faults.proofs.Tells.{tells-false}
-use Rattle.replay.proofs.Accepting.{not-lower, not-below, accepted, same-earlier, same-later}
+use Rattle.redo.proofs.Accepting.{not-lower, not-below, accepted, same-earlier, same-later}
 use native.Mathlib.Omega.{arith}
 use borrow.Author.Needs.{needs}
-use Rattle.replay.proofs.accepts.Statement.{statement}
-use Rattle.replay.proofs.accepts.Tie as tie
+use Rattle.redo.proofs.accepts.Statement.{statement}
+use Rattle.redo.proofs.accepts.Tie as tie
 
 returns : tie.Need-returns
 returns c =

@@ -10,7 +10,7 @@ use Rattle.surface.specs.Record.{placed}
 use Rattle.record.specs.declared.Record.{Record}
 use Rattle.record.specs.Layout.{meant}
 use Rattle.step.specs.Step.{Recorded}
-use Rattle.replay.specs.Redone.{placed-as, Accepts}
+use Rattle.redo.specs.Redo.{placed-as, Accepts}
 
 module _ (t : List ℕ) (r : Record) where
   abbrev a : ℕ

@@ -1,0 +1,77 @@
+// A record done again in place, where it is accepted.
+use record::Corner;
+use record::Leaving;
+use record::Record;
+ghost use mathlib.Core.Path.{_≡_};
+ghost use Prim.Native.Nat.{_*_, _≤_, _<_};
+ghost use lib.ListN.{length};
+ghost use Rattle.surface.specs.Rows.{rows};
+ghost use Rattle.surface.specs.Stage.{StageTable};
+ghost use Rattle.surface.specs.Link.{Meets};
+ghost use Rattle.faults.specs.Tells.{Tells};
+ghost use Rattle.record.specs.Layout.{meant};
+ghost use Rattle.record.specs.Front.{front};
+ghost use Rattle.redo.specs.Redo.{placed-as, Accepts, Redid};
+
+// Whether two rows with their places are the same.
+fn same_leaving(a: Leaving, b: Leaving) -> bool
+    ensures { λ r. ⌜ Tells r (placed-as a ≡ placed-as b) (¬ (placed-as a ≡ placed-as b)) ⌝ }
+{
+    if a.place.0 != b.place.0 {
+        return false;
+    }
+    if a.a.0 != b.a.0 {
+        return false;
+    }
+    if a.b.0 != b.b.0 {
+        return false;
+    }
+    a.c.0 == b.c.0
+}
+
+// Whether the edge ab of a stage may be contracted.
+fn meets(t: &[u32], n: usize, a: Corner, b: Corner) -> bool
+    requires { ⌜ StageTable n (now t) ⌝ }
+    requires { ⌜ (a .0 < n) × (b .0 < n) ⌝ }
+    ensures { λ r. ⌜ Tells r (Meets (rows (now (t .entry))) (a .0) (b .0)) (¬ Meets (rows (now (t .entry))) (a .0) (b .0)) ⌝ }
+{
+    let mut last = [0usize; surface::MOST_CORNERS];
+    let mut prev = [0usize; slots::MOST_SLOTS];
+    slots::chains(t, &mut last, &mut prev);
+    link::may_contract(t, &last, &prev, a, b)
+}
+
+// Whether a record is accepted on a stage: its step may be done, and writes this record.
+fn accepts(t: &[u32], n: usize, r: Record) -> bool
+    requires { ⌜ StageTable n (now t) ⌝ }
+    ensures { λ b. ⌜ Tells b (Accepts (rows (now (t .entry))) (meant r)) (¬ Accepts (rows (now (t .entry))) (meant r)) ⌝ }
+{
+    if r.removed.0 <= r.kept.0 {
+        return false;
+    }
+    if n <= r.removed.0 as usize {
+        return false;
+    }
+    if !meets(t, n, r.kept, r.removed) {
+        return false;
+    }
+    let e = step::record_of(t, r.kept, r.removed);
+    if !same_leaving(e.earlier, r.earlier) {
+        return false;
+    }
+    same_leaving(e.later, r.later)
+}
+
+// Inner: does a record again on the first rows of a lent table where it is accepted, and tells whether it is.
+pub fn redo(table: &mut [u32], rows: usize, corners: usize, r: Record) -> bool
+    requires { ⌜ StageTable corners (front rows (now table)) ⌝ }
+    requires { ⌜ 3 * rows ≤ length (now table) ⌝ }
+    ensures { λ b. ⌜ Redid rows (meant r) (now (table .entry)) b (now (table .exit)) ⌝ }
+{
+    let end = 3 * rows;
+    if !accepts(&table[..end], corners, r) {
+        return false;
+    }
+    step::contract_front(table, rows, r.kept, r.removed);
+    true
+}
