@@ -8,7 +8,7 @@ use crate::parts::{catch_up, grid, shorter_ring};
 use crate::protocol::*;
 use crate::sheet;
 use crate::skin::*;
-use crate::step::thin;
+use crate::step::{thin, WIDTH};
 
 pub fn answer(request: &Request) -> Response {
     if let Some(number) = first_that_holds(&questions(request)) {
@@ -104,7 +104,7 @@ fn thin_questions(request: &Request) -> Vec<Question<'_>> {
     let mut questions: Vec<Question> = vec![
         (1, Box::new(move || !unlimited && limit(request).is_none())),
         (2, Box::new(move || table_length_refused(&table) || corner_length_refused(&corners))),
-        (3, Box::new(move || request.arguments[4].len() < 10 * count.saturating_sub(4))),
+        (3, Box::new(move || request.arguments[4].len() < WIDTH * count.saturating_sub(4))),
         (4, Box::new(move || coordinate_refused(&given))),
     ];
     questions.extend(table_questions(rows, count, Table::First));
@@ -124,8 +124,8 @@ fn grow_questions(request: &Request) -> Vec<Question<'_>> {
     let (told, count, room, log) =
         (whole(request, 0), whole(request, 1), numbers(request, 2), request.arguments[3].len());
     // A count past every limit is refused by it; 2,000 keeps the sums small and is past it too.
-    let grown = told.min(2_000) + 2 * (log / 10);
-    let counts = ROWS.contains(&told) && CORNERS.contains(&count) && log % 10 == 0 && grown <= *ROWS.end();
+    let grown = told.min(2_000) + 2 * (log / WIDTH);
+    let counts = ROWS.contains(&told) && CORNERS.contains(&count) && log % WIDTH == 0 && grown <= *ROWS.end();
     let rows: Vec<Row> = rows_of(&room).into_iter().take(told).collect();
     let mut questions: Vec<Question> =
         vec![(2, Box::new(move || !counts)), (3, Box::new(move || room.len() < 3 * grown))];
@@ -149,8 +149,8 @@ fn grown_back(request: &Request) -> Response {
 fn replay_questions(request: &Request) -> Vec<Question<'_>> {
     let (count, table, log) = (whole(request, 0), numbers(request, 1), request.arguments[2].len());
     let rows = rows_of(&table);
-    let left = rows.len() as i64 - 2 * (log / 10) as i64;
-    let counts = !table_length_refused(&table) && CORNERS.contains(&count) && log % 10 == 0 && left >= 4;
+    let left = rows.len() as i64 - 2 * (log / WIDTH) as i64;
+    let counts = !table_length_refused(&table) && CORNERS.contains(&count) && log % WIDTH == 0 && left >= 4;
     let mut questions: Vec<Question> = vec![(2, Box::new(move || !counts))];
     questions.extend(table_questions(rows, count, Table::Stage));
     questions
@@ -195,9 +195,9 @@ fn shift_questions(request: &Request) -> Vec<Question<'_>> {
     let log = &request.arguments[2];
     let past = move |&word: &Word| word >= count as Word;
     vec![
-        (2, Box::new(move || corner_length_refused(&corners) || !log.len().is_multiple_of(10))),
+        (2, Box::new(move || corner_length_refused(&corners) || !log.len().is_multiple_of(WIDTH))),
         (4, Box::new(move || coordinate_refused(&given))),
-        (5, Box::new(move || past(&request.arguments[0][0]) || log.chunks(10).any(|r| r.iter().take(2).any(past)))),
+        (5, Box::new(move || past(&request.arguments[0][0]) || log.chunks(WIDTH).any(|r| r.iter().take(2).any(past)))),
     ]
 }
 

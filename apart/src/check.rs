@@ -10,7 +10,7 @@ use crate::limit::whole_centimetres;
 use crate::make::Skin;
 use crate::protocol::*;
 use crate::skin::{is_stage, rows_of, Edges, Row};
-use crate::step::{contract, meets_link_condition};
+use crate::step::{contract, meets_link_condition, WIDTH};
 
 /// A run as the driven program left it.
 struct Run<'a> {
@@ -23,7 +23,7 @@ struct Run<'a> {
 
 impl Run<'_> {
     fn records(&self) -> usize {
-        self.log.len() / 10
+        self.log.len() / WIDTH
     }
 }
 
@@ -46,7 +46,7 @@ pub fn run(bench: &mut Bench, skin: &Skin, order: (i64, u64), chance: &mut Chanc
         order,
         request,
         left: left[..skin.rows.len() - 2 * records].to_vec(),
-        log: found.lent[1][..10 * records].to_vec(),
+        log: found.lent[1][..WIDTH * records].to_vec(),
     };
     theorem(bench, &skin.rows, &run.request);
     theorem(bench, &run.left, &run.request);
@@ -96,13 +96,13 @@ fn endings(bench: &mut Bench, run: &Run) {
     let fixed = used + run.records() == count;
     bench.property("run: k fewer corners", fixed, "used corners do not fit the records", &run.request);
     if run.order.0 != 0 {
-        let kept: Vec<Word> = run.log.chunks(10).map(|record| record[0]).collect();
+        let kept: Vec<Word> = run.log.chunks(WIDTH).map(|record| record[0]).collect();
         let returned = kept.windows(2).any(|pair| pair[1] < pair[0]);
         bench.tally.meet_if(returned, "a limit that returned to a lower corner");
         return;
     }
     if run.skin.genus == 0 {
-        let zero = run.log.chunks(10).all(|record| record[0] == 0);
+        let zero = run.log.chunks(WIDTH).all(|record| record[0] == 0);
         let holds = run.left.len() == 4 && zero;
         bench.property("run: a sphere ends in four rows, keeping corner 0", holds, "it does not", &run.request);
     }
@@ -148,7 +148,7 @@ fn stages(bench: &mut Bench, run: &Run, chance: &mut Chance) {
     }
     for cut in cuts {
         let table = words(&run.skin.table());
-        let arguments = vec![vec![run.skin.corners.len() as Word], table, run.log[..10 * cut].to_vec()];
+        let arguments = vec![vec![run.skin.corners.len() as Word], table, run.log[..WIDTH * cut].to_vec()];
         let request = Request { call: REPLAY, arguments };
         let Some(found) = bench.try_call("run: replayed", &request) else { return };
         let (front, zeros) = found.lent[0].split_at(3 * (run.skin.rows.len() - 2 * cut));
@@ -192,12 +192,12 @@ pub fn nearest(bench: &mut Bench, request: &Request, sum: i128, figure: Word) {
 fn shifts(bench: &mut Bench, run: &Run, chance: &mut Chance) {
     let coordinates: Vec<Word> = run.skin.coordinates().into_iter().map(Word::from).collect();
     let limit = if run.order.0 == 0 { None } else { whole_centimetres(run.order.0, run.order.1) };
-    let removed: Vec<Word> = run.log.chunks(10).map(|record| record[1]).collect();
+    let removed: Vec<Word> = run.log.chunks(WIDTH).map(|record| record[1]).collect();
     for _ in 0..2 {
         let cut = if chance.one_in(2) { run.records() } else { chance.below(run.records() + 1) };
         let any = chance.below(run.skin.corners.len()) as Word;
         let corner = if removed.is_empty() || chance.one_in(4) { any } else { chance.pick(&removed) };
-        let arguments = vec![vec![corner], coordinates.clone(), run.log[..10 * cut].to_vec()];
+        let arguments = vec![vec![corner], coordinates.clone(), run.log[..WIDTH * cut].to_vec()];
         let request = Request { call: SHIFT, arguments };
         let Some(found) = bench.try_call("run: shift report", &request) else { return };
         if let Some(limit) = limit {

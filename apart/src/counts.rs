@@ -5,6 +5,7 @@ use crate::chance::Chance;
 use crate::harm::{scribble, words};
 use crate::make::{octahedron, tetrahedron};
 use crate::protocol::*;
+use crate::step::WIDTH;
 
 const KIND: &str = "sweep: counts at their limits";
 /// Whole words outside every limit; cut to fewer bits, or taken three times, some would come back inside.
@@ -32,7 +33,7 @@ fn corners(bench: &mut Bench, chance: &mut Chance) {
     for count in [0, 1, 3, 4, 5, 513, 514, 515, 516, 1_024] {
         for over in 0..3 {
             let coordinates: Vec<Word> = (0..3 * count + over).map(|_| chance.between(-300, 300)).collect();
-            let room = scribble(10 * (count - 4), chance);
+            let room = scribble(WIDTH as i64 * (count - 4), chance);
             attempt(bench, THIN, [&[0], &[0], &t(), &coordinates, &room]);
             attempt(bench, VOLUME, [&t(), &coordinates]);
             attempt(bench, CHANGE, [&t(), &t(), &coordinates]);
@@ -63,10 +64,10 @@ fn rows_told(bench: &mut Bench, chance: &mut Chance) {
 
 /// Logs that grow T to the most rows and past it, in rooms just short and just enough.
 fn records_grown(bench: &mut Bench, chance: &mut Chance) {
-    for records in [1, 2, 509, 510, 511, 512, 1_638] {
-        let log = vec![0; 10 * records];
+    for records in [1, 2, 509, 510, 511, 512, LONGEST_LIST / WIDTH] {
+        let log = vec![0; WIDTH * records];
         for spare in [-1, 0, 1] {
-            let length = (3 * (4 + 2 * records) as i64 + spare).min(16_384);
+            let length = (3 * (4 + 2 * records) as i64 + spare).min(LONGEST_LIST as i64);
             let room = [t(), scribble(length - 12, chance)].concat();
             attempt(bench, GROW_BACK, [&[4], &[514], &room, &log]);
         }
@@ -75,13 +76,13 @@ fn records_grown(bench: &mut Bench, chance: &mut Chance) {
 
 /// Logs that would leave six rows of O, four, two, and fewer than none.
 fn records_replayed(bench: &mut Bench) {
-    for records in [1, 2, 3, 4, 5, 1_638] {
-        attempt(bench, REPLAY, [&[6], &words(&octahedron().concat()), &vec![0; 10 * records]]);
+    for records in [1, 2, 3, 4, 5, LONGEST_LIST / WIDTH] {
+        attempt(bench, REPLAY, [&[6], &words(&octahedron().concat()), &vec![0; WIDTH * records]]);
     }
 }
 
 fn log_lengths(bench: &mut Bench, chance: &mut Chance) {
-    for length in 0..22 {
+    for length in 0..2 * WIDTH + 2 {
         let log = vec![0; length];
         attempt(bench, SHIFT, [&[0], &[0; 12], &log]);
         attempt(bench, REPLAY, [&[6], &words(&octahedron().concat()), &log]);

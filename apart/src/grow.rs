@@ -2,10 +2,10 @@
 //! asked for the link condition, and contracted again. Nothing is taken from a local shortcut.
 
 use crate::skin::{is_stage, Edges, Row};
-use crate::step::{contract, meets_link_condition, Record};
+use crate::step::{contract, meets_link_condition, Record, WIDTH};
 
 pub fn records_of(log: &[u32]) -> Vec<Record> {
-    log.chunks_exact(10).map(|n| n.try_into().expect("ten numbers")).collect()
+    log.chunks_exact(WIDTH).map(|n| n.try_into().expect("as many numbers as a record has")).collect()
 }
 
 /// The third corner of a row that has the directed edge.

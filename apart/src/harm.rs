@@ -5,7 +5,7 @@ use crate::make::{tetrahedron, Skin};
 use crate::protocol::*;
 use crate::sheet;
 use crate::skin::{corners_of, rows_of, Edges};
-use crate::step::Record;
+use crate::step::{Record, WIDTH};
 use crate::typed;
 use std::collections::BTreeSet;
 
@@ -112,12 +112,12 @@ impl Input {
         let (unit, bits) = (self.order.0, self.order.1 as Word);
         let arguments = match call {
             THIN => {
-                let need = 10 * (self.coordinates.len() as i64 / 3 - 4);
+                let need = WIDTH as i64 * (self.coordinates.len() as i64 / 3 - 4);
                 vec![vec![unit], vec![bits], table, coordinates, scribble(need + self.spare, chance)]
             }
             GROW_BACK => {
                 let rows = self.table.len() as u64 / 3;
-                let need = 3 * (rows as i64 + 2 * (log.len() as i64 / 10));
+                let need = 3 * (rows as i64 + 2 * (log.len() / WIDTH) as i64);
                 let room = [table, scribble(need - self.table.len() as i64 + self.spare.max(0), chance)].concat();
                 let length = if self.spare < 0 { (need + self.spare).max(0) as usize } else { room.len() };
                 let told = self.told.unwrap_or(rows) as Word;
@@ -230,9 +230,9 @@ fn number_outside(count: u32, on_sheet: bool, chance: &mut Chance) -> u32 {
 fn harm_shift(input: &mut Input, count: u32, chance: &mut Chance) {
     let outside = number_outside(count, false, chance);
     match chance.below(3) {
-        at if at < 2 && input.log.len() >= 10 => {
-            let record = chance.below(input.log.len() / 10);
-            input.log[10 * record + at] = outside;
+        at if at < 2 && input.log.len() >= WIDTH => {
+            let record = chance.below(input.log.len() / WIDTH);
+            input.log[WIDTH * record + at] = outside;
         }
         _ => input.corner = outside,
     }
@@ -301,12 +301,12 @@ fn harm_counts(input: &mut Input, call: usize, chance: &mut Chance) {
             3 if lists => drop(input.coordinates.split_off(input.coordinates.len() - 1 - chance.below(2))),
             4 if lists => input.coordinates.resize(3 * 515, 0),
             5 if lists => input.coordinates.push(0),
-            6 if logs && chance.one_in(2) => input.log.extend(vec![0; 1 + chance.below(9)]),
+            6 if logs && chance.one_in(2) => input.log.extend(vec![0; 1 + chance.below(WIDTH - 1)]),
             6 if call == GROW_BACK => {
-                input.log.resize(10 * (1_024usize.saturating_sub(input.table.len() / 3) / 2 + 1), 0)
+                input.log.resize(WIDTH * (1_024usize.saturating_sub(input.table.len() / 3) / 2 + 1), 0)
             }
             7 if call == GROW_BACK => input.told = Some(hostile_count(input.table.len() as u64 / 3, chance)),
-            7 if call == REPLAY => input.log.resize(10 * (input.table.len() / 6 - 1), 0),
+            7 if call == REPLAY => input.log.resize(WIDTH * (input.table.len() / 6 - 1), 0),
             8 if !lists => input.count = Some(hostile_count(4, chance)),
             _ => continue,
         }
@@ -322,7 +322,7 @@ fn hostile_count(honest: u64, chance: &mut Chance) -> u64 {
 
 /// Spoils the kept or removed number of a record so that it can't be accepted.
 fn harm_record(log: &mut [u32], count: u32, chance: &mut Chance) {
-    let at = 10 * chance.below(log.len() / 10);
+    let at = WIDTH * chance.below(log.len() / WIDTH);
     match chance.below(4) {
         0 => log.swap(at, at + 1),
         1 => log[at] = log[at + 1],

@@ -6,6 +6,7 @@ use crate::harm::Input;
 use crate::make::Skin;
 use crate::protocol::*;
 use crate::skin::Row;
+use crate::step::WIDTH;
 
 /// Small tables of any numbers, closed now and then by chance.
 pub fn tables(bench: &mut Bench, chance: &mut Chance) {
@@ -36,7 +37,9 @@ pub fn words(bench: &mut Bench, chance: &mut Chance) {
 }
 
 fn any_words(kind: Kind, chance: &mut Chance) -> Vec<Word> {
-    let length = chance.pick(&[0, 1, 9, 10, 12, 12, 15, 20, 24, 30, 100, 1_542, 1_545, 3_072, 3_075]);
+    // Whole records, whole rows and whole corners are among them.
+    let length =
+        chance.pick(&[0, 1, 9, WIDTH, 12, 12, 15, 2 * WIDTH, 24, 3 * WIDTH, 10 * WIDTH, 1_542, 1_545, 3_072, 3_075]);
     let mut one = |ends: &[Word], most: usize| match chance.one_in(4) {
         true => chance.pick(ends),
         false => chance.below(most) as Word,

@@ -9,6 +9,7 @@ use crate::parts::grid;
 use crate::place::largest_sum;
 use crate::protocol::*;
 use crate::skin::{Corner, Row};
+use crate::step::{Record, WIDTH};
 use crate::trial::{coordinates, O_CORNERS, O_LEFT, O_LOG};
 
 const NO_LIMIT: (i64, f64) = (0, 0.0);
@@ -90,13 +91,14 @@ fn thinned(name: &str, found: &Response) -> String {
 /// Tables that are refused, and those at the limits, which pass.
 fn tables() -> Vec<String> {
     let line = |name: &str, rows: &[Row], corners: Vec<Word>| {
-        thinned(name, &thin(NO_LIMIT, &rows.concat(), corners, vec![0; 50]))
+        thinned(name, &thin(NO_LIMIT, &rows.concat(), corners, vec![0; 5 * WIDTH]))
     };
     let (o, t) = (octahedron(), tetrahedron());
     let at_o = || coordinates(&O_CORNERS);
     let torus = grid(32, 16);
     let under_zero = |name: &str, rows: &[Row]| {
-        thinned(name, &thin((CENTIMETRES, 0.0), &rows.concat(), coordinates(&largest_sum(32, 16)), vec![0; 5_080]))
+        let room = vec![0; 508 * WIDTH];
+        thinned(name, &thin((CENTIMETRES, 0.0), &rows.concat(), coordinates(&largest_sum(32, 16)), room))
     };
     let far = |x: i32, z: i32| coordinates(&[[0; 3], [x, 0, 0], [0, 300, 0], [0, 0, z]]);
     let moved =
@@ -125,14 +127,15 @@ fn listed(name: &str, list: &[Word]) -> String {
 }
 
 fn octahedron_thinned() -> Vec<String> {
-    let found = thin(NO_LIMIT, &octahedron().concat(), coordinates(&O_CORNERS), vec![7; 21]);
+    let need = 2 * WIDTH;
+    let found = thin(NO_LIMIT, &octahedron().concat(), coordinates(&O_CORNERS), vec![7; need + 1]);
     let left: Vec<u32> = found.lent[0].iter().map(|&word| word as u32).collect();
-    let short = thin(NO_LIMIT, &left, coordinates(&O_CORNERS), vec![7; 19]);
+    let short = thin(NO_LIMIT, &left, coordinates(&O_CORNERS), vec![7; need - 1]);
     vec![
         thinned("O thinned", &found),
         listed("O's table then", &found.lent[0]),
         listed("O's log then", &found.lent[1]),
-        thinned("with room for 19 numbers", &short),
+        thinned(&format!("with room for {} numbers", need - 1), &short),
     ]
 }
 
@@ -183,12 +186,13 @@ fn logs() -> Vec<String> {
 /// Records that M's condition forbids, and more of them than rows would stand.
 fn too_many_records() -> Vec<String> {
     let m = seven_corner_torus();
-    let mut log = vec![0, 1, 0, 0, 1, 3, 11, 5, 1, 0];
-    log.resize(60, 0);
+    let first: Record = [0, 1, 0, 0, 1, 3, 11, 5, 1, 0];
+    let mut log = first.to_vec();
+    log.resize(6 * WIDTH, 0);
     let six = replay(7, &m, &log);
     vec![
         regrown("T with one record", &replay(4, &tetrahedron(), &O_LOG[0])),
-        regrown("M with five records", &replay(7, &m, &log[..50])),
+        regrown("M with five records", &replay(7, &m, &log[..5 * WIDTH])),
         regrown("M with six records", &six),
         listed("M then", &six.lent[0]),
     ]
@@ -196,7 +200,7 @@ fn too_many_records() -> Vec<String> {
 
 fn the_trial_ring() -> Vec<String> {
     let corners = (0..192).collect();
-    let found = thin(NO_LIMIT, &grid(8, 8).concat(), corners, vec![0; 600]);
+    let found = thin(NO_LIMIT, &grid(8, 8).concat(), corners, vec![0; 60 * WIDTH]);
     vec![thinned("the trial ring thinned", &found), listed("past its 18 rows then", &found.lent[0][54..60])]
 }
 

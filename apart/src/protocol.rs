@@ -3,7 +3,7 @@
 /// 8 bytes, little-endian, two's complement.
 pub type Word = i64;
 
-const LONGEST_LIST: usize = 16_384;
+pub const LONGEST_LIST: usize = 16_384;
 const LONGEST_BYTES: usize = 131_072;
 /// The highest unit so far.
 pub const LAST_UNIT: Word = 3;

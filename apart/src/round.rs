@@ -10,7 +10,7 @@ use crate::make::{self, Skin};
 use crate::protocol::*;
 use crate::sheets;
 use crate::skin::Row;
-use crate::step::{contract, thin, Record};
+use crate::step::{contract, thin, Record, EARLIER, LATER, WIDTH};
 use crate::typed;
 
 /// One round. A large one works on more than 256 rows.
@@ -67,7 +67,7 @@ fn large_call(bench: &mut Bench, skin: &Skin, chance: &mut Chance) {
 fn thinned(bench: &mut Bench, skin: &Skin, chance: &mut Chance) {
     let mut input = Input::new(skin, &[]);
     input.order = if chance.one_in(4) { typed::order(skin, chance) } else { typed::parting(skin, chance) };
-    input.spare = chance.pick(&[0, 1, 3, 10, 200]);
+    input.spare = chance.pick(&[0, 1, 3, WIDTH as i64, 200]);
     bench.try_call("chance: thinned", &input.request(THIN, chance));
 }
 
@@ -160,22 +160,23 @@ fn spoiled(bench: &mut Bench, skin: &Skin, chance: &mut Chance) {
 }
 
 fn spoil(log: &mut Vec<u32>, count: u32, chance: &mut Chance) {
-    let records = log.len() / 10;
-    let at = 10 * chance.below(records);
+    let records = log.len() / WIDTH;
+    let at = WIDTH * chance.below(records);
+    let record = &mut log[at..at + WIDTH];
     match chance.below(11) {
-        0 => log.swap(at, at + 1),
-        1 => log.swap(at + 2, at + 6),
+        0 => record.swap(0, 1),
+        1 => record.swap(EARLIER.start, LATER.start),
         // The two leaving rows, places and all, the other way round.
-        2 => log[at + 2..at + 10].rotate_left(4),
+        2 => record[EARLIER.start..LATER.end].rotate_left(EARLIER.len()),
         // A leaving row turned: growing back takes it, replay does not.
-        3 => log[at + 3..at + 6].rotate_left(1),
-        4 => log[at + 7..at + 10].rotate_left(1),
-        5 if records > 1 => log.rotate_left(10),
-        6 => log.extend_from_within(at..at + 10),
+        3 => record[EARLIER][1..].rotate_left(1),
+        4 => record[LATER][1..].rotate_left(1),
+        5 if records > 1 => log.rotate_left(WIDTH),
+        6 => log.extend_from_within(at..at + WIDTH),
         // Numbers of the two rows exchanged.
-        7 => (3..6).for_each(|n| log.swap(at + n, at + n + 4)),
-        8 => rename(&mut log[at..at + 10], 1, count, chance),
-        9 => rename(&mut log[at..at + 10], 0, count, chance),
+        7 => EARLIER.zip(LATER).skip(1).for_each(|(one, other)| record.swap(one, other)),
+        8 => rename(record, 1, count, chance),
+        9 => rename(record, 0, count, chance),
         _ => harm_log(log, count, chance),
     }
     if chance.one_in(4) {
@@ -221,14 +222,14 @@ fn shifted(bench: &mut Bench, skin: &Skin, chance: &mut Chance) {
     let count = skin.corners.len();
     input.corner = chance.below(count) as u32;
     if chance.one_in(2) {
-        let long = 10 * if chance.one_in(20) { 1_638 } else { chance.below(60) };
+        let long = WIDTH * if chance.one_in(20) { LONGEST_LIST / WIDTH } else { chance.below(60) };
         input.log = (0..long).map(|_| chance.below(count.min(6)) as u32).collect();
         input.corner = chance.below(count.min(6)) as u32;
     }
     if chance.one_in(3) {
         // Only kept and removed are looked at.
         for n in 0..input.log.len() {
-            if n % 10 > 1 {
+            if n % WIDTH > 1 {
                 input.log[n] = chance.next() as u32;
             }
         }

@@ -2,9 +2,15 @@
 
 use crate::skin::{Corner, Edges, Row};
 use std::collections::BTreeSet;
+use std::ops::Range;
 
+/// How many numbers a record has in a log.
+pub const WIDTH: usize = 10;
 /// kept, removed, place of the earlier leaving row, its numbers, place of the later one, its numbers.
-pub type Record = [u32; 10];
+pub type Record = [u32; WIDTH];
+/// Where a record has its two leaving rows, each a place and then three numbers.
+pub const EARLIER: Range<usize> = 2..6;
+pub const LATER: Range<usize> = 6..10;
 
 /// The link of a corner: its neighbours, and the edges that face it.
 pub struct Link {

@@ -3,6 +3,7 @@
 use crate::protocol::{
     Request, Response, Word, CALLS, CHANGE, DESK_ANSWER, GROW_BACK, READ_SHEET, REPLAY, THIN, VOLUME,
 };
+use crate::step::WIDTH;
 use std::collections::BTreeMap;
 
 /// Failures past this many, of one kind and in all, are counted and no longer printed.
@@ -146,7 +147,7 @@ fn rows_worked(request: &Request) -> usize {
     let length = |at: usize| request.arguments[at].len() / 3;
     match request.call {
         THIN => length(2),
-        GROW_BACK => (request.arguments[0][0] as usize).saturating_add(2 * (request.arguments[3].len() / 10)),
+        GROW_BACK => (request.arguments[0][0] as usize).saturating_add(2 * (request.arguments[3].len() / WIDTH)),
         REPLAY => length(1),
         VOLUME => length(0),
         CHANGE => length(0).max(length(1)),

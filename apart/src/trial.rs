@@ -12,7 +12,7 @@ use crate::make::{octahedron, seven_corner_torus, shaft_rows, tetrahedron};
 use crate::protocol::*;
 use crate::sheet;
 use crate::skin::{is_stage, rows_of, Corner, Edges, Row};
-use crate::step::Record;
+use crate::step::{Record, WIDTH};
 use crate::tally::difference;
 
 const T_CORNERS: [Corner; 4] = [[0, 0, 0], [300, 0, 0], [0, 300, 0], [0, 0, 300]];
@@ -36,7 +36,7 @@ pub fn coordinates(corners: &[Corner]) -> Vec<Word> {
 }
 
 fn thin(order: (i64, f64), rows: &[Row], corners: &[Corner], chance: &mut Chance) -> Request {
-    let room = scribble(10 * (corners.len() as i64 - 4), chance);
+    let room = scribble(WIDTH as i64 * (corners.len() as i64 - 4), chance);
     let bits = order.1.to_bits() as Word;
     let arguments = vec![vec![order.0], vec![bits], words(&rows.concat()), coordinates(corners), room];
     Request { call: THIN, arguments }
