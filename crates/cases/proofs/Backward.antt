@@ -9,17 +9,18 @@ use lib.ListN.{getD, replicate, drop}
 use Rattle.surface.specs.Rows.{rows, flat, row}
 use Rattle.surface.specs.Table.{Used}
 use Rattle.follow.specs.Leads.{one-step}
+use Rattle.follow.specs.Follow.{some, followed}
 use Rattle.surface.specs.Record.{Record, Replayed}
 use Rattle.surface.specs.Grow.{put}
 use Rattle.surface.proofs.Recorded.{replayed-grown}
-use Rattle.record.specs.Layout.{first-records}
+use Rattle.record.specs.Layout.{width, first-records}
 use Rattle.length.specs.declared.Order.the-variants.{NoLimit}
+use Rattle.refusal.specs.declared.Refusal.the-variants.{RecordFails}
 use Rattle.refusal.specs.Told.{Told}
 use Rattle.regrow.specs.declared.Regrown.{Regrown}
 use Rattle.regrow.specs.declared.Regrown.the-variants.{Done, Stopped}
 use Rattle.regrow.specs.Answer.{told}
-use Rattle.regrow.specs.Reached.{stopped}
-use Rattle.regrow.specs.Outcome.{GrownAs, grown}
+use Rattle.regrow.specs.Outcome.{GrownAs}
 use Rattle.regrow.proofs.Main.{grow-passes, grown-one}
 use Rattle.replay.specs.Outcome.{ReplayedAs}
 use Rattle.promises.proofs.Back.{restored, replayed}
@@ -65,7 +66,7 @@ abbrev bad : Record
 bad = record { kept = 0; removed = 2; place-1 = 0; row-1 = row 0 1 2; place-2 = 3; row-2 = row 0 4 2 }
 
 abbrev pub spoiled : List ℕ
-spoiled = 0 ∷ 2 ∷ 0 ∷ 0 ∷ 1 ∷ 2 ∷ 3 ∷ 0 ∷ 4 ∷ 2 ∷ drop 10 O-log
+spoiled = 0 ∷ 2 ∷ 0 ∷ 0 ∷ 1 ∷ 2 ∷ 3 ∷ 0 ∷ 4 ∷ 2 ∷ drop width O-log
 
 abbrev pub nines : List ℕ
 nines = O-two ++ replicate 14 9
@@ -80,14 +81,11 @@ used-two = go second-step
 stops : GrownAs 6 4 nines spoiled (Stopped 1) (O-one ++ replicate 8 9)
 unfolding rows flat first-records
 stops =
-    grown
-    (grow-passes 6 4 nines spoiled (record { rows = record { least = omega arith; most = omega arith }; corners = record { few = omega arith; many = omega arith }; tens = refl; most = omega arith }) (omega arith) (O-two-table .stage))
-    (O-two-table .stage)
-    (record {
-      table = rows O-one;
-      reached = stopped [] bad (k₂ ∷ []) refl (replayed-grown (O-one-table .stage) second-step) (λ T a. a .unused used-two) refl;
-      left = refl;
-    })
+    let fits = record { rows = record { least = omega arith; most = omega arith }; corners = record { few = omega arith; many = omega arith }; whole = refl; most = omega arith } in
+    record {
+      outcome = followed (grow-passes 6 4 nines spoiled fits (omega arith) (O-two-table .stage), O-two-table .stage)
+          (some (k₂ ∷ []) bad [] {r = RecordFails} refl (replayed-grown (O-one-table .stage) second-step) ((λ T a. a .unused used-two), refl) refl) refl;
+    }
 
 -- 13 that leaves scribbles past the rows reached
 pub grow-scribbles : (a : Regrown) (r : List ℕ) → getD r 18 0 ≢ 9 → ¬ GrownAs 6 4 nines spoiled a r

@@ -37,7 +37,8 @@ use Rattle.length.specs.Limit.{capped, reading, limit-of}
 use Rattle.least.specs.declared.Bound.the-variants.{Free, Within}
 use Rattle.least.specs.Limited.{Allowed}
 use Rattle.run.proofs.Main.{taken-replayed}
-use Rattle.record.specs.Layout.{log-of, first-records, records}
+use Rattle.record.specs.Layout.{width, log-of, first-records, records, WholeRecords}
+use Rattle.record.specs.Front.{zeroed}
 use Rattle.thin.specs.declared.Asked.the-variants.{Under}
 use Rattle.thin.specs.declared.Thinning.{Thinning}
 use Rattle.thin.specs.declared.Thinning.the-variants.{Done, Refused}
@@ -48,8 +49,8 @@ use Rattle.thin.specs.Answer as thinnings
 use Rattle.regrow.specs.declared.Regrown.{Regrown}
 use Rattle.regrow.specs.declared.Regrown.the-variants as regrown
 use Rattle.regrow.specs.Answer as regrowths
-use Rattle.replay.specs.Redone.{all}
-use Rattle.replay.specs.Outcome.{ReplayFits, ReplayedAs, replayed}
+use Rattle.follow.specs.Follow.{all, followed}
+use Rattle.replay.specs.Outcome.{ReplayFits, ReplayedAs}
 use Rattle.replay.proofs.Main.{replay-passes, replay-one}
 use Rattle.surface.proofs.Testing.{every}
 use Rattle.computed.proofs.Passing.{row-fits, rows-below, passes-stage}
@@ -241,23 +242,23 @@ unfolding edges rows contract renumber replace stays? holds? ℕ-discrete leavin
 both-steps = taken-replayed (steps-taken any (goes-on {k = k₁} tt refl (goes-on {k = k₂} tt refl (stays-at refl))))
 
 -- a log that leads from O to T is replayed whole, and nothing else is allowed
-replayed-only : (l : List ℕ) (k : ℕ) (u : List ℕ) {T : List Row} → ReplayFits 6 O l → Replayed (rows O) (records l) T → k ≡ length (records l) → u ≡ flat T ++ replicate (length O - length (flat T)) 0 →
+replayed-only : (l : List ℕ) (k : ℕ) (u : List ℕ) {T : List Row} → ReplayFits 6 O l → Replayed (rows O) (records l) T → k ≡ length (records l) → u ≡ zeroed T O →
     Replays 6 O l k u
 replayed-only l k u {T} fits r e f =
-    let h = replayed (replay-passes 6 O l fits (O-skin .stage)) (O-skin .stage) (record { table = T; redone = all r (ap regrown.Done e); left = f }) in
+    let h = record { outcome = followed (replay-passes 6 O l fits (O-skin .stage), O-skin .stage) (all r (ap regrown.Done e)) f } in
     (h, λ b v w. replay-one w h)
 
-O-fits : (l : List ℕ) → length l % 10 ≡ 0 → length l ≤ 20 → ReplayFits 6 O l
+O-fits : (l : List ℕ) → WholeRecords l → length l ≤ 20 → ReplayFits 6 O l
 unfolding rows
 O-fits l h m = record {
   counts = record { table = record { threes = refl; count = record { least = omega arith; most = omega arith } }; count = record { few = omega arith; many = omega arith } };
-  tens = h;
+  whole = h;
   least = omega arith;
 }
 
-replays-one : Replays 6 O (take 10 O-log) 1 (O-one ++ replicate 6 0)
+replays-one : Replays 6 O (take width O-log) 1 (O-one ++ replicate 6 0)
 unfolding rows flat first-records
-replays-one = replayed-only (take 10 O-log) 1 (O-one ++ replicate 6 0) (O-fits (take 10 O-log) refl (omega arith)) first-step refl refl
+replays-one = replayed-only (take width O-log) 1 (O-one ++ replicate 6 0) (O-fits (take width O-log) refl (omega arith)) first-step refl refl
 
 replays-two : Replays 6 O O-log 2 O-last
 unfolding rows flat first-records

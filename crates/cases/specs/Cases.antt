@@ -17,6 +17,7 @@ use Rattle.thin.specs.Answer as thinnings
 use Rattle.thin.specs.Thin.{Thinned}
 use Rattle.regrow.specs.Answer as regrowths
 use Rattle.replay.specs.Outcome.{ReplayedAs}
+use Rattle.record.specs.Layout.{width}
 use Rattle.cases.specs.Skins.{T, T-corners, T-turned, O, O-corners, M, M-corners}
 
 pub data Case : Type 0 where
@@ -83,7 +84,7 @@ starred =
     ∷ thins cm-141 O-corners O (lent 20) (records-done 0) O (lent 20)
     ∷ thins cm-142 O-corners O (lent 20) (records-done 2) O-last O-log
     ∷ thins NoLimit M-corners M (lent 30) (records-done 0) M (lent 30)
-    ∷ replays 6 O (take 10 O-log) (records-done 1) (O-one ++ replicate 6 0)
+    ∷ replays 6 O (take width O-log) (records-done 1) (O-one ++ replicate 6 0)
     ∷ replays 6 O O-log (records-done 2) O-last
     ∷ weighs T-corners T (negℤ (pos 27000000)) (cubic-metres (negℤ (pos 5)))
     ∷ weighs O-corners O (pos 8000000) (cubic-metres (pos 1))

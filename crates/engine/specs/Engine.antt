@@ -1,25 +1,25 @@
 -- The plain engine: what it is asked for, and what it leaves.
 use mathlib.Core.Path.{_≡_}
 use mathlib.Core.List.{List, _++_}
-use Prim.Native.Nat.{ℕ, _+_, _-_, _*_, _≤_}
-use lib.ListN.{length, take, drop, replicate}
+use Prim.Native.Nat.{ℕ, _+_, _*_, _≤_}
+use lib.ListN.{length, take, drop}
 use Rattle.surface.specs.Limits.{least-corners}
 use Rattle.surface.specs.Lists.{Exactly}
-use Rattle.surface.specs.Rows.{Row, rows, flat}
+use Rattle.surface.specs.Rows.{Row, rows}
 use Rattle.surface.specs.Table.{Used}
 use Rattle.surface.specs.Stage.{StageTable}
 use Rattle.surface.specs.Record as surface
 use Rattle.run.specs.Run.{Run}
-use Rattle.record.specs.Layout.{width, log-of}
-use Rattle.record.specs.Front.{front}
+use Rattle.record.specs.Layout.{log-of, room-for}
+use Rattle.record.specs.Front.{front, lowered}
 
 -- the front of t is a stage over n corners, and the log l, which has d records, has room for as many as may follow: one for each used
 -- corner but four
 pub record Ready (n : ℕ) (t : List ℕ) (r : ℕ) (l : List ℕ) (d : ℕ) : Type 0 where
   pub inside : 3 * r ≤ length t
   pub table : StageTable n (front r t)
-  pub stand : width * d ≤ length l
-  pub room : (v : ℕ) → Exactly (Used (rows (front r t))) v → width * (d + v) ≤ length l + width * least-corners
+  pub stand : room-for d ≤ length l
+  pub room : (v : ℕ) → Exactly (Used (rows (front r t))) v → room-for (d + v) ≤ length l + room-for least-corners
 
 -- the run from the front of t under the limit P: its last stage in front, zeros to where the first one ended, what lies past that as it
 -- was; its records in the log after the d that stood there, what lies past them as it was; k records in all
@@ -28,5 +28,5 @@ pub record WentOn (P : ℕ → ℕ → Type 0) (t : List ℕ) (r : ℕ) (l : Lis
   pub last : List Row
   pub run : Run P (rows (front r t)) log last
   pub count : k ≡ d + length log
-  pub table : t′ ≡ flat last ++ (replicate (3 * r - length (flat last)) 0 ++ drop (3 * r) t)
-  pub logged : l′ ≡ take (width * d) l ++ (log-of log ++ drop (width * k) l)
+  pub table : t′ ≡ lowered r last t
+  pub logged : l′ ≡ take (room-for d) l ++ (log-of log ++ drop (room-for k) l)

@@ -1,4 +1,4 @@
--- Rooms with rows in front: read, filled again, and a row put in.
+-- A row put in among the rows of a room.
 use mathlib.Core.Path.{_≡_, refl, sym, _∙_, ap, ap₂}
 use mathlib.Core.List.{List, [], _∷_, _++_, append-assoc}
 use Prim.Native.Nat.{ℕ, zero, suc, _+_, _-_, _*_, _≤_}
@@ -10,43 +10,8 @@ use Rattle.surface.specs.Grow.{put}
 use Rattle.surface.proofs.Flat.{rows-flat, flat-length, flat-rows, rows-length}
 use Rattle.surface.proofs.Put.{put-length}
 use Rattle.record.specs.Front.{standing, filled}
+use Rattle.record.proofs.Front.{standing-length, standing-flat}
 use Rattle.grow.specs.Room.{MovedOn}
-
--- as many rows stand in front as are told
-pub standing-length : (m : ℕ) (room : List ℕ) → 3 * m ≤ length room → length (standing m room) ≡ m
-standing-length m room h = rows-length m (take (3 * m) room) (length-take-le (3 * m) room h)
-
-pub standing-flat : (m : ℕ) (room : List ℕ) → 3 * m ≤ length room → flat (standing m room) ≡ take (3 * m) room
-standing-flat m room h = flat-rows m (take (3 * m) room) (length-take-le (3 * m) room h)
-
--- rows in front of anything
-pub standing-front : (m : ℕ) (T : List Row) (rest : List ℕ) → length T ≡ m → standing m (flat T ++ rest) ≡ T
-standing-front m T rest h = ap rows (take-at (flat T) rest (3 * m) (flat-length T ∙ ap (λ z. 3 * z) h)) ∙ rows-flat T
-
-pub standing-filled : (m : ℕ) (T : List Row) (room : List ℕ) → length T ≡ m → standing m (filled T room) ≡ T
-standing-filled m T room h = standing-front m T (drop (3 * length T) room) h
-
-pub filled-length : (T : List Row) (room : List ℕ) → 3 * length T ≤ length room → length (filled T room) ≡ length room
-filled-length T room h =
-    let e = length-append (flat T) (drop (3 * length T) room) in
-    let f = flat-length T in
-    let d = length-drop (3 * length T) room in
-    omega arith
-
--- a room is its rows and what lies past them
-pub filled-standing : (m : ℕ) (room : List ℕ) → 3 * m ≤ length room → filled (standing m room) room ≡ room
-filled-standing m room h = (λ i. standing-flat m room h i ++ drop (3 * standing-length m room h i) room) ∙ take-append-drop (3 * m) room
-
--- what lies past the second rows lies past the first
-pub filled-again : (S T : List Row) (room : List ℕ) → length S ≤ length T → filled T (filled S room) ≡ filled T room
-filled-again S T room h =
-    let e : 3 * length T ≡ length (flat S) + (3 * length T - 3 * length S) = let f = flat-length S in omega arith in
-    let g : 3 * length S + (3 * length T - 3 * length S) ≡ 3 * length T = omega arith in
-    ap (λ z. flat T ++ z)
-    (ap (λ z. drop z (filled S room)) e
-    ∙ drop-append-add (flat S) (drop (3 * length S) room) (3 * length T - 3 * length S)
-    ∙ drop-drop (3 * length T - 3 * length S) (3 * length S) room
-    ∙ ap (λ z. drop z room) g)
 
 -- a row put in, number by number
 flat-put : (i : ℕ) (a b c : ℕ) (T : List Row) → i ≤ length T → flat (put i (row a b c) T) ≡ take (3 * i) (flat T) ++ (a ∷ b ∷ c ∷ drop (3 * i) (flat T))

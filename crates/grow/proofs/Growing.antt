@@ -23,7 +23,7 @@ use Rattle.accept.specs.Test.{Answered}
 use Rattle.grow.specs.Walk.{Walkable, Renamed}
 use Rattle.record.specs.Front.{standing, filled}
 use Rattle.grow.specs.Room.{GrewBack}
-use Rattle.grow.proofs.Filling.{standing-length, standing-filled, filled-again}
+use Rattle.record.proofs.Front.{standing-length, standing-filled, filled-again}
 
 -- the earlier row put in, then the later
 pub both-put : (m : ℕ) (k : Record) (room room₁ room₂ : List ℕ) → 3 * m ≤ length room →

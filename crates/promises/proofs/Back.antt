@@ -10,7 +10,7 @@ use lib.Seq.{drop-append-add}
 use Rattle.surface.specs.Rows.{Row, rows, flat}
 use Rattle.surface.specs.Stage.{Stage}
 use Rattle.surface.specs.Record.{Record, Replayed}
-use Rattle.surface.proofs.Flat.{flat-rows, flat-length}
+use Rattle.surface.proofs.Flat.{flat-length}
 use Rattle.refusal.specs.Told as answers
 use Rattle.faults.specs.Counts.{corners}
 use Rattle.faults.proofs.Opposites.{stage-rows, stage-corners}
@@ -26,19 +26,18 @@ use Rattle.thin.specs.declared.Thinning.the-variants as thinning
 use Rattle.thin.specs.Thin.{Thinned}
 use Rattle.thin.specs.Run.{RunOf}
 use Rattle.thin.proofs.Main.{thinned-run, last-stage}
-use Rattle.record.specs.Front.{standing, filled}
-use Rattle.grow.proofs.Filling.{standing-front}
+use Rattle.record.specs.Front.{standing, filled, zeroed}
+use Rattle.record.proofs.Front.{standing-front, zeroed-whole}
 use Rattle.regrow.specs.declared.Regrown.{Regrown}
 use Rattle.regrow.specs.declared.Regrown.the-variants.{Done}
 use Rattle.regrow.specs.Answer.{told}
 use Rattle.record.specs.Layout.{count}
-use Rattle.regrow.specs.Reached.{need}
-use Rattle.regrow.specs.Outcome.{GrowFits, GrownAs}
+use Rattle.regrow.specs.Outcome.{GrowFits, need, GrownAs}
 use Rattle.regrow.proofs.Main.{restores}
 use Rattle.replay.specs.Outcome.{ReplayFits, ReplayedAs}
-use Rattle.replay.proofs.One.{replayed-one}
+use Rattle.follow.proofs.Leading.{leads-one}
+use Rattle.surface.proofs.Main.{left}
 use Rattle.replay.proofs.Main.{replays-whole}
-use Rattle.promises.specs.Thinning.{left-of}
 use Rattle.promises.proofs.Logged.{front-log, rest-log}
 
 drop-zeros : (m n : ℕ) → drop m (replicate {A = ℕ} n 0) ≡ replicate (n - m) 0
@@ -62,7 +61,7 @@ module _ {d : Asked} {xs : List ℤ} {t l : List ℕ} {k : ℕ} {t′ l′ : Lis
 
     -- the rest of the log leads on to the last stage
     on : Replayed T₁ q (w .last)
-    on = let c = taken-cut p (rw e at (w .run .taken)) in rw (replayed-one (taken-replayed (c .1)) begun) at (taken-replayed (c .2))
+    on = let c = taken-cut p (rw e at (w .run .taken)) in rw (leads-one (λ T T₁ T₂ k r q. left r q) (taken-replayed (c .1)) begun) at (taken-replayed (c .2))
 
     rows-left : length (rows t) - 2 * k ≡ length (w .last)
     rows-left =
@@ -78,7 +77,7 @@ module _ {d : Asked} {xs : List ℤ} {t l : List ℕ} {k : ℕ} {t′ l′ : Lis
     fits = record {
       rows = stage-rows (last-stage w);
       corners = stage-corners (last-stage w);
-      tens = let z = log-length q in omega arith;
+      whole = let z = log-length q in omega arith;
       most = let a = records-many q in let b = replayed-rows there on in let c = there .most in omega arith;
     }
 
@@ -95,7 +94,7 @@ module _ {d : Asked} {xs : List ℤ} {t l : List ℕ} {k : ℕ} {t′ l′ : Lis
     stands : standing (length (w .last)) t′ ≡ w .last
     stands = ap (standing (length (w .last))) (w .table) ∙ standing-front (length (w .last)) (w .last) (replicate (length t - length (flat (w .last))) 0) refl
 
-    filled-left : filled T₁ t′ ≡ left-of t T₁
+    filled-left : filled T₁ t′ ≡ zeroed T₁ t
     filled-left =
         let L = flat (w .last) in
         let a = flat-length T₁ in
@@ -105,7 +104,7 @@ module _ {d : Asked} {xs : List ℤ} {t l : List ℕ} {k : ℕ} {t′ l′ : Lis
         let f : length t - length L - (3 * length T₁ - length L) ≡ length t - length (flat T₁) = omega arith in
         ap (λ z. flat T₁ ++ z)
         (ap (drop (3 * length T₁)) (w .table)
-        ∙ ap (λ z. drop z (left-of t (w .last))) e
+        ∙ ap (λ z. drop z (zeroed (w .last) t)) e
         ∙ drop-append-add L (replicate (length t - length L) 0) (3 * length T₁ - length L)
         ∙ drop-zeros (3 * length T₁ - length L) (length t - length L)
         ∙ ap (λ z. replicate z 0) f)
@@ -121,11 +120,11 @@ module _ {d : Asked} {xs : List ℤ} {t l : List ℕ} {k : ℕ} {t′ l′ : Lis
 
     -- where thinning left its table: the table before record i
     pub restored-from : {a : Regrown} {r : List ℕ} → GrownAs (corners xs) (length (rows t) - 2 * k) t′ (drop (width * length p) (take (width * k) l′)) a r →
-        (told a ≡ answers.done (pos (length q) ∷ [])) × (r ≡ left-of t T₁)
+        (told a ≡ answers.done (pos (length q) ∷ [])) × (r ≡ zeroed T₁ t)
     restored-from g = let o = restored-in refl (rw rows-left enough) g in (o .0, o .1 ∙ filled-left)
 
     -- a beginning of the log replayed on the first table: the stage it leads to
-    pub replayed-to : {a : Regrown} {r : List ℕ} → ReplayedAs (corners xs) t (take (width * length p) l′) a r → (told a ≡ answers.done (pos (length p) ∷ [])) × (r ≡ left-of t T₁)
+    pub replayed-to : {a : Regrown} {r : List ℕ} → ReplayedAs (corners xs) t (take (width * length p) l′) a r → (told a ≡ answers.done (pos (length p) ∷ [])) × (r ≡ zeroed T₁ t)
     replayed-to g =
         let o = replays-whole {T′ = T₁} forth first (rw (records-log p) begun) (rw (front-log w p q e) at g) in
         (ap told (o .0 ∙ ap Done (records-many p)), o .1)
@@ -133,7 +132,7 @@ module _ {d : Asked} {xs : List ℤ} {t l : List ℕ} {k : ℕ} {t′ l′ : Lis
         forth : ReplayFits (corners xs) t (log-of p)
         forth = record {
           counts = record { table = record { threes = w .whole; count = stage-rows first }; count = stage-corners first };
-          tens = let z = log-length p in omega arith;
+          whole = let z = log-length p in omega arith;
           least = let a = records-many p in let b = replayed-rows first begun in let c = there .least in omega arith;
         }
 
@@ -150,13 +149,7 @@ pub restored : (o : Order) {xs : List ℤ} {t l : List ℕ} {k : ℕ} {t′ l′
 restored o {t = t} z g =
     let w = thinned-run z in
     let o = restored-from w [] (w .log) refl (none-yet refl) g in
-    (o .0 ∙ ap (λ m. answers.done (pos m ∷ [])) (sym (w .count)), o .1 ∙ whole (w .whole))
-  where
-    whole : length t % 3 ≡ 0 → left-of t (rows t) ≡ t
-    whole h =
-        let f : flat (rows t) ≡ t = flat-rows (length (rows t)) t (sym (whole-rows t h)) in
-        let e : length t - length (flat (rows t)) ≡ 0 = ap (λ (z : List ℕ). length t - length z) f ∙ omega arith in
-        ap (λ z. flat (rows t) ++ replicate z 0) e ∙ append-nil (flat (rows t)) ∙ f
+    (o .0 ∙ ap (λ m. answers.done (pos m ∷ [])) (sym (w .count)), o .1 ∙ zeroed-whole t (sym (whole-rows t (w .whole))))
 
 -- replaying its log on the first table does every record, and leaves what thinning left
 pub replayed : (o : Order) {xs : List ℤ} {t l : List ℕ} {k : ℕ} {t′ l′ : List ℕ} → Thinned o xs t l (thinning.Done k) t′ l′ → {a : Regrown} {r : List ℕ} →

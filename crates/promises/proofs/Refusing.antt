@@ -1,13 +1,16 @@
 -- Demand 1: a refusal is answered exactly when the list has it, call by call.
 use mathlib.Core.Path.{_≡_, refl, sym, _∙_, ap, subst}
 use mathlib.Core.Logic.{_⊎_, inl, inr}
-use mathlib.Core.List.{List, _++_}
-use Prim.Native.Nat.{ℕ, _-_}
+use mathlib.Core.List.{List, _∷_, _++_}
+use Prim.Native.Nat.{ℕ}
 use native.Mathlib.Omega.{arith}
 use lib.IntN.{ℤ}
-use lib.ListN.{length, replicate}
-use Rattle.surface.specs.Rows.{Row, rows, flat}
+use lib.ListN.{length}
+use Rattle.follow.specs.Follow.{Followed, followed}
+use Rattle.follow.proofs.Following.{outcome-told, outcome-passes, outcome-stopped}
+use Rattle.surface.specs.Rows.{Row}
 use Rattle.refusal.specs.declared.Refusal.{Refusal}
+use Rattle.refusal.specs.declared.Refusal.the-variants.{RecordFails}
 use Rattle.refusal.specs.declared.Verdict.{Verdict}
 use Rattle.refusal.specs.declared.Verdict.the-variants.{Passes}
 use Rattle.refusal.specs.declared.Verdict.the-variants as verdict
@@ -27,16 +30,11 @@ use Rattle.thin.proofs.Main as thins
 use Rattle.regrow.specs.declared.Regrown.{Regrown}
 use Rattle.regrow.specs.declared.Regrown.the-variants as regrown
 use Rattle.regrow.specs.Answer as regrowths
-use Rattle.record.specs.Layout.{records}
-use Rattle.record.specs.Front.{standing, filled}
-use Rattle.regrow.specs.Reached.{Reached}
-use Rattle.regrow.specs.Outcome.{grow-lines, GrownAs}
-use Rattle.regrow.specs.Outcome as growth
+use Rattle.record.specs.Front.{filled, zeroed}
+use Rattle.regrow.specs.Outcome.{grow-lines, growing, GrownAs}
 use Rattle.regrow.proofs.Main as grows
-use Rattle.regrow.proofs.Counted.{failing-other, stops, stopped-refused}
-use Rattle.replay.specs.Redone.{Redone}
-use Rattle.replay.specs.Outcome.{replay-lines, ReplayedAs}
-use Rattle.replay.specs.Outcome as replay
+use Rattle.regrow.proofs.Counted.{regrown-apart, failing-other, stops}
+use Rattle.replay.specs.Outcome.{replay-lines, replaying, ReplayedAs}
 use Rattle.replay.proofs.Main as replays
 use Rattle.sheet.specs.declared.Sheet.{Sheet}
 use Rattle.sheet.specs.declared.Sheet.the-variants as sheet
@@ -77,15 +75,32 @@ replay-same {a = regrown.Done k} w r p = absurd (refused-done r (sym p))
 replay-same {a = regrown.Stopped k} w r p = absurd (failing-other k r p)
 replay-same {a = regrown.Refused e} w r p = replays.refused-same w
 
+-- where nothing refuses, what the records lead to is an outcome
+grow-on : {n m : ℕ} {room log : List ℕ} {a b : Regrown} {room′ : List ℕ} {T : List Row} → GrownAs n m room log a room′ → First (grow-lines n m room log) Passes → Followed (growing n m room log) b T →
+    GrownAs n m room log b (filled T room)
+grow-on {n} {m} {room} {log} w f x = record { outcome = followed (outcome-passes (growing n m room log) (w .outcome) (λ e g. refused-passes (first-one _ g f))) x refl }
+
+replay-on : {n : ℕ} {t log : List ℕ} {a b : Regrown} {t′ : List ℕ} {T : List Row} → ReplayedAs n t log a t′ → First (replay-lines n t log) Passes → Followed (replaying n t log) b T →
+    ReplayedAs n t log b (zeroed T t)
+replay-on {n} {t} {log} w f x = record { outcome = followed (outcome-passes (replaying n t log) (w .outcome) (λ e g. refused-passes (first-one _ g f))) x refl }
+
+-- where the records stop: nothing refuses, and the rows reached are left
 grow-stopped : {n m : ℕ} {room log : List ℕ} {a : Regrown} {room′ : List ℕ} (k : ℕ) → GrownAs n m room log a room′ → a ≡ regrown.Stopped k →
-    First (grow-lines n m room log) Passes × (T : List Row) × Reached n (standing m room) (records log) (regrown.Stopped k) T × (room′ ≡ filled T room)
-grow-stopped k (growth.refused f ea er) q = stopped-refused (sym q ∙ ea)
-grow-stopped {n} {m} {room} {log} k (growth.grown f s w) q = (f, w .table, subst (λ b. Reached n (standing m room) (records log) b (w .table)) q (w .reached), w .left)
+    First (grow-lines n m room log) Passes × (T : List Row) × Followed (growing n m room log) (regrown.Stopped k) T × (room′ ≡ filled T room)
+grow-stopped {n} {m} {room} {log} k w q = let o = outcome-stopped (growing n m room log) regrown-apart {r = RecordFails} (rw q at (w .outcome)) in (o .0 .0, o .1, o .2, o .3)
 
 replay-stopped : {n : ℕ} {t log : List ℕ} {a : Regrown} {t′ : List ℕ} (k : ℕ) → ReplayedAs n t log a t′ → a ≡ regrown.Stopped k →
-    First (replay-lines n t log) Passes × (T : List Row) × Redone (rows t) (records log) (regrown.Stopped k) T × (t′ ≡ flat T ++ replicate (length t - length (flat T)) 0)
-replay-stopped k (replay.refused f ea er) q = stopped-refused (sym q ∙ ea)
-replay-stopped {t = t} {log = log} k (replay.replayed f s w) q = (f, w .table, subst (λ b. Redone (rows t) (records log) b (w .table)) q (w .redone), w .left)
+    First (replay-lines n t log) Passes × (T : List Row) × Followed (replaying n t log) (regrown.Stopped k) T × (t′ ≡ zeroed T t)
+replay-stopped {n} {t} {log} k w q = let o = outcome-stopped (replaying n t log) regrown-apart {r = RecordFails} (rw q at (w .outcome)) in (o .0 .0, o .1, o .2, o .3)
+
+-- a call that follows records refuses by its list alone: 13 carries its count
+records-refuse : {l : List Clause} {P I : Type 0} {items : List I} {n : ℕ} (a : Regrown) →
+    ((e : Refusal) × First l (verdict.Refused e) × (a ≡ regrown.Refused e))
+    ⊎ ((First l Passes × P) × ((a ≡ regrown.Done n) ⊎ ((done : List I) × (i : I) × (rest : List I) × (r : Refusal) × (items ≡ done ++ i ∷ rest) × (a ≡ regrown.Stopped (length done))))) →
+    Refuses l (regrowths.told a)
+records-refuse a (inl x) = exactly (inl (x .0, x .1, ap regrowths.told (x .2)))
+records-refuse a (inr (x, inl e)) = exactly (inr (x .0, not-refused (ap regrowths.told e)))
+records-refuse a (inr (x, inr y)) = exactly (inr (x .0, λ r p. failing-other (length (y .0)) r (sym (ap regrowths.told (y .5)) ∙ p)))
 
 -- a sheet
 module _ {b troom troom′ : List ℕ} {croom croom′ : List ℤ} where
@@ -116,18 +131,12 @@ pub demand-one : DemandOne
 demand-one = record {
   thin = λ o w. elim (thins.thin-told w) [ inl x ↦ exactly (inl x) | inr x ↦ exactly (inr (x .0, not-refused (x .3))) ];
   thin-same = λ o w r p. thin-same o w r p;
-  grow-back = λ w. elim (grows.grown-told w) [
-    | inl x ↦ exactly (inl x)
-    | inr x ↦ exactly (inr (x .0, elim (x .1) [ inl e ↦ not-refused e | inr f ↦ λ r p. failing-other (length (f .2)) r (sym (f .4) ∙ p) ]))
-  ];
+  grow-back = λ {n} {m} {room} {log} {a} w. records-refuse a (outcome-told (growing n m room log) (w .outcome));
   grow-same = λ w r p. grow-same w r p;
-  grow-fails = λ {a = a} w. record { when = λ k T f x. ap regrowths.told (grows.grown-one w (growth.grown f (grows.grown-stands w f) (record { table = T; reached = x; left = refl })) .0); only = λ k p. grow-stopped k w (stops a k p) };
-  replay = λ w. elim (replays.replay-told w) [
-    | inl x ↦ exactly (inl x)
-    | inr x ↦ exactly (inr (x .0, elim (x .1) [ inl e ↦ not-refused e | inr f ↦ λ r p. failing-other (length (f .0)) r (sym (f .4) ∙ p) ]))
-  ];
+  grow-fails = λ {n} {m} {room} {log} {a} w. record { when = λ k T f x. ap regrowths.told (grows.grown-one w (grow-on w f x) .0); only = λ k p. grow-stopped k w (stops a k p) };
+  replay = λ {n} {t} {log} {a} w. records-refuse a (outcome-told (replaying n t log) (w .outcome));
   replay-same = λ w r p. replay-same w r p;
-  replay-fails = λ {a = a} w. record { when = λ k T f x. ap regrowths.told (replays.replay-one w (replay.replayed f (replays.replay-stands w f) (record { table = T; redone = x; left = refl })) .0); only = λ k p. replay-stopped k w (stops a k p) };
+  replay-fails = λ {n} {t} {log} {a} w. record { when = λ k T f x. ap regrowths.told (replays.replay-one w (replay-on w f x) .0); only = λ k p. replay-stopped k w (stops a k p) };
   volume = λ a w. by-verdict _ (w .verdict) (w .checked .holds) (w .tells);
   change = λ a w. by-verdict _ (w .verdict) (w .first) (w .tells);
   shift = λ a w. by-verdict _ (w .verdict) (w .first) (w .tells);

@@ -3,11 +3,12 @@
 use mathlib.Core.Path.{_≡_}
 use mathlib.Core.Logic.{_⊎_}
 use mathlib.Core.Bool.{false}
-use mathlib.Core.List.{List, _++_}
-use Prim.Native.Nat.{ℕ, _-_, _<_}
+use mathlib.Core.List.{List}
+use Prim.Native.Nat.{ℕ, _<_}
 use lib.IntN.{ℤ}
-use lib.ListN.{length, replicate}
-use Rattle.surface.specs.Rows.{Row, rows, flat}
+use lib.ListN.{length}
+use Rattle.follow.specs.Follow.{Followed}
+use Rattle.surface.specs.Rows.{Row}
 use Rattle.refusal.specs.declared.Refusal.{Refusal}
 use Rattle.refusal.specs.declared.Verdict.the-variants.{Passes}
 use Rattle.refusal.specs.declared.Verdict.the-variants as verdict
@@ -23,15 +24,12 @@ use Rattle.thin.specs.declared.Thinning.{Thinning}
 use Rattle.thin.specs.Answer as thinnings
 use Rattle.thin.specs.Order.{asked}
 use Rattle.thin.specs.Thin.{thin-lines, Thinned}
-use Rattle.record.specs.Layout.{records}
-use Rattle.record.specs.Front.{standing, filled}
+use Rattle.record.specs.Front.{filled, zeroed}
 use Rattle.regrow.specs.declared.Regrown.{Regrown}
 use Rattle.regrow.specs.declared.Regrown.the-variants.{Stopped}
 use Rattle.regrow.specs.Answer as regrowths
-use Rattle.regrow.specs.Reached.{Reached}
-use Rattle.regrow.specs.Outcome.{grow-lines, GrownAs}
-use Rattle.replay.specs.Redone.{Redone}
-use Rattle.replay.specs.Outcome.{replay-lines, ReplayedAs}
+use Rattle.regrow.specs.Outcome.{grow-lines, growing, GrownAs}
+use Rattle.replay.specs.Outcome.{replay-lines, replaying, ReplayedAs}
 use Rattle.volume.specs.declared.Measured.{Measured}
 use Rattle.volume.specs.Answer as volumes
 use Rattle.volume.specs.Report.{VolumeReport, ChangeReport}
@@ -64,11 +62,11 @@ pub record DemandOne : Type 0 where
   pub grow-back : {n m : ℕ} {room log : List ℕ} {a : Regrown} {room′ : List ℕ} → GrownAs n m room log a room′ → Refuses (grow-lines n m room log) (regrowths.told a)
   pub grow-same : {n m : ℕ} {room log : List ℕ} {a : Regrown} {room′ : List ℕ} → GrownAs n m room log a room′ → (r : Refusal) → regrowths.told a ≡ refused r → room′ ≡ room
   pub grow-fails : {n m : ℕ} {room log : List ℕ} {a : Regrown} {room′ : List ℕ} → GrownAs n m room log a room′ →
-      Fails (grow-lines n m room log) (λ k T. Reached n (standing m room) (records log) (Stopped k) T) (λ T. room′ ≡ filled T room) (regrowths.told a)
+      Fails (grow-lines n m room log) (λ k T. Followed (growing n m room log) (Stopped k) T) (λ T. room′ ≡ filled T room) (regrowths.told a)
   pub replay : {n : ℕ} {t log : List ℕ} {a : Regrown} {t′ : List ℕ} → ReplayedAs n t log a t′ → Refuses (replay-lines n t log) (regrowths.told a)
   pub replay-same : {n : ℕ} {t log : List ℕ} {a : Regrown} {t′ : List ℕ} → ReplayedAs n t log a t′ → (r : Refusal) → regrowths.told a ≡ refused r → t′ ≡ t
   pub replay-fails : {n : ℕ} {t log : List ℕ} {a : Regrown} {t′ : List ℕ} → ReplayedAs n t log a t′ →
-      Fails (replay-lines n t log) (λ k T. Redone (rows t) (records log) (Stopped k) T) (λ T. t′ ≡ flat T ++ replicate (length t - length (flat T)) 0) (regrowths.told a)
+      Fails (replay-lines n t log) (λ k T. Followed (replaying n t log) (Stopped k) T) (λ T. t′ ≡ zeroed T t) (regrowths.told a)
   pub volume : {xs : List ℤ} {t : List ℕ} (a : Measured) → VolumeReport xs t (volumes.told a) → Refuses (lines-at false xs t) (volumes.told a)
   pub change : {xs : List ℤ} {t s : List ℕ} (a : Measured) → ChangeReport xs t s (volumes.told a) → Refuses (either (lines-at false xs t) (lines-at false xs s)) (volumes.told a)
   pub shift : {xs : List ℤ} {log : List ℕ} {v : ℕ} (a : Shifted) → ShiftReport xs log v (shifts.told a) → Refuses (shift-lines xs log v) (shifts.told a)

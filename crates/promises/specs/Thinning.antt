@@ -3,7 +3,7 @@ use mathlib.Core.Path.{_≡_}
 use mathlib.Core.List.{List, [], _∷_, _++_}
 use Prim.Native.Nat.{ℕ, _-_, _*_, _≤_, _<_, _%_}
 use lib.IntN.{ℤ, pos, _-ℤ_}
-use lib.ListN.{length, take, drop, replicate}
+use lib.ListN.{length, take, drop}
 use Rattle.surface.specs.Rows.{Row, rows, flat}
 use Rattle.surface.specs.Stage.{Skin}
 use Rattle.surface.specs.Record.{Record}
@@ -12,7 +12,8 @@ use Rattle.faults.specs.Counts.{corners}
 use Rattle.run.specs.Run.{Taken, Run}
 use Rattle.figure.specs.Sum.{sixfold}
 use Rattle.figure.specs.Rounding.{WithinHalf}
-use Rattle.record.specs.Layout.{width}
+use Rattle.record.specs.Layout.{room-for}
+use Rattle.record.specs.Front.{zeroed}
 use Rattle.length.specs.declared.Order.{Order}
 use Rattle.length.specs.declared.Order.the-variants.{Limit}
 use Rattle.length.specs.declared.Length.{Length}
@@ -42,10 +43,6 @@ use Rattle.reply.specs.declared.Answer.{Answer}
 use Rattle.reply.specs.Text.{OK}
 use Rattle.reply.specs.Outcome.{SkinOf, Replied}
 
--- the table that stands when the rows are T: they are in front, and zeros in the rest of the first table's length
-abbrev pub left-of : List ℕ → List Row → List ℕ
-left-of t T = flat T ++ replicate (length t - length (flat T)) 0
-
 -- where thinning under an order is done with k records
 abbrev pub DoneWith : Order → List ℤ → List ℕ → List ℕ → ℕ → List ℕ → List ℕ → Type 0
 DoneWith o xs t l k t′ l′ = Thinned o xs t l (Done k) t′ l′
@@ -61,14 +58,14 @@ pub record DemandTwo : Type 0 where
       (T₁ : List Row) × Taken (Allowed (w .b) xs) (rows t) p T₁ × KeptAfter (corners xs) (rows t) p T₁
   -- growing back the log restores the first table, number for number
   pub restores : (o : Order) {xs : List ℤ} {t l : List ℕ} {k : ℕ} {t′ l′ : List ℕ} → DoneWith o xs t l k t′ l′ → {a : Regrown} {r : List ℕ} →
-      GrownAs (corners xs) (length (rows t) - 2 * k) t′ (take (width * k) l′) a r → (regrowths.told a ≡ answers.done (pos k ∷ [])) × (r ≡ t)
+      GrownAs (corners xs) (length (rows t) - 2 * k) t′ (take (room-for k) l′) a r → (regrowths.told a ≡ answers.done (pos k ∷ [])) × (r ≡ t)
   -- and from record i on, the table before record i; p are the first i records
   pub restores-from : (o : Order) {xs : List ℤ} {t l : List ℕ} {k : ℕ} {t′ l′ : List ℕ} (w : RunOf (asked o) xs t l k t′ l′) (p q : List Record) → w .log ≡ p ++ q →
       {T₁ : List Row} → Taken (Allowed (w .b) xs) (rows t) p T₁ → {a : Regrown} {r : List ℕ} →
-      GrownAs (corners xs) (length (rows t) - 2 * k) t′ (drop (width * length p) (take (width * k) l′)) a r → (regrowths.told a ≡ answers.done (pos (length q) ∷ [])) × (r ≡ left-of t T₁)
+      GrownAs (corners xs) (length (rows t) - 2 * k) t′ (drop (room-for (length p)) (take (room-for k) l′)) a r → (regrowths.told a ≡ answers.done (pos (length q) ∷ [])) × (r ≡ zeroed T₁ t)
   -- replaying it from the first table does every record, and leaves what thinning left
   pub replays : (o : Order) {xs : List ℤ} {t l : List ℕ} {k : ℕ} {t′ l′ : List ℕ} → DoneWith o xs t l k t′ l′ → {a : Regrown} {r : List ℕ} →
-      ReplayedAs (corners xs) t (take (width * k) l′) a r → (regrowths.told a ≡ answers.done (pos k ∷ [])) × (r ≡ t′)
+      ReplayedAs (corners xs) t (take (room-for k) l′) a r → (regrowths.told a ≡ answers.done (pos k ∷ [])) × (r ≡ t′)
 
 -- txt begins with the desk's first line, `OK`, rows left, records, first and last volume, and the two are within half a cubic metre of exact: of the
 -- table t over the coordinates xs, and of the last stage of the run without limit from it
@@ -92,6 +89,6 @@ pub record DemandThree : Type 0 where
       Taken (Allowed (w .b) xs) (rows t) p T₁ → Taken (Allowed (w .b) xs) (rows t) q T₂ → (a : Measured) → ChangeReport xs (flat T₁) (flat T₂) (volumes.told a) → Near (sixfold xs T₂ -ℤ sixfold xs T₁) a
   -- under an order whose limit reads as L cm every first corner lies within k x L of its stand-in, for the log or a beginning of it
   pub shifts-within : (d : Length) {L : ℕ} → limit-of d ≡ Whole L → {xs : List ℤ} {t l : List ℕ} {k : ℕ} {t′ l′ : List ℕ} (w : RunOf (asked (Limit d)) xs t l k t′ l′) (p q : List Record) → w .log ≡ p ++ q →
-      (v : ℕ) → v < corners xs → (a : Shifted) → ShiftReport xs (take (width * length p) l′) v (shifts.told a) → Bounded L a
+      (v : ℕ) → v < corners xs → (a : Shifted) → ShiftReport xs (take (room-for (length p)) l′) v (shifts.told a) → Bounded L a
   -- the two volumes that the desk prints of a skin's sheet too
   pub printed-near : {b text : List ℕ} {a : Answer} {text′ : List ℕ} (w : Replied b text a text′) {xs : List ℤ} {t : List ℕ} → SkinOf b xs t → PrintedNear xs t (w .txt)

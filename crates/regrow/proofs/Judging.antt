@@ -16,7 +16,7 @@ use Rattle.refusal.proofs.Laws.{refused-passes}
 use Rattle.faults.specs.Counts.{CountsFit}
 use Rattle.faults.specs.Order.{CheckedStage}
 use Rattle.faults.proofs.Order.{after-2}
-use Rattle.grow.proofs.Filling.{standing-length}
+use Rattle.record.proofs.Front.{standing-length}
 use Rattle.regrow.specs.Outcome.{GrowFits, need, grow-lines}
 use Rattle.regrow.specs.Inner.{Judged, Ready}
 

@@ -26,7 +26,7 @@ use Rattle.faults.proofs.Order.{after-2, stage-passes}
 use Rattle.record.specs.Layout.{count, records}
 use Rattle.record.specs.Front.{front, standing, filled}
 use Rattle.record.proofs.Log.{first-length}
-use Rattle.grow.proofs.Filling.{standing-length, standing-filled}
+use Rattle.record.proofs.Front.{standing-length, standing-filled}
 use Rattle.regrow.specs.declared.Regrown.{Regrown}
 use Rattle.regrow.specs.declared.Regrown.the-variants.{Done, Refused}
 use Rattle.regrow.specs.Answer.{told, Did}

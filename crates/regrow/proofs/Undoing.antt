@@ -20,7 +20,7 @@ use Rattle.record.specs.Front.{front, standing, filled}
 use Rattle.record.proofs.Places.{records-length, records-back}
 use Rattle.refusal.specs.declared.Refusal.the-variants.{RecordFails}
 use Rattle.grow.specs.Room.{GrewBack}
-use Rattle.grow.proofs.Filling.{standing-length, standing-filled, filled-standing, filled-length, filled-again}
+use Rattle.record.proofs.Front.{standing-length, standing-filled, filled-standing, filled-length, filled-again}
 use Rattle.regrow.specs.declared.Regrown.the-variants.{Done, Stopped}
 use Rattle.regrow.specs.Outcome.{growing}
 use Rattle.regrow.specs.Inner.{Ready, GrownIn}

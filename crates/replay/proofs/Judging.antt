@@ -11,7 +11,8 @@ use Rattle.refusal.proofs.Laws.{refused-passes}
 use Rattle.faults.specs.Order.{CheckedStage}
 use Rattle.faults.proofs.Order.{after-2}
 use Rattle.slots.proofs.Slots.{whole-rows}
-use Rattle.replay.specs.Outcome.{ReplayFits, replay-lines, Judged}
+use Rattle.replay.specs.Outcome.{ReplayFits, replay-lines}
+use Rattle.replay.specs.Inner.{Judged}
 
 module _ (n : ℕ) (t log : List ℕ) where
   pub judge-2 : (¬ ReplayFits n t log) → Judged n t log (Refused CountsOutside)

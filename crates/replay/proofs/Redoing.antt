@@ -1,95 +1,99 @@
 -- The records done so far are the first of the log, and the stage that they lead to stands in front.
 use mathlib.Core.Path.{_≡_, refl, sym, _∙_, ap}
-use mathlib.Core.List.{List, [], _∷_, _++_, append-nil}
+use mathlib.Core.Bool.{true, false}
+use mathlib.Core.List.{List, _++_}
 use Prim.Native.Nat.{ℕ, _+_, _-_, _*_, _/_, _≤_, _<_}
-use native.Mathlib.Numerals.{add-one}
 use native.Mathlib.Omega.{arith}
-use lib.ListN.{length, take, drop, replicate, take-append-drop}
-use lib.Seq.{take-suc, take-length, length-take-le, drop-length}
+use lib.ListN.{length, replicate}
+use lib.Seq.{take-at}
+use Rattle.follow.proofs.Upto.{Upto, upto-none, upto-all, upto-fails, upto-more}
 use Rattle.surface.specs.Rows.{Row, rows, flat}
-use Rattle.surface.specs.Stage.{StageTable}
-use Rattle.surface.specs.Record as surface
-use Rattle.surface.specs.Record.{Replays, Replayed, no-step, one-step}
-use Rattle.run.proofs.Main.{step-one}
-use Rattle.record.specs.declared.Record.{Record}
-use Rattle.record.specs.Layout.{width, meant, record-at, records}
-use Rattle.record.proofs.Places.{records-length, records-at, records-from}
-use Rattle.record.specs.Front.{front}
-use Rattle.step.specs.Front.{SteppedFront, Fallen}
-use Rattle.step.proofs.Front.{fallen-none, front-replays, fallen-on, fallen-left}
+use Rattle.surface.specs.Stage.{Stage, StageTable}
+use Rattle.surface.specs.Record.{Record, Replays}
+use Rattle.surface.proofs.Flat.{rows-flat, flat-length}
+use Rattle.run.proofs.Main.{replayed-stage, step-rows}
+use Rattle.refusal.specs.declared.Refusal.the-variants.{RecordFails}
+use Rattle.record.specs.Layout.{width, count, record-at, records}
+use Rattle.record.specs.Front.{front, standing, lowered, zeroed}
+use Rattle.record.proofs.Log.{first-at}
+use Rattle.record.proofs.Places.{records-length}
+use Rattle.record.proofs.Front.{standing-front, zeroed-whole, zeroed-length, zeroed-again}
+use Rattle.redo.specs.Redo.{Redid}
 use Rattle.regrow.specs.declared.Regrown.the-variants.{Done, Stopped}
-use Rattle.record.specs.Layout.{count}
-use Rattle.replay.specs.Redone.{Accepts, all, stopped, RedoneIn}
+use Rattle.replay.specs.Outcome.{replaying}
+use Rattle.replay.specs.Inner.{RedoneIn}
 
--- one step more at the end
-pub replayed-more : {T T₁ T₂ : List Row} {l : List surface.Record} {k : surface.Record} → Replayed T l T₁ → Replays T₁ k T₂ → Replayed T (l ++ (k ∷ [])) T₂
-replayed-more (no-step e) r = one-step (rw (sym e) at r) (no-step refl)
-replayed-more (one-step r t) q = one-step r (replayed-more t q)
+-- after so many records
+pub record Redone (n : ℕ) (t log : List ℕ) (done : ℕ) (t′ : List ℕ) : Type 0 where
+  pub table : List Row
+  pub upto : Upto (replaying n t log) done table
+  pub many : length table + 2 * done ≡ length t / 3
+  pub left : t′ ≡ zeroed table t
 
--- after so many records, r rows stand
-pub record Redoing (n : ℕ) (t₀ log : List ℕ) (t : List ℕ) (r done : ℕ) : Type 0 where
-  pub upto : done ≤ count log
-  pub fallen : Fallen n t₀ (length t₀ / 3) t r
-  pub replayed : Replayed (rows t₀) (take done (records log)) (rows (front r t))
+module _ (n : ℕ) (t log : List ℕ) (g : StageTable n t) where
+  whole : length (rows t) ≡ length t / 3
+  whole = let e = g .count in omega arith
 
-module _ (n : ℕ) (t₀ log : List ℕ) (w : StageTable n t₀) where
-  whole : 3 * (length t₀ / 3) ≡ length t₀
-  whole = let e = w .count in omega arith
+  pub redone-none : Redone n t log 0 t
+  redone-none = record { table = rows t; upto = upto-none (replaying n t log); many = omega (arith, whole); left = sym (zeroed-whole t (g .count)) }
 
-  all-front : front (length t₀ / 3) t₀ ≡ t₀
-  all-front = ap (λ m. take m t₀) whole ∙ take-length t₀
+  module _ (done : ℕ) (t′ : List ℕ) (w : Redone n t log done t′) where
+    abbrev here : ℕ
+    here = length t / 3 - 2 * done
 
-  pub redoing-none : Redoing n t₀ log t₀ (length t₀ / 3) 0
-  redoing-none = record {
-    upto = omega arith;
-    fallen = fallen-none (omega (arith, whole)) (rw all-front w);
-    replayed = no-step (ap rows (sym all-front));
-  }
+    many : length (w .table) ≡ here
+    many = let e = w .many in omega arith
 
-  module _ (t : List ℕ) (r done : ℕ) (g : Redoing n t₀ log t r done) where
-    abbrev T : List Row
-    T = rows (front r t)
+    inside : 3 * length (w .table) ≤ length t
+    inside = let e = w .many in omega arith
 
-    -- the rows reached, then zeros
-    left : t ≡ flat T ++ replicate (length t₀ - length (flat T)) 0
-    left =
-        fallen-left t r (g .fallen)
-        ∙ (λ i. flat T ++ (replicate (whole i - length (flat T)) 0 ++ (ap (λ m. drop m t₀) whole ∙ drop-length t₀) i))
-        ∙ ap (λ l. flat T ++ l) (append-nil (replicate (length t₀ - length (flat T)) 0))
+    stands : standing here t′ ≡ w .table
+    stands = ap (standing here) (w .left) ∙ standing-front here (w .table) (replicate (length t - length (flat (w .table))) 0) many
 
-    pub redoing-all : count log ≤ done → RedoneIn t₀ log (Done done) t
-    redoing-all h =
-        let u = g .upto in
-        let e : done ≡ length (records log) = let k = records-length log in omega arith in
-        record { table = T; redone = all (rw (ap (λ m. take m (records log)) e ∙ take-length (records log)) at (g .replayed)) (ap Done e); left = left }
+    stage : Stage n (w .table)
+    stage = replayed-stage (g .stage) (w .upto .led)
 
-    module _ (h : done < count log) where
-      abbrev pub next : surface.Record
+    pub same : length t′ ≡ length t
+    same = ap length (w .left) ∙ zeroed-length (w .table) t inside
+
+    pub rows-there : 2 * done ≤ length t / 3
+    rows-there = let e = w .many in omega arith
+
+    pub rows-inside : 3 * (length t / 3 - 2 * done) ≤ length t′
+    rows-inside = omega (arith, same, many, inside)
+
+    pub table-stands : StageTable n (front (length t / 3 - 2 * done) t′)
+    table-stands =
+        let e = ap (front here) (w .left) ∙ take-at (flat (w .table)) (replicate (length t - length (flat (w .table))) 0) (3 * here) (flat-length (w .table) ∙ ap (λ z. 3 * z) many) in
+        rw e (record { count = flat-length (w .table) ∙ ap (λ (S : List Row). 3 * length S) (sym (rows-flat (w .table))); stage = rw (rows-flat (w .table)) stage })
+
+    pub done-all : count log ≤ done → RedoneIn n t log (Done done) t′
+    done-all h = record { table = w .table; reached = upto-all (replaying n t log) (w .upto) (omega (arith, records-length log, h)); left = w .left }
+
+    module _ (more : done < count log) where
+      -- the record after those done
+      abbrev pub next : Record
       next = record-at log (width * done)
 
-      inside : done < length (records log)
-      inside = let e = records-length log in omega arith
+      more-items : done < length (records log)
+      more-items = omega (arith, records-length log, more)
 
-      split : records log ≡ take done (records log) ++ next ∷ drop (done + 1) (records log)
-      split = sym (take-append-drop done (records log)) ∙ ap (λ l. take done (records log) ++ l) (records-from log done h)
-
-      pub next-fails : ¬ Accepts T next → RedoneIn t₀ log (Stopped done) t
-      next-fails no-more = record {
-        table = T;
-        redone = stopped (take done (records log)) next (drop (done + 1) (records log)) split (g .replayed) no-more
-            (ap Stopped (sym (length-take-le done (records log) (omega (arith, inside)))));
-        left = left;
+      pub next-fails : {t″ : List ℕ} → Redid (length t / 3 - 2 * done) next t′ false t″ → RedoneIn n t log (Stopped done) t″
+      unfolding Redid
+      next-fails f = record {
+        table = w .table;
+        reached = upto-fails (replaying n t log) (w .upto) more-items next (first-at (count log) log done next more) {r = RecordFails} ((λ T r. f .0 (T, rw stands r)), refl);
+        left = f .1 ∙ w .left;
       }
 
-      pub next-done : (k e : Record) (t′ : List ℕ) → meant k ≡ next → Accepts T (meant k) → SteppedFront t r (k .kept .0) (k .removed .0) e t′ → length t′ ≡ length t → Redoing n t₀ log t′ (r - 2) (done + 1)
-      next-done k e t′ is a s same =
-          let q = front-replays t r (g .fallen) e t′ s same in
-          let o = step-one (s .stepped .kept-is) (s .stepped .removed-is) q (a .1) in
-          record {
-            upto = omega arith;
-            fallen = fallen-on t r (g .fallen) e t′ s same;
-            replayed = rw one-longer (replayed-more (g .replayed) (rw (o .0 ∙ is) at q));
+      pub next-done : {t″ : List ℕ} → Redid (length t / 3 - 2 * done) next t′ true t″ → Redone n t log (done + 1) t″
+      unfolding Redid
+      next-done f =
+          let r : Replays (w .table) next (f .0) = rw stands at (f .1) in
+          let l = step-rows stage r in
+          let k = w .many in record {
+            table = f .0;
+            upto = upto-more (replaying n t log) (w .upto) more-items next (first-at (count log) log done next more) r;
+            many = omega arith;
+            left = f .2 ∙ (λ i. lowered (sym many i) (f .0) (w .left i)) ∙ zeroed-again (w .table) (f .0) t (omega arith) inside;
           }
-        where
-          one-longer : take (done + 1) (records log) ≡ take done (records log) ++ (next ∷ [])
-          one-longer = rw (add-one done) (take-suc (records log) done (record-at log 0) inside ∙ ap (λ k. take done (records log) ++ (k ∷ [])) (records-at log done h))

@@ -1,2 +1,2 @@
-pub mod Redone
 pub mod Outcome
+pub mod Inner

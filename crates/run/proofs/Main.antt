@@ -43,6 +43,9 @@ step-euler {n} {T} s r c d = euler-kept n T s _ _ (r .meets) c (rw (sym (r .leav
 pub step-corners : {n : ℕ} {T T₁ : List Row} {k : Record} {v v′ : ℕ} → Stage n T → Replays T k T₁ → Exactly (Used T) v → Exactly (Used T₁) v′ → v ≡ v′ + 1
 step-corners {n} {T} s r c d = one-fewer n T s _ _ (r .meets) c (rw (sym (r .leaves)) at d)
 
+pub step-rows : {n : ℕ} {T T₁ : List Row} {k : Record} → Stage n T → Replays T k T₁ → length T ≡ 2 + length T₁
+step-rows {n} {T} s r = rw (r .leaves) at (two-fewer n T s _ _ (r .meets))
+
 module _ {P : ℕ → ℕ → Type 0} where
   -- there is one least edge
   pub least-one : {T : List Row} {a b c d : ℕ} → Least P T a b → Least P T c d → (a ≡ c) × (b ≡ d)
@@ -105,7 +108,7 @@ pub replayed-rows : {n : ℕ} {T T′ : List Row} {l : List Record} → Stage n 
 replayed-rows s (no-step e) = let h = ap length e in omega arith
 replayed-rows {n} {T} s (one-step {u = T₁} r t) =
     let i = replayed-rows (step-stage s r) t in
-    let h : length T ≡ 2 + length T₁ = rw (r .leaves) at (two-fewer n T s _ _ (r .meets)) in
+    let h = step-rows s r in
     omega arith
 
 pub replayed-euler : {n : ℕ} {T T′ : List Row} {l : List Record} {χ χ′ : ℤ} → Stage n T → Replayed T l T′ → Euler T χ → Euler T′ χ′ → χ ≡ χ′

@@ -122,7 +122,7 @@ module _ {n : ℕ} {T : List Row} {xs : List ℤ} (s : Skin n T xs) {l : List Re
       let e = s .corners in
       let c : corners xs ≡ n = skin-corners s in
       let k = log-length l in
-      record { coordinates = record { threes = omega arith; count = rw c (stage-corners (s .stage)) }; tens = omega arith }
+      record { coordinates = record { threes = omega arith; count = rw c (stage-corners (s .stage)) }; whole = omega arith }
 
   -- no shift is refused there, and the answer is stand-in, count and squared distance
   pub shift-there : ShiftReport xs (log-of l) v (told (StandIn (record { 0 = stand-in v l }) (moves v l) (squared-distance xs v (stand-in v l))))

@@ -12,14 +12,14 @@ use Rattle.refusal.specs.declared.Verdict.{Verdict}
 use Rattle.refusal.specs.declared.Verdict.the-variants.{Passes}
 use Rattle.refusal.specs.declared.Refusal.the-variants.{CountsOutside, CoordinateOutOfRange, NumberNotBelow}
 use Rattle.refusal.specs.First.{Clause, _when_, First}
-use Rattle.record.specs.Layout.{width, records}
+use Rattle.record.specs.Layout.{records, WholeRecords}
 use Rattle.faults.specs.Counts.{CoordinatesFit, corners}
 use Rattle.faults.specs.Words.{OutOfRange}
 
 -- 2: counts and lengths of the coordinates, and a log that is a multiple of 10
 pub record ShiftFits (xs : List ℤ) (log : List ℕ) : Type 0 where
   pub coordinates : CoordinatesFit xs
-  pub tens : length log % width ≡ 0
+  pub whole : WholeRecords log
 
 -- 5, of a log: a number kept or removed is not below the count
 pub data PastIn (n : ℕ) (l : List Record) : Type 0 where

@@ -1,18 +1,19 @@
 -- What a thinning that is done comes to.
 use mathlib.Core.Path.{_≡_}
 use mathlib.Core.List.{List, _++_}
-use Prim.Native.Nat.{ℕ, _+_, _-_, _*_, _%_}
+use Prim.Native.Nat.{ℕ, _+_, _*_, _%_}
 use lib.IntN.{ℤ}
-use lib.ListN.{length, drop, replicate}
+use lib.ListN.{length, drop}
 use Rattle.surface.specs.Lists.{Exactly}
-use Rattle.surface.specs.Rows.{Row, rows, flat}
+use Rattle.surface.specs.Rows.{Row, rows}
 use Rattle.surface.specs.Table.{Used}
 use Rattle.surface.specs.Stage.{Stage, Skin}
 use Rattle.surface.specs.Record.{Record}
 use Rattle.surface.specs.Euler.{Euler}
 use Rattle.faults.specs.Counts.{corners}
 use Rattle.run.specs.Run.{Run}
-use Rattle.record.specs.Layout.{width, log-of}
+use Rattle.record.specs.Layout.{log-of, room-for}
+use Rattle.record.specs.Front.{zeroed}
 use Rattle.least.specs.declared.Bound.{Bound}
 use Rattle.least.specs.Limited.{Allowed}
 use Rattle.thin.specs.declared.Asked.{Asked}
@@ -29,8 +30,8 @@ pub record RunOf (a : Asked) (xs : List ℤ) (t l : List ℕ) (k : ℕ) (t′ l�
   pub under : a ≡ Under b
   pub run : Run (Allowed b xs) (rows t) log last
   pub count : k ≡ length log
-  pub table : t′ ≡ flat last ++ replicate (length t - length (flat last)) 0
-  pub logged : l′ ≡ log-of log ++ drop (width * length log) l
+  pub table : t′ ≡ zeroed last t
+  pub logged : l′ ≡ log-of log ++ drop (room-for (length log)) l
 
 -- after each beginning of the log a stage stands, of the same Euler number, with 2 k fewer rows and k fewer corners used
 pub record KeptAfter (n : ℕ) (T : List Row) (l : List Record) (T₁ : List Row) : Type 0 where

@@ -2,11 +2,11 @@
 use mathlib.Core.Path.{_≡_}
 use mathlib.Core.Bool.{true}
 use mathlib.Core.List.{List, _∷_, _++_}
-use Prim.Native.Nat.{ℕ, _-_, _*_, _≤_, _<_}
+use Prim.Native.Nat.{ℕ, _-_, _≤_, _<_}
 use lib.IntN.{ℤ}
-use lib.ListN.{length, drop, replicate}
+use lib.ListN.{length, drop}
 use Rattle.surface.specs.Limits.{least-corners}
-use Rattle.surface.specs.Rows.{Row, rows, flat}
+use Rattle.surface.specs.Rows.{Row, rows}
 use Rattle.surface.specs.Stage.{Skin}
 use Rattle.surface.specs.Record.{Record}
 use Rattle.refusal.specs.declared.Refusal.{Refusal}
@@ -18,7 +18,8 @@ use Rattle.refusal.specs.First.{Clause, _when_, First}
 use Rattle.faults.specs.Counts.{CountsFitAt, corners}
 use Rattle.faults.specs.Order.{lines-after-counts}
 use Rattle.run.specs.Run.{Run}
-use Rattle.record.specs.Layout.{width, log-of}
+use Rattle.record.specs.Layout.{log-of, room-for}
+use Rattle.record.specs.Front.{zeroed}
 use Rattle.length.specs.declared.Order.{Order}
 use Rattle.length.specs.Limit.{most-limit}
 use Rattle.least.specs.declared.Bound.{Bound}
@@ -32,7 +33,7 @@ use Rattle.thin.specs.Order.{asked}
 
 -- thinning needs 10 x (corners - 4) log numbers
 abbrev pub need : List ℤ → ℕ
-need xs = width * (corners xs - least-corners)
+need xs = room-for (corners xs - least-corners)
 
 -- 1, 2, 3, then 4 to 11 of a first table
 unfoldable pub thin-lines : Asked → List ℤ → List ℕ → ℕ → List Clause
@@ -62,8 +63,8 @@ pub data ThinnedAs (a : Asked) (xs : List ℤ) (t l : List ℕ) (r : Thinning) (
   refused : {e : Refusal} → First (thin-lines a xs t (length l)) (verdict.Refused e) → r ≡ Refused e → t′ ≡ t → l′ ≡ l → ThinnedAs a xs t l r t′ l′
   -- done, the table was a skin, and it leaves the last stage in front, zeros in the rest of the first table's length, and the log past its records untouched
   done : {b : Bound} {log : List Record} {last : List Row} → First (thin-lines a xs t (length l)) Passes → Skin (corners xs) (rows t) xs → a ≡ Under b →
-      Run (Allowed b xs) (rows t) log last → r ≡ Done (length log) → t′ ≡ flat last ++ replicate (length t - length (flat last)) 0 →
-      l′ ≡ log-of log ++ drop (width * length log) l → ThinnedAs a xs t l r t′ l′
+      Run (Allowed b xs) (rows t) log last → r ≡ Done (length log) → t′ ≡ zeroed last t →
+      l′ ≡ log-of log ++ drop (room-for (length log)) l → ThinnedAs a xs t l r t′ l′
 
 -- under an order
 abbrev pub Thinned : Order → List ℤ → List ℕ → List ℕ → Thinning → List ℕ → List ℕ → Type 0

@@ -1,6 +1,6 @@
 -- `replay` meets its contract.
 use mathlib.Core.Path.{refl}
-use Rattle.replay.specs.Outcome.{refused, replayed}
+use Rattle.follow.specs.Follow.{refused, followed}
 use borrow.Author.Needs.{needs}
 use Rattle.replay.proofs.replay.Statement.{statement}
 use Rattle.replay.proofs.replay.Tie as tie
@@ -27,7 +27,7 @@ returns : tie.Need-returns
 returns c =
     let v = c .before .v in
     let judge = c .before .before .before .judge in
-    refused (rw (v .given .1) at (judge .ensures .holds)) refl refl
+    record { outcome = refused (rw (v .given .1) at (judge .ensures .holds)) refl refl }
 
 same-length-2 : tie.Need-same-length-2
 same-length-2 c = search needs
@@ -37,7 +37,7 @@ returns-2 c =
     let enum-told = c .before .before .before .before .enum-told in
     let judge = c .before .before .before .before .before .before .judge in
     let replay-log = c .before .before .replay-log in
-    replayed (rw (enum-told .given .1) at (judge .ensures .holds)) (judge .ensures .stage (enum-told .given .1) .stage) (replay-log .ensures)
+    record { outcome = followed (rw (enum-told .given .1) at (judge .ensures .holds), judge .ensures .stage (enum-told .given .1) .stage) (replay-log .ensures .reached) (replay-log .ensures .left) }
 
 pub replay-spec : {M : Type 1} → statement M
 replay-spec =

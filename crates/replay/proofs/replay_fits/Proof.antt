@@ -19,7 +19,7 @@ returns c =
 returns-2 : tie.Need-returns-2
 returns-2 c =
     let if2 = c .if2 in
-    tells-false (λ w. if2 .taken (w .tens))
+    tells-false (λ w. if2 .taken (w .whole))
 
 mul-if3 : tie.Need-mul-if3
 mul-if3 c = search needs
@@ -44,7 +44,7 @@ returns-4 c =
     let args = c .before .before .before .before .before .before .args in
     let if3 = c .if3 in
     let fits = counts-fit .ensures .when-true (not-false (counts-fit .result) (if1 .left)) in
-    tells-true (record { counts = fits; tens = if2 .left; least = omega (arith, whole-rows (args .table .now) (fits .table .threes), if3 .left) })
+    tells-true (record { counts = fits; whole = if2 .left; least = omega (arith, whole-rows (args .table .now) (fits .table .threes), if3 .left) })
 
 pub replay-fits-spec : {M : Type 1} → statement M
 replay-fits-spec =
