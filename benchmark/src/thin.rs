@@ -23,14 +23,32 @@ fn gather<'a>(
     &room[..count]
 }
 
-/// The numbers of a ring, marked.
-fn marks(ring: &[u32], work: &mut impl Work) -> [bool; CORNERS] {
-    let mut marks = [false; CORNERS];
+/// Room for the rings of an edge's two corners, and marks for each that are blank before and after an edge or a corner is asked.
+struct Scratch {
+    first: [u32; CORNERS],
+    near: [bool; CORNERS],
+    second: [u32; CORNERS],
+    far: [bool; CORNERS],
+}
+
+impl Scratch {
+    const EMPTY: Scratch =
+        Scratch { first: [0; CORNERS], near: [false; CORNERS], second: [0; CORNERS], far: [false; CORNERS] };
+}
+
+/// Marks the numbers of a ring.
+fn mark(ring: &[u32], marks: &mut [bool; CORNERS], work: &mut impl Work) {
     for &corner in ring {
         marks[corner as usize] = true;
     }
     work.ring_entries(ring.len());
-    marks
+}
+
+/// Takes the marks of a ring away again.
+fn unmark(ring: &[u32], marks: &mut [bool; CORNERS]) {
+    for &corner in ring {
+        marks[corner as usize] = false;
+    }
 }
 
 /// The link condition of an edge to one of the neighbours that a ring lists: more than four rows, and two common neighbours.
@@ -40,25 +58,35 @@ fn meets_round(
     first: &[u32],
     near: &[bool; CORNERS],
     removed: u32,
+    room: &mut [u32; CORNERS],
+    far: &mut [bool; CORNERS],
     work: &mut impl Work,
 ) -> bool {
     work.link_test();
     if table.len() <= FOUR_ROWS {
         return false;
     }
-    let mut room = [0; CORNERS];
-    let second = gather(table, chains, removed, &mut room, work);
-    let far = marks(second, work);
+    let second = gather(table, chains, removed, room, work);
+    mark(second, far, work);
     let shorter = if second.len() < first.len() { second } else { first };
     work.ring_entries(shorter.len());
-    shorter.iter().filter(|&&corner| near[corner as usize] && far[corner as usize]).count() == 2
+    let shared = shorter.iter().filter(|&&corner| near[corner as usize] && far[corner as usize]).count();
+    unmark(second, far);
+    shared == 2
 }
 
 /// The link condition of an edge.
 pub fn may_contract(table: &[u32], chains: &Chains, kept: u32, removed: u32, work: &mut impl Work) -> bool {
-    let mut room = [0; CORNERS];
-    let first = gather(table, chains, kept, &mut room, work);
-    first.contains(&removed) && meets_round(table, chains, first, &marks(first, work), removed, work)
+    let mut scratch = Scratch::EMPTY;
+    let Scratch { first, near, second, far } = &mut scratch;
+    let ring = gather(table, chains, kept, first, work);
+    if !ring.contains(&removed) {
+        return false;
+    }
+    mark(ring, near, work);
+    let meets = meets_round(table, chains, ring, near, removed, second, far, work);
+    unmark(ring, near);
+    meets
 }
 
 /// The least neighbour above a number: mostly one of the next few that are marked, else by a look through the ring.
@@ -82,21 +110,48 @@ fn squared_distance(corners: &[i32], a: u32, b: u32) -> u64 {
     (0..3).map(|axis| (gap(axis) * gap(axis)) as u64).sum()
 }
 
+/// The least edge from a corner upward that qualifies; near marks its ring.
+fn least_marked(
+    table: &[u32],
+    chains: &Chains,
+    corners: &[i32],
+    most: Option<u64>,
+    kept: u32,
+    ring: &[u32],
+    near: &[bool; CORNERS],
+    second: &mut [u32; CORNERS],
+    far: &mut [bool; CORNERS],
+    work: &mut impl Work,
+) -> Option<(u32, u32)> {
+    let mut past = kept;
+    while let Some(removed) = next_above(ring, near, past, work) {
+        let short = most.is_none_or(|most| squared_distance(corners, kept, removed) <= most * most);
+        if short && meets_round(table, chains, ring, near, removed, second, far, work) {
+            return Some((kept, removed));
+        }
+        past = removed;
+    }
+    None
+}
+
 /// The least edge that qualifies.
-fn least_edge(table: &[u32], corners: &[i32], most: Option<u64>, work: &mut impl Work) -> Option<(u32, u32)> {
+fn least_edge(
+    table: &[u32],
+    corners: &[i32],
+    most: Option<u64>,
+    scratch: &mut Scratch,
+    work: &mut impl Work,
+) -> Option<(u32, u32)> {
     let mut chains = Chains::EMPTY;
     chains.link(table, work);
-    let mut room = [0; CORNERS];
+    let Scratch { first, near, second, far } = scratch;
     for kept in 0..(corners.len() / 3) as u32 {
-        let ring = gather(table, &chains, kept, &mut room, work);
-        let near = marks(ring, work);
-        let mut past = kept;
-        while let Some(removed) = next_above(ring, &near, past, work) {
-            let short = most.is_none_or(|most| squared_distance(corners, kept, removed) <= most * most);
-            if short && meets_round(table, &chains, ring, &near, removed, work) {
-                return Some((kept, removed));
-            }
-            past = removed;
+        let ring = gather(table, &chains, kept, first, work);
+        mark(ring, near, work);
+        let found = least_marked(table, &chains, corners, most, kept, ring, near, second, far, work);
+        unmark(ring, near);
+        if found.is_some() {
+            return found;
         }
     }
     None
@@ -156,8 +211,9 @@ pub fn thin(
         return Err(3);
     }
     check::with_coordinates(table, corners, true, work)?;
+    let mut scratch = Scratch::EMPTY;
     let (mut end, mut records) = (table.len(), 0);
-    while let Some((kept, removed)) = least_edge(&table[..end], corners, most, work) {
+    while let Some((kept, removed)) = least_edge(&table[..end], corners, most, &mut scratch, work) {
         let written = record(&table[..end], kept, removed, work);
         contract(&mut table[..end], kept, removed, work);
         log[WIDTH * records..][..WIDTH].copy_from_slice(&written);

@@ -7,7 +7,7 @@ ghost use Rattle.surface.specs.Lists.{_∈_};
 ghost use Rattle.surface.specs.Rows.{rows};
 ghost use Rattle.run.specs.Run.{Qualifies};
 ghost use Rattle.faults.specs.Tells.{Tells};
-ghost use Rattle.link.specs.Around.{Neighbours, Marked};
+ghost use Rattle.link.specs.Around.{Neighbours, Marked, Unmarked};
 ghost use Rattle.least.specs.Limited.{Allowed, MeasurableAt};
 ghost use Rattle.least.specs.Search.{Searchable, SearchableAt, Above, Better, NextAbove, NextMarked, FoundAt, FoundLeast};
 
@@ -38,7 +38,7 @@ fn allowed(xs: &[i32], bound: Bound, a: Corner, b: Corner) -> bool
 }
 
 // Whether the edge from a up to b qualifies: the limit first, since the link condition costs more. ring lists the neighbours of a, b among
-// them, and near marks them.
+// them, and near marks them; second and far are the link test's scratch.
 fn qualifies(
     t: &[u32],
     last: &[usize],
@@ -49,15 +49,20 @@ fn qualifies(
     ring: &[u32],
     near: &[u8],
     b: Corner,
+    second: &mut [u32],
+    far: &mut [u8],
 ) -> bool
     requires { ⌜ a .0 < b .0 ⌝ }
     requires { ⌜ SearchableAt (now t) (now last) (now prev) bound (now xs) (a .0) ⌝ }
     requires { ⌜ Neighbours (rows (now t)) (a .0) (now ring) × Marked (now ring) (now near) ⌝ }
     requires { ⌜ b .0 ∈ now ring ⌝ }
+    requires { ⌜ most-corners ≤ length (now second) ⌝ }
+    requires { ⌜ Unmarked (now far) ⌝ }
     ensures { λ r. ⌜ Tells r (Qualifies (Allowed bound (now (xs .entry))) (rows (now (t .entry))) (a .0) (b .0)) (¬ Qualifies (Allowed bound (now (xs .entry))) (rows (now (t .entry))) (a .0) (b .0)) ⌝ }
+    ensures { λ _. ⌜ Unmarked (now (far .exit)) ⌝ }
 {
     if allowed(xs, bound, a, b) {
-        link::meets_round(t, last, prev, ring, near, b)
+        link::meets_round(t, last, prev, ring, near, b, second, far)
     } else {
         false
     }
@@ -125,7 +130,52 @@ fn next_above(ring: &[u32], near: &[u8], past: u32) -> u32
     least_above(ring, past)
 }
 
-// The least edge from a upward that qualifies. The neighbours of a, which ring lists, are tried in rising order.
+// The least edge from a upward that qualifies. The neighbours of a, which ring lists and near marks, are tried in rising order; second and
+// far are the link test's scratch.
+fn least_marked(
+    t: &[u32],
+    last: &[usize],
+    prev: &[usize],
+    xs: &[i32],
+    bound: Bound,
+    a: Corner,
+    ring: &[u32],
+    near: &[u8],
+    second: &mut [u32],
+    far: &mut [u8],
+) -> Found
+    requires { ⌜ SearchableAt (now t) (now last) (now prev) bound (now xs) (a .0) ⌝ }
+    requires { ⌜ Neighbours (rows (now t)) (a .0) (now ring) × Marked (now ring) (now near) ⌝ }
+    requires { ⌜ most-corners ≤ length (now second) ⌝ }
+    requires { ⌜ Unmarked (now far) ⌝ }
+    ensures { λ r. ⌜ FoundAt (Allowed bound (now (xs .entry))) (rows (now (t .entry))) (a .0) r ⌝ }
+    ensures { λ _. ⌜ Unmarked (now (far .exit)) ⌝ }
+{
+    let mut past = a.0;
+    let mut b = next_above(ring, near, past);
+    while b < NONE {
+        if qualifies(
+            t,
+            last,
+            prev,
+            xs,
+            bound,
+            a,
+            ring,
+            near,
+            Corner(b),
+            second,
+            far,
+        ) {
+            return Found::Edge(a, Corner(b));
+        }
+        past = b;
+        b = next_above(ring, near, past);
+    }
+    Found::Nothing
+}
+
+// The same of a corner whose neighbours ring lists: near marks them for the search, and is blank again after it.
 fn least_at(
     t: &[u32],
     last: &[usize],
@@ -134,26 +184,25 @@ fn least_at(
     bound: Bound,
     a: Corner,
     ring: &[u32],
+    near: &mut [u8],
+    second: &mut [u32],
+    far: &mut [u8],
 ) -> Found
     requires { ⌜ SearchableAt (now t) (now last) (now prev) bound (now xs) (a .0) ⌝ }
     requires { ⌜ Neighbours (rows (now t)) (a .0) (now ring) ⌝ }
+    requires { ⌜ most-corners ≤ length (now second) ⌝ }
+    requires { ⌜ Unmarked (now near) × Unmarked (now far) ⌝ }
     ensures { λ r. ⌜ FoundAt (Allowed bound (now (xs .entry))) (rows (now (t .entry))) (a .0) r ⌝ }
+    ensures { λ _. ⌜ Unmarked (now (near .exit)) × Unmarked (now (far .exit)) ⌝ }
 {
-    let mut near = [0u8; surface::MOST_CORNERS];
-    link::mark(ring, &mut near);
-    let mut past = a.0;
-    let mut b = next_above(ring, &near, past);
-    while b < NONE {
-        if qualifies(t, last, prev, xs, bound, a, ring, &near, Corner(b)) {
-            return Found::Edge(a, Corner(b));
-        }
-        past = b;
-        b = next_above(ring, &near, past);
-    }
-    Found::Nothing
+    link::mark(ring, near);
+    let found = least_marked(t, last, prev, xs, bound, a, ring, near, second, far);
+    link::unmark(ring, near);
+    found
 }
 
-// Inner: the least edge that qualifies, if any does. Corners are tried in rising order.
+// Inner: the least edge that qualifies, if any does. Corners are tried in rising order. The rest is scratch: room for the ring of a corner
+// and marks for it, and the same for the link test; the marks are blank again when the search ends.
 pub fn least_edge(
     t: &[u32],
     n: usize,
@@ -161,16 +210,33 @@ pub fn least_edge(
     prev: &[usize],
     xs: &[i32],
     bound: Bound,
+    ring: &mut [u32],
+    near: &mut [u8],
+    second: &mut [u32],
+    far: &mut [u8],
 ) -> Found
     requires { ⌜ Searchable n (now t) (now last) (now prev) bound (now xs) ⌝ }
+    requires { ⌜ (most-corners ≤ length (now ring)) × (most-corners ≤ length (now second)) ⌝ }
+    requires { ⌜ Unmarked (now near) × Unmarked (now far) ⌝ }
     ensures { λ r. ⌜ FoundLeast (Allowed bound (now (xs .entry))) (rows (now (t .entry))) r ⌝ }
+    ensures { λ _. ⌜ Unmarked (now (near .exit)) × Unmarked (now (far .exit)) ⌝ }
 {
-    let mut ring = [0u32; surface::MOST_CORNERS];
     let mut a: usize = 0;
     while a < n {
         let corner = Corner(a as u32);
-        let k = link::gather(t, last, prev, corner, &mut ring);
-        let found = least_at(t, last, prev, xs, bound, corner, &ring[..k]);
+        let k = link::gather(t, last, prev, corner, ring);
+        let found = least_at(
+            t,
+            last,
+            prev,
+            xs,
+            bound,
+            corner,
+            &ring[..k],
+            near,
+            second,
+            far,
+        );
         match found {
             Found::Edge(_, _) => return found,
             Found::Nothing => {}

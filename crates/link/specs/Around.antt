@@ -11,6 +11,7 @@ use Rattle.surface.specs.Table.{Edge}
 use Rattle.surface.specs.Stage.{StageTable}
 use Rattle.surface.specs.Link.{Meets}
 use Rattle.slots.specs.Chain.{Chained}
+use Rattle.slots.specs.Marks.{Blank}
 use Rattle.faults.specs.Tells.{Tells}
 
 -- the flat table t is a stage, and last and prev are the chains of its slots
@@ -44,6 +45,11 @@ pub record Marked (l m : List ℕ) : Type 0 where
   pub room : most-corners ≤ length m
   pub all : {w : ℕ} → w ∈ l → getD m w 0 ≢ 0
   pub only : {w : ℕ} → getD m w 0 ≢ 0 → w ∈ l
+
+-- m marks none, and has room for a mark of each number that a corner may have: scratch as it is lent, and as it comes back
+pub record Unmarked (m : List ℕ) : Type 0 where
+  pub room : most-corners ≤ length m
+  pub blank : Blank m
 
 -- w is marked in both
 abbrev pub MarkedTwice : List ℕ → List ℕ → ℕ → Type 0

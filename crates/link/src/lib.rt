@@ -7,9 +7,8 @@ ghost use Rattle.surface.specs.Lists.{_∈_, Distinct, Exactly};
 ghost use Rattle.surface.specs.Rows.{rows};
 ghost use Rattle.surface.specs.Link.{Meets};
 ghost use Rattle.faults.specs.Tells.{Tells};
-ghost use Rattle.slots.specs.Marks.{Blank};
 ghost use Rattle.link.specs.Chosen.{Chosen};
-ghost use Rattle.link.specs.Around.{Charted, Gathered, CornerNumbers, Marked, MarkedTwice, Both, TellsEdge};
+ghost use Rattle.link.specs.Around.{Charted, Gathered, CornerNumbers, Marked, Unmarked, MarkedTwice, Both, TellsEdge};
 
 // The numbers of four rows: the tetrahedron.
 const FOUR_ROWS: usize = 12;
@@ -60,14 +59,26 @@ fn contains(l: &[u32], w: u32) -> bool
 // Inner: marks the numbers of a ring.
 pub fn mark(ring: &[u32], m: &mut [u8])
     requires { ⌜ CornerNumbers (now ring) ⌝ }
-    requires { ⌜ most-corners ≤ length (now m) ⌝ }
-    requires { ⌜ Blank (now m) ⌝ }
+    requires { ⌜ Unmarked (now m) ⌝ }
     ensures { λ _. ⌜ Marked (now (ring .entry)) (now (m .exit)) ⌝ }
 {
     let mut i: usize = 0;
     while i < ring.len() {
         let w = ring[i] as usize;
         m[w] = 1;
+        i += 1;
+    }
+}
+
+// Inner: takes the marks of a ring away again.
+pub fn unmark(ring: &[u32], m: &mut [u8])
+    requires { ⌜ Marked (now ring) (now m) ⌝ }
+    ensures { λ _. ⌜ Unmarked (now (m .exit)) ⌝ }
+{
+    let mut i: usize = 0;
+    while i < ring.len() {
+        let w = ring[i] as usize;
+        m[w] = 0;
         i += 1;
     }
 }
@@ -104,6 +115,7 @@ fn common<'a>(first: &'a [u32], second: &'a [u32], near: &[u8], far: &[u8]) -> u
 
 // Inner: whether the edge from b to a corner whose neighbours first lists may be contracted; b is one of them, and near marks them.
 // On four rows none may, and past them the two corners opposite an edge are the only common neighbours exactly when there are two.
+// second and far are scratch: room for the ring of b, and marks that are blank again when it is told.
 pub fn meets_round(
     t: &[u32],
     last: &[usize],
@@ -111,35 +123,54 @@ pub fn meets_round(
     first: &[u32],
     near: &[u8],
     b: Corner,
+    second: &mut [u32],
+    far: &mut [u8],
 ) -> bool
     requires { ⌜ Charted (now t) (now last) (now prev) ⌝ }
     requires { ⌜ Distinct (now first) × (b .0 ∈ now first) ⌝ }
     requires { ⌜ Marked (now first) (now near) ⌝ }
     requires { ⌜ b .0 < length (now last) ⌝ }
+    requires { ⌜ most-corners ≤ length (now second) ⌝ }
+    requires { ⌜ Unmarked (now far) ⌝ }
     ensures { λ r. ⌜ TellsEdge (rows (now (t .entry))) (now (first .entry)) (b .0) r ⌝ }
+    ensures { λ _. ⌜ Unmarked (now (far .exit)) ⌝ }
 {
     if t.len() <= FOUR_ROWS {
         return false;
     }
-    let mut second = [0u32; surface::MOST_CORNERS];
-    let k = gather(t, last, prev, b, &mut second);
-    let mut far = [0u8; surface::MOST_CORNERS];
-    mark(&second[..k], &mut far);
-    common(first, &second[..k], near, &far) == 2
+    let k = gather(t, last, prev, b, second);
+    mark(&second[..k], far);
+    let shared = common(first, &second[..k], near, far);
+    unmark(&second[..k], far);
+    shared == 2
 }
 
-// Inner: whether the edge ab may be contracted.
-pub fn may_contract(t: &[u32], last: &[usize], prev: &[usize], a: Corner, b: Corner) -> bool
+// Inner: whether the edge ab may be contracted. The rest is scratch: room for the rings of a and b, and marks for each, blank again when it is
+// told.
+pub fn may_contract(
+    t: &[u32],
+    last: &[usize],
+    prev: &[usize],
+    a: Corner,
+    b: Corner,
+    first: &mut [u32],
+    near: &mut [u8],
+    second: &mut [u32],
+    far: &mut [u8],
+) -> bool
     requires { ⌜ Charted (now t) (now last) (now prev) ⌝ }
     requires { ⌜ (a .0 < length (now last)) × (b .0 < length (now last)) ⌝ }
+    requires { ⌜ (most-corners ≤ length (now first)) × (most-corners ≤ length (now second)) ⌝ }
+    requires { ⌜ Unmarked (now near) × Unmarked (now far) ⌝ }
     ensures { λ r. ⌜ Tells r (Meets (rows (now (t .entry))) (a .0) (b .0)) (¬ Meets (rows (now (t .entry))) (a .0) (b .0)) ⌝ }
+    ensures { λ _. ⌜ Unmarked (now (near .exit)) × Unmarked (now (far .exit)) ⌝ }
 {
-    let mut first = [0u32; surface::MOST_CORNERS];
-    let j = gather(t, last, prev, a, &mut first);
+    let j = gather(t, last, prev, a, first);
     if !contains(&first[..j], b.0) {
         return false;
     }
-    let mut near = [0u8; surface::MOST_CORNERS];
-    mark(&first[..j], &mut near);
-    meets_round(t, last, prev, &first[..j], &near, b)
+    mark(&first[..j], near);
+    let r = meets_round(t, last, prev, &first[..j], near, b, second, far);
+    unmark(&first[..j], near);
+    r
 }

@@ -38,7 +38,21 @@ fn meets(t: &[u32], n: usize, a: Corner, b: Corner) -> bool
     let mut last = [0usize; surface::MOST_CORNERS];
     let mut prev = [0usize; slots::MOST_SLOTS];
     slots::chains(t, &mut last, &mut prev);
-    link::may_contract(t, &last, &prev, a, b)
+    let mut first = [0u32; surface::MOST_CORNERS];
+    let mut near = [0u8; surface::MOST_CORNERS];
+    let mut second = [0u32; surface::MOST_CORNERS];
+    let mut far = [0u8; surface::MOST_CORNERS];
+    link::may_contract(
+        t,
+        &last,
+        &prev,
+        a,
+        b,
+        &mut first,
+        &mut near,
+        &mut second,
+        &mut far,
+    )
 }
 
 // Whether a record is accepted on a stage: its step may be done, and writes this record.

@@ -15,7 +15,9 @@ slice-aggregate-chains-2 : tie.Need-slice-aggregate-chains-2
 slice-aggregate-chains-2 c = search needs
 
 chains-requires : tie.Need-chains-requires
-chains-requires c κs = (under-more (table-under (c .before .before .before .pre .0)) (c .before .before .before .pre .0 .stage .many), (table-whole (c .before .before .before .pre .0) .most, record { blank = λ k. no-mark most-corners k }))
+chains-requires c κs =
+    let pre = c .before .before .before .before .before .before .before .pre in
+    (under-more (table-under (pre .0)) (pre .0 .stage .many), (table-whole (pre .0) .most, record { blank = λ k. no-mark most-corners k }))
 
 slice-aggregate-least-edge : tie.Need-slice-aggregate-least-edge
 slice-aggregate-least-edge c = search needs
@@ -25,13 +27,27 @@ slice-aggregate-least-edge-2 c = search needs
 
 least-edge-requires : tie.Need-least-edge-requires
 least-edge-requires c κs =
-    let pre = c .before .before .before .before .before .before .before .before .pre in
-    let chains = c .before .before .before .before .chains in
-    let last2 = c .before .before .before .last2 in
-    record { table = pre .0; chained = chains .ensures; room = let m = pre .0 .stage .many in omega (arith, last2 .given); measured = pre .1 }
+    let pre = c .before .before .before .before .before .before .before .before .before .before .before .before .before .before .before .before .pre in
+    let chains = c .before .before .before .before .before .before .before .before .chains in
+    let last2 = c .before .before .before .before .before .before .before .last2 in
+    (record { table = pre .0; chained = chains .ensures; room = let m = pre .0 .stage .many in omega (arith, last2 .given); measured = pre .1 .0 }, pre .1 .1)
+
+same-length : tie.Need-same-length
+same-length c = search needs
+
+same-length-2 : tie.Need-same-length-2
+same-length-2 c = search needs
+
+same-length-3 : tie.Need-same-length-3
+same-length-3 c = search needs
+
+same-length-4 : tie.Need-same-length-4
+same-length-4 c = search needs
 
 returns : tie.Need-returns
-returns c = c .least-edge .ensures
+returns c =
+    let least-edge = c .before .before .before .before .before .before .before .before .least-edge in
+    least-edge .ensures
 
 pub next-edge-spec : {M : Type 1} → statement M
 next-edge-spec =
@@ -43,4 +59,8 @@ next-edge-spec =
     slice-aggregate-least-edge
     slice-aggregate-least-edge-2
     least-edge-requires
+    same-length
+    same-length-2
+    same-length-3
+    same-length-4
     returns)

@@ -16,7 +16,7 @@ abbrev μ-loop : tie.MeasureT-loop
 μ-loop ring m₀ i₀ m i = length ring - i
 
 loop-holds : tie.Need-loop-holds Inv-loop μ-loop
-loop-holds c = (omega arith, refl, mark-none (c .args .ring .now) (c .args .m .now) (c .pre .1 .1))
+loop-holds c = (omega arith, refl, mark-none (c .args .ring .now) (c .args .m .now) (c .pre .1))
 
 mul-w : tie.Need-mul-w Inv-loop μ-loop
 mul-w c = search needs
@@ -35,7 +35,7 @@ slice-write-m c =
     let pre = c .before .before .before .pre in
     let loop = c .before .before .loop in
     let e = loop .inv .1 in
-    let r = pre .1 .0 in
+    let r = pre .1 .room in
     let w = pre .0 _ (at-place (args .ring .now) (loop .i) 0 (c .before .loop-test .taken)) in
     omega arith
 
@@ -60,7 +60,7 @@ returns c =
     let pre = c .before .before .pre in
     let loop = c .before .loop in
     let e = loop .inv .1 in
-    let r = pre .1 .0 in
+    let r = pre .1 .room in
     mark-end (args .ring .now) (loop .m) (loop .i) (c .loop-test .left) (pre .0) (omega arith) (loop .inv .2)
 
 pub mark-spec : {M : Type 1} → statement M
