@@ -20,7 +20,7 @@ use Rattle.refusal.specs.Told.{Told}
 use Rattle.regrow.specs.declared.Regrown.{Regrown}
 use Rattle.regrow.specs.declared.Regrown.the-variants.{Done, Stopped}
 use Rattle.regrow.specs.Answer.{told}
-use Rattle.regrow.specs.Outcome.{GrownAs}
+use Rattle.regrow.specs.Outcome.{GrowFits, GrownAs}
 use Rattle.regrow.proofs.Main.{grow-passes, grown-one}
 use Rattle.replay.specs.Outcome.{ReplayedAs}
 use Rattle.promises.proofs.Back.{restored, replayed}
@@ -81,7 +81,7 @@ used-two = go second-step
 stops : GrownAs 6 4 nines spoiled (Stopped 1) (O-one ++ replicate 8 9)
 unfolding rows flat first-records
 stops =
-    let fits = record { rows = record { least = omega arith; most = omega arith }; corners = record { few = omega arith; many = omega arith }; whole = refl; most = omega arith } in
+    let fits : GrowFits 6 4 spoiled = record { rows = record { least = omega arith; most = omega arith }; corners = record { few = omega arith; many = omega arith }; whole = refl; most = omega arith } in
     record {
       outcome = followed (grow-passes 6 4 nines spoiled fits (omega arith) (O-two-table .stage), O-two-table .stage)
           (some (k₂ ∷ []) bad [] {r = RecordFails} refl (replayed-grown (O-one-table .stage) second-step) ((λ T a. a .unused used-two), refl) refl) refl;

@@ -7,7 +7,7 @@ use native.Mathlib.Omega.{arith}
 use lib.IntN.{pos, _-ℤ_}
 use lib.ListN.{getD}
 use Rattle.surface.specs.Rows.{rows, flat}
-use Rattle.surface.specs.Record.{no-step}
+use Rattle.follow.specs.Leads.{no-step}
 use Rattle.refusal.specs.declared.Refusal.{Refusal}
 use Rattle.run.specs.Run.{none-yet}
 use Rattle.figure.specs.Sum.{sixfold}

@@ -245,7 +245,7 @@ both-steps = taken-replayed (steps-taken any (goes-on {k = k₁} tt refl (goes-o
 replayed-only : (l : List ℕ) (k : ℕ) (u : List ℕ) {T : List Row} → ReplayFits 6 O l → Replayed (rows O) (records l) T → k ≡ length (records l) → u ≡ zeroed T O →
     Replays 6 O l k u
 replayed-only l k u {T} fits r e f =
-    let h = record { outcome = followed (replay-passes 6 O l fits (O-skin .stage), O-skin .stage) (all r (ap regrown.Done e)) f } in
+    let h : ReplayedAs 6 O l (regrown.Done k) u = record { outcome = followed (replay-passes 6 O l fits (O-skin .stage), O-skin .stage) (all r (ap regrown.Done e)) f } in
     (h, λ b v w. replay-one w h)
 
 O-fits : (l : List ℕ) → WholeRecords l → length l ≤ 20 → ReplayFits 6 O l
