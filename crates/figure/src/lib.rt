@@ -1,5 +1,5 @@
-// The figures: the exact sixfold volume of a stage, the one rounding to cubic metres, the squared distance of two corners.
-// All here is inner: the calls that report figures check the stage and its coordinates first.
+// The figures: the volume of a stage and the change between two, each an exact sum rounded once, and the squared distance of two corners.
+// All here is inner: the calls that report figures check the stages and their coordinates first. No sum leaves this crate.
 ghost use mathlib.Core.Path.{_≡_};
 ghost use Prim.Native.Nat.{_*_, _<_, _≤_};
 ghost use lib.IntN.{natAbs};
@@ -11,12 +11,12 @@ ghost use Rattle.figure.specs.Sum.{minor, determinant, sixfold, WithCoor
 ghost use Rattle.figure.specs.Rounding.{figure, change};
 
 // Six times the cubic centimetres of a cubic metre.
-pub const DIVISOR: i64 = 6000000;
+const DIVISOR: i64 = 6000000;
 
 const HALF: i64 = DIVISOR / 2;
 
-// Inner: the figure in cubic metres of an exact sum, any sum at all. The remainder has the sum's sign, so a half shows on either side of zero.
-pub fn cubic_metres(s: i64) -> i64
+// The figure in cubic metres of an exact sum, any sum at all. The remainder has the sum's sign, so a half shows on either side of zero.
+fn cubic_metres(s: i64) -> i64
     ensures { λ r. ⌜ r ≡ figure s ⌝ }
 {
     let q = s / DIVISOR;
@@ -30,8 +30,8 @@ pub fn cubic_metres(s: i64) -> i64
     q
 }
 
-// Inner: the change from an earlier exact sum to a later one, rounded once.
-pub fn change_of(earlier: i64, later: i64) -> i64
+// The change from an earlier exact sum to a later one, rounded once.
+fn change_of(earlier: i64, later: i64) -> i64
     requires { ⌜ (natAbs earlier ≤ sum-bound) × (natAbs later ≤ sum-bound) ⌝ }
     ensures { λ r. ⌜ r ≡ change earlier later ⌝ }
 {
@@ -66,8 +66,8 @@ fn determinant_of(xs: &[i32], a: u32, b: u32, c: u32) -> i64
         + coordinate_of(xs, a, 2) * minor_of(xs, b, c, 0, 1)
 }
 
-// Inner: the exact sixfold volume. Only whole rows count.
-pub fn sixfold_sum(t: &[u32], xs: &[i32]) -> i64
+// The exact sixfold volume. Only whole rows count.
+fn sixfold_sum(t: &[u32], xs: &[i32]) -> i64
     requires { ⌜ WithCoordinates (rows (now t)) (now xs) ⌝ }
     ensures { λ r. ⌜ (r ≡ sixfold (now (xs .entry)) (rows (now (t .entry)))) × (natAbs r ≤ sum-bound) ⌝ }
 {
@@ -78,6 +78,22 @@ pub fn sixfold_sum(t: &[u32], xs: &[i32]) -> i64
         i = i + 3;
     }
     s
+}
+
+// Inner: the volume of a stage, in cubic metres.
+pub fn volume_of(t: &[u32], xs: &[i32]) -> i64
+    requires { ⌜ WithCoordinates (rows (now t)) (now xs) ⌝ }
+    ensures { λ r. ⌜ r ≡ figure (sixfold (now (xs .entry)) (rows (now (t .entry)))) ⌝ }
+{
+    cubic_metres(sixfold_sum(t, xs))
+}
+
+// Inner: the change from an earlier stage to a later one over the same coordinates, in cubic metres.
+pub fn change_between(earlier: &[u32], later: &[u32], xs: &[i32]) -> i64
+    requires { ⌜ WithCoordinates (rows (now earlier)) (now xs) × WithCoordinates (rows (now later)) (now xs) ⌝ }
+    ensures { λ r. ⌜ r ≡ change (sixfold (now (xs .entry)) (rows (now (earlier .entry)))) (sixfold (now (xs .entry)) (rows (now (later .entry)))) ⌝ }
+{
+    change_of(sixfold_sum(earlier, xs), sixfold_sum(later, xs))
 }
 
 // The square of how far a and b lie apart in coordinate j.

@@ -9,9 +9,6 @@ ghost use Prim.Native.Nat.{_+_, _*_, _≤_};
 ghost use lib.IntN.{pos};
 ghost use lib.ListN.{length};
 ghost use lib.Seq.{sets};
-ghost use Rattle.surface.specs.Rows.{rows};
-ghost use Rattle.figure.specs.Sum.{sixfold, WithCoordinates};
-ghost use Rattle.figure.specs.Rounding.{figure};
 ghost use Rattle.reply.specs.Outcome.{Put, Replied};
 ghost use Rattle.reply.specs.Inner.{Numbered, text-of, CanTell, run-text, SheetSkin, RunPut};
 
@@ -83,20 +80,12 @@ fn tell_run(last: &[u32], log: &[u32], before: i64, after: i64, out: &mut [u8]) 
     tell(b"OK", &zs[..all], HEAD, rows, records, out)
 }
 
-// The figure of a stage that is known to be one.
-fn metres(t: &[u32], xs: &[i32]) -> i64
-    requires { ⌜ WithCoordinates (rows (now t)) (now xs) ⌝ }
-    ensures { λ r. ⌜ r ≡ figure (sixfold (now (xs .entry)) (rows (now (t .entry)))) ⌝ }
-{
-    figure::cubic_metres(figure::sixfold_sum(t, xs))
-}
-
 // The answer to a skin. Its thinning is never refused: no limit is unusable, the log is long enough, and a skin passes.
 fn thinned(table: &mut [u32], corners: &[i32], out: &mut [u8]) -> Answer
     requires { ⌜ SheetSkin (now corners) (now table) ⌝ }
     ensures { λ a. ⌜ RunPut (now (corners .entry)) (now (table .entry)) (now (out .entry)) a (now (out .exit)) ⌝ }
 {
-    let before = metres(table, corners);
+    let before = figure::volume_of(table, corners);
     let mut log = [0u32; LOG];
     let done = thin::thin(table, corners, Order::NoLimit, &mut log);
     let Thinning::Done(k) = done else {
@@ -104,7 +93,7 @@ fn thinned(table: &mut [u32], corners: &[i32], out: &mut [u8]) -> Answer
     };
     // a record takes two rows
     let left = table.len() - k * 6;
-    let after = metres(&table[..left], corners);
+    let after = figure::volume_of(&table[..left], corners);
     let logged = k * record::WIDTH;
     tell_run(&table[..left], &log[..logged], before, after, out)
 }

@@ -16,11 +16,7 @@ pub fn volume(table: &[u32], corners: &[i32]) -> Measured
 {
     let verdict = skin::check_stage_at(table, corners);
     match verdict {
-        Verdict::Passes => {
-            let sum = figure::sixfold_sum(table, corners);
-            let metres = figure::cubic_metres(sum);
-            Measured::Figure(metres)
-        }
+        Verdict::Passes => Measured::Figure(figure::volume_of(table, corners)),
         Verdict::Refused(first) => Measured::Refused(first),
     }
 }
@@ -33,11 +29,7 @@ pub fn change(earlier: &[u32], later: &[u32], corners: &[i32]) -> Measured
     let of_later = skin::check_stage_at(later, corners);
     let verdict = verdicts::lesser(of_earlier, of_later);
     match verdict {
-        Verdict::Passes => {
-            let before = figure::sixfold_sum(earlier, corners);
-            let after = figure::sixfold_sum(later, corners);
-            Measured::Figure(figure::change_of(before, after))
-        }
+        Verdict::Passes => Measured::Figure(figure::change_between(earlier, later, corners)),
         Verdict::Refused(least) => Measured::Refused(least),
     }
 }

@@ -11,8 +11,8 @@ use borrow.Author.Needs.{needs}
 use Rattle.reply.proofs.thinned.Statement.{statement}
 use Rattle.reply.proofs.thinned.Tie as tie
 
-metres-requires : tie.Need-metres-requires
-metres-requires c κs =
+volume-of-requires : tie.Need-volume-of-requires
+volume-of-requires c κs =
     let args = c .before .before .before .args in
     let pre = c .before .before .before .pre in
     first-coordinates (args .corners .now) (args .table .now) pre
@@ -56,16 +56,16 @@ sub-left c =
     let table = c .before .before .before .before .before .table in
     left-room (args .corners .now) (args .table .now) pre (c .before .done .given .1) (thin .ensures) (log2 .given) (table .given)
 
-slice-reshare-prefix-metres : tie.Need-slice-reshare-prefix-metres
-slice-reshare-prefix-metres c = search needs
+slice-reshare-prefix-volume-of : tie.Need-slice-reshare-prefix-volume-of
+slice-reshare-prefix-volume-of c = search needs
 
-slice-aggregate-metres : tie.Need-slice-aggregate-metres
-slice-aggregate-metres c =
+slice-aggregate-volume-of : tie.Need-slice-aggregate-volume-of
+slice-aggregate-volume-of c =
     let thin = c .before .before .before .before .before .before .before .thin in
     sym (length-take-le (length (thin .last .0) - c .before .before .done .given .0 .0 * 6) (thin .last .0) (omega arith))
 
-metres-requires-2 : tie.Need-metres-requires-2
-metres-requires-2 c κs =
+volume-of-requires-2 : tie.Need-volume-of-requires-2
+volume-of-requires-2 c κs =
     let args = c .before .before .before .before .before .before .before .before .before .before .before .before .before .before .args in
     let pre = c .before .before .before .before .before .before .before .before .before .before .before .before .before .before .pre in
     let thin = c .before .before .before .before .before .before .before .thin in
@@ -134,15 +134,15 @@ returns-2 c =
     let thin = c .before .before .before .before .before .before .before .before .before .before .before .before .before .before .thin in
     let log2 = c .before .before .before .before .before .before .before .before .before .before .before .log2 in
     let table = c .before .before .before .before .before .before .before .before .before .before .before .before .before .table in
-    let metres = c .before .before .before .before .before .before .before .before .before .before .before .before .before .before .before .before .before .metres in
-    let metres2 = c .before .before .before .before .before .before .metres2 in
-    run-put (args .corners .now) (args .table .now) pre (done .given .1) (thin .ensures) (log2 .given) (table .given) (toZ-ofZ w64 _ (record { sfits = metres .ok }) ∙ metres .ensures) (toZ-ofZ w64 _ (record { sfits = metres2 .ok }) ∙ metres2 .ensures) (tell-run .ensures)
+    let volume-of = c .before .before .before .before .before .before .before .before .before .before .before .before .before .before .before .before .before .volume-of in
+    let volume-of2 = c .before .before .before .before .before .before .volume-of2 in
+    run-put (args .corners .now) (args .table .now) pre (done .given .1) (thin .ensures) (log2 .given) (table .given) (toZ-ofZ w64 _ (record { sfits = volume-of .ok }) ∙ volume-of .ensures) (toZ-ofZ w64 _ (record { sfits = volume-of2 .ok }) ∙ volume-of2 .ensures) (tell-run .ensures)
 
 pub thinned-spec : {M : Type 1} → statement M
 thinned-spec =
     tie.close
     (tie.spec
-    metres-requires
+    volume-of-requires
     slice-aggregate-thin
     thin-requires
     enum-known-done
@@ -151,9 +151,9 @@ thinned-spec =
     returns
     mul-left
     sub-left
-    slice-reshare-prefix-metres
-    slice-aggregate-metres
-    metres-requires-2
+    slice-reshare-prefix-volume-of
+    slice-aggregate-volume-of
+    volume-of-requires-2
     mul-logged
     slice-reshare-prefix-tell-run
     slice-aggregate-tell-run

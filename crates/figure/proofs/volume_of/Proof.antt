@@ -1,11 +1,11 @@
--- `metres` meets its contract.
+-- The sum's figure, rounded once.
 use mathlib.Core.Path.{_∙_, ap}
 use mir.Syntax.{w64}
 use mir.ValLaws.{toZ-ofZ}
 use Rattle.figure.specs.Rounding.{figure}
 use borrow.Author.Needs.{needs}
-use Rattle.reply.proofs.metres.Statement.{statement}
-use Rattle.reply.proofs.metres.Tie as tie
+use Rattle.figure.proofs.volume_of.Statement.{statement}
+use Rattle.figure.proofs.volume_of.Tie as tie
 
 sixfold-sum-requires : tie.Need-sixfold-sum-requires
 sixfold-sum-requires c κs = search needs
@@ -20,5 +20,5 @@ returns c =
     let sum = toZ-ofZ w64 (sixfold-sum .result) (record { sfits = sixfold-sum .ok }) ∙ sixfold-sum .ensures .0 in
     toZ-ofZ w64 (cubic-metres .result) (record { sfits = cubic-metres .ok }) ∙ cubic-metres .ensures ∙ ap figure sum
 
-pub metres-spec : {M : Type 1} → statement M
-metres-spec = tie.close (tie.spec sixfold-sum-requires cubic-metres-requires returns)
+pub volume-of-spec : {M : Type 1} → statement M
+volume-of-spec = tie.close (tie.spec sixfold-sum-requires cubic-metres-requires returns)
