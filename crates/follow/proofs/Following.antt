@@ -4,7 +4,7 @@ use mathlib.Core.Logic.{_⊎_, inl, inr}
 use mathlib.Core.List.{List, [], _∷_, _++_, head-eq-of-cons-eq, tail-eq-of-cons-eq}
 use Prim.Native.Nat.{ℕ}
 use lib.ListN.{length}
-use Rattle.follow.specs.Leads.{Leads, no-step, one-step}
+use Rattle.follow.specs.Leads.{Leads}
 use Rattle.follow.specs.Follow.{Answers, Call, Followed, all, some, Outcome, refused, followed}
 use Rattle.follow.proofs.Leading.{leads-one, leads-there}
 

@@ -1,13 +1,12 @@
 -- A row put in among the rows of a room.
 use mathlib.Core.Path.{_≡_, refl, sym, _∙_, ap, ap₂}
 use mathlib.Core.List.{List, [], _∷_, _++_, append-assoc}
-use Prim.Native.Nat.{ℕ, zero, suc, _+_, _-_, _*_, _≤_}
+use Prim.Native.Nat.{ℕ, zero, suc, _+_, _*_, _≤_}
 use native.Mathlib.Omega.{arith}
-use lib.ListN.{length, take, drop, set, length-append, length-drop, take-append-drop}
-use lib.Seq.{take-at, take-take, drop-drop, length-take-le, drop-append-add, sets-eq}
-use Rattle.surface.specs.Rows.{Row, row, rows, flat}
+use lib.ListN.{length, take, drop, set}
+use lib.Seq.{take-take, sets-eq}
+use Rattle.surface.specs.Rows.{Row, row, flat}
 use Rattle.surface.specs.Grow.{put}
-use Rattle.surface.proofs.Flat.{rows-flat, flat-length, flat-rows, rows-length}
 use Rattle.surface.proofs.Put.{put-length}
 use Rattle.record.specs.Front.{standing, filled}
 use Rattle.record.proofs.Front.{standing-length, standing-flat}

@@ -1,7 +1,7 @@
 -- Demand 2 of the log that thinning leaves: grown back it restores the first table, number for number, and replayed it gives the last stage.
 use mathlib.Core.Path.{_≡_, refl, sym, _∙_, ap}
 use mathlib.Core.List.{List, [], _∷_, _++_, append-nil}
-use Prim.Native.Nat.{ℕ, zero, suc, _+_, _-_, _*_, _/_, _%_, _≤_}
+use Prim.Native.Nat.{ℕ, zero, suc, _+_, _-_, _*_, _/_, _≤_}
 use native.Mathlib.Nat.{mul-div-cancel-left}
 use native.Mathlib.Omega.{arith}
 use lib.IntN.{ℤ, pos}
@@ -17,7 +17,7 @@ use Rattle.faults.proofs.Opposites.{stage-rows, stage-corners}
 use Rattle.slots.proofs.Slots.{whole-rows}
 use Rattle.run.specs.Run.{Taken, none-yet}
 use Rattle.run.proofs.Main.{taken-cut, taken-replayed, replayed-stage, replayed-rows}
-use Rattle.record.specs.Layout.{width, log-of}
+use Rattle.record.specs.Layout.{width, log-of, count}
 use Rattle.record.proofs.Log.{log-length, records-log}
 use Rattle.length.specs.declared.Order.{Order}
 use Rattle.least.specs.Limited.{Allowed}
@@ -31,7 +31,6 @@ use Rattle.record.proofs.Front.{standing-front, zeroed-whole}
 use Rattle.regrow.specs.declared.Regrown.{Regrown}
 use Rattle.regrow.specs.declared.Regrown.the-variants.{Done}
 use Rattle.regrow.specs.Answer.{told}
-use Rattle.record.specs.Layout.{count}
 use Rattle.regrow.specs.Outcome.{GrowFits, need, GrownAs}
 use Rattle.regrow.proofs.Main.{restores}
 use Rattle.replay.specs.Outcome.{ReplayFits, ReplayedAs}

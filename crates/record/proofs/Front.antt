@@ -1,7 +1,7 @@
 -- Lent tables and rooms with rows in front: read, and filled or lowered again.
-use mathlib.Core.Path.{_≡_, sym, _∙_, ap}
+use mathlib.Core.Path.{_≡_, _∙_, ap}
 use mathlib.Core.List.{List, _++_, append-nil}
-use Prim.Native.Nat.{ℕ, zero, suc, _+_, _-_, _*_, _≤_}
+use Prim.Native.Nat.{ℕ, _+_, _-_, _*_, _≤_}
 use native.Mathlib.Omega.{arith}
 use lib.ListN.{length, take, drop, replicate, length-append, length-drop, take-append-drop, length-replicate, replicate-append-replicate}
 use lib.Seq.{take-at, drop-at, drop-drop, length-take-le, drop-append-add}

@@ -1,18 +1,14 @@
 -- Growing back has one outcome, leaves a stage; and the log of steps, grown back from where they led, restores the table they began with.
-use mathlib.Core.Path.{_≡_, refl, sym, _∙_, ap}
-use mathlib.Core.Logic.{_⊎_, inl, inr}
-use mathlib.Core.List.{List, [], _∷_, reverse}
+use mathlib.Core.Path.{_≡_, sym, _∙_, ap}
+use mathlib.Core.List.{List}
 use Prim.Native.Nat.{ℕ, _+_, _*_, _≤_, _<_}
 use native.Mathlib.Omega.{arith}
 use lib.ListN.{length, length-reverse}
-use Rattle.follow.specs.Leads.{Leads}
-use Rattle.follow.specs.Follow.{Outcome}
 use Rattle.follow.proofs.Following as following
 use Rattle.follow.proofs.Following.{Plain, outcome-one, outcome-whole, outcome-reached}
 use Rattle.surface.specs.Rows.{Row}
 use Rattle.surface.specs.Stage.{Stage}
-use Rattle.surface.specs.Record.{Record, Replayed}
-use Rattle.surface.specs.Accept.{Accepted}
+use Rattle.surface.specs.Record.{Replayed}
 use Rattle.surface.proofs.Main as surface
 use Rattle.surface.proofs.Recorded.{replayed-grown, grown-back-stage}
 use Rattle.run.proofs.Main.{replayed-stage}

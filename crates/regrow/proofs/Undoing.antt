@@ -4,7 +4,7 @@ use mathlib.Core.Bool.{true, false}
 use mathlib.Core.List.{List, reverse}
 use Prim.Native.Nat.{ℕ, _+_, _-_, _*_, _≤_, _<_}
 use native.Mathlib.Omega.{arith}
-use lib.ListN.{length, drop, getD, length-reverse}
+use lib.ListN.{length, drop, length-reverse}
 use lib.Seq.{take-at}
 use Rattle.follow.specs.Leads.{Leads, no-step, one-step}
 use Rattle.follow.proofs.Upto.{Upto, upto-none, upto-all, upto-fails, upto-more}

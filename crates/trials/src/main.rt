@@ -62,7 +62,28 @@ const T: [u32; 12] = [0, 1, 2, 0, 2, 3, 0, 3, 1, 1, 3, 2];
 
 const O_END: [u32; 12] = [0, 3, 4, 5, 3, 0, 5, 4, 3, 5, 0, 4];
 
-const O_LOG: [u32; 20] = [0, 1, 0, 0, 1, 2, 3, 0, 4, 1, 0, 2, 0, 0, 2, 3, 2, 5, 2, 0];
+const O_LOG: [u32; 2 * record::WIDTH] = [
+    0,
+    1,
+    0,
+    0,
+    1,
+    2,
+    3,
+    0,
+    4,
+    1,
+    0,
+    2,
+    0,
+    0,
+    2,
+    3,
+    2,
+    5,
+    2,
+    0,
+];
 
 // A line of a name and a whole number.
 fn show(name: &[u8], value: i64) {
@@ -117,7 +138,7 @@ fn show_thinning(name: &[u8], r: Thinning) {
 
 // The same of a small table thinned without a limit.
 fn show_thinned(name: &[u8], t: &mut [u32], xs: &[i32]) {
-    let mut log = [0u32; 50];
+    let mut log = [0u32; 5 * record::WIDTH];
     show_thinning(name, thin::thin(t, xs, Order::NoLimit, &mut log));
 }
 
@@ -243,12 +264,12 @@ fn copy(from: &[u32], to: &mut [u32]) {
 fn thin_octahedron() {
     let mut t = O;
     let xs = O_CORNERS;
-    let mut log = [7u32; 21];
+    let mut log = [7u32; 2 * record::WIDTH + 1];
     let r = thin::thin(&mut t, &xs, Order::NoLimit, &mut log);
     show_thinning(b"O thinned: ", r);
     show_numbers(b"O's table then:", &t);
     show_numbers(b"O's log then:", &log);
-    let mut short = [7u32; 19];
+    let mut short = [7u32; 2 * record::WIDTH - 1];
     let again = thin::thin(&mut t, &xs, Order::NoLimit, &mut short);
     show_thinning(b"with room for 19 numbers: ", again);
 }
@@ -289,8 +310,8 @@ fn replay_octahedron(name: &[u8], log: &[u32]) {
     show_numbers(b"the table then:", &t);
 }
 
-// The octahedron's log with ten numbers in place of its first record.
-fn spoiled(name: &[u8], first: [u32; 10]) {
+// The octahedron's log with another first record.
+fn spoiled(name: &[u8], first: [u32; record::WIDTH]) {
     let mut log = O_LOG;
     copy(&first, &mut log);
     grow_octahedron(name, &log);
@@ -337,7 +358,7 @@ fn too_many_records() {
     let mut t = T;
     show_regrown(
         b"T with one record: ",
-        replay::replay(&mut t, 4, &O_LOG[..10]),
+        replay::replay(&mut t, 4, &O_LOG[..record::WIDTH]),
     );
     let mut m = [
         0u32,
@@ -383,7 +404,7 @@ fn too_many_records() {
         2,
         1,
     ];
-    let mut log = [0u32; 60];
+    let mut log = [0u32; 6 * record::WIDTH];
     let first = [0u32, 1, 0, 0, 1, 3, 11, 5, 1, 0];
     copy(&first, &mut log);
     show_regrown(
@@ -427,7 +448,7 @@ fn thin_ring() {
     copy_ring(&mut t);
     let mut xs = [0i32; 192];
     place_corners(&mut xs);
-    let mut log = [0u32; 600];
+    let mut log = [0u32; 60 * record::WIDTH];
     let r = thin::thin(&mut t, &xs, Order::NoLimit, &mut log);
     show_thinning(b"the trial ring thinned: ", r);
     show_numbers(b"past its 18 rows then:", &t[54..60]);
@@ -537,7 +558,7 @@ fn show_span(name: &[u8], a: i32, b: i32, c: i32, d: i32, e: i32) {
 fn most_rows() {
     let mut xs = [0i32; 1536];
     place_torus(&mut xs, 50000);
-    let mut log = [0u32; 5080];
+    let mut log = [0u32; 508 * record::WIDTH];
     let zero = Order::Limit(Length::Centimetres(0.0));
     let mut most = [0u32; 3072];
     copy_torus(&mut most);

@@ -7,6 +7,7 @@ use mir.Syntax.{w64}
 use mir.ValLaws.{toZ-ofZ}
 use Rattle.reply.proofs.Running.{first-coordinates, never-refused, log-room, left-room, last-coordinates, can-tell, run-put}
 use native.Mathlib.Omega.{arith}
+use Rattle.record.specs.Layout.{width}
 use borrow.Author.Needs.{needs}
 use Rattle.reply.proofs.thinned.Statement.{statement}
 use Rattle.reply.proofs.thinned.Tie as tie
@@ -107,7 +108,7 @@ slice-aggregate-tell-run-2 c =
     let args = c .before .before .before .before .before .before .before .before .before .before .before .before .before .before .before .before .before .args in
     let pre = c .before .before .before .before .before .before .before .before .before .before .before .before .before .before .before .before .before .pre in
     let log2 = c .before .before .before .before .before .before .before .log2 in
-    sym (length-take-le (done .given .0 .0 * 10) (thin .last .1 .1 .1 .0) (let h = log-room (args .corners .now) (args .table .now) pre (done .given .1) (thin .ensures) (log2 .given) in omega (arith, log2 .given)))
+    sym (length-take-le (done .given .0 .0 * width) (thin .last .1 .1 .1 .0) (let h = log-room (args .corners .now) (args .table .now) pre (done .given .1) (thin .ensures) (log2 .given) in omega (arith, log2 .given)))
 
 tell-run-requires : tie.Need-tell-run-requires
 tell-run-requires c κs =
