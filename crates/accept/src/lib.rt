@@ -11,7 +11,7 @@ ghost use Rattle.surface.specs.Stage.{StageTable};
 ghost use Rattle.record.specs.Layout.{meant};
 ghost use Rattle.slots.specs.Slot.{Whole, Under};
 ghost use Rattle.slots.specs.Marks.{Blank};
-ghost use Rattle.faults.specs.Tells.{Tells};
+ghost use Rattle.refusal.specs.Tells.{Tells};
 ghost use Rattle.accept.specs.Noted.{NotedTo, Round, Near, TwoNear};
 ghost use Rattle.accept.specs.Test.{InBounds, Answered};
 

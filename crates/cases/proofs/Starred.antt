@@ -1,6 +1,5 @@
 -- The starred cases hold: for each the listed outcome is allowed, and thinning has no second one.
 use mathlib.Core.Path.{_≡_, refl, _∙_, ap}
-use mathlib.Core.Logic.{inl, inr}
 use mathlib.Core.Bool.{Bool, true}
 use mathlib.Core.List.{List, [], _∷_, List·Memᴰ·head, _++_}
 use Prim.Native.Nat.{ℕ, _-_, _*_, _≤_, _%_}
@@ -16,11 +15,12 @@ use Rattle.surface.specs.Stage.{StageTable, InRange}
 use Rattle.surface.specs.Contract.{contract, renumber, replace, stays?, holds?}
 use Rattle.surface.specs.Record.{at, later, leaving, Record, Replayed}
 use Rattle.refusal.specs.First.{First}
+use Rattle.refusal.proofs.Laws.{verdicts, given-first, none-yet, _nor_}
 use Rattle.refusal.specs.declared.Verdict.the-variants as verdict
 use Rattle.refusal.specs.declared.Refusal.the-variants.{EdgeTwice}
 use Rattle.faults.specs.Counts.{CountsFitAt, corners}
 use Rattle.faults.specs.Words.{Twice, again, later as after}
-use Rattle.faults.specs.Order.{lines-after-counts, row-lines}
+use Rattle.faults.specs.Order.{refusals-after-counts, row-refusals}
 use Rattle.faults.proofs.Opposites.{in-or-out, below-or-not, twice-or-apart}
 use Rattle.run.specs.Run.{Run}
 use Rattle.figure.specs.Corners.{squared-distance}
@@ -41,7 +41,7 @@ use Rattle.record.specs.Layout.{log-of, first-records, records}
 use Rattle.thin.specs.declared.Asked.the-variants.{Under}
 use Rattle.thin.specs.declared.Thinning.{Thinning}
 use Rattle.thin.specs.declared.Thinning.the-variants.{Done, Refused}
-use Rattle.thin.specs.Thin.{thin-lines, Thinned, refused, done}
+use Rattle.thin.specs.Thin.{thin-refusals, Thinned, refused, done}
 use Rattle.thin.proofs.Main.{thinned-one, thin-passes}
 use Rattle.thin.proofs.Judging.{under-usable}
 use Rattle.thin.specs.Answer as thinnings
@@ -150,25 +150,18 @@ turned-counts = record {
   coordinates = record { threes = refl; count = record { few = omega arith; many = omega arith } };
 }
 
-turned-first : First (thin-lines (Under Free) T-corners T-turned 0) (verdict.Refused EdgeTwice)
-unfolding thin-lines lines-after-counts row-lines First
+turned-first : First (thin-refusals (Under Free) T-corners T-turned 0) (verdict.Refused EdgeTwice)
+unfolding thin-refusals refusals-after-counts row-refusals
 turned-first =
-    inr (
-      under-usable refl,
-      inr (
-        λ k. k turned-counts,
-        inr (
-          λ k. omega arith,
-          inr (
-            λ k. in-or-out k (T-skin .in-range),
-            inr (
-              λ k. below-or-not k (λ v p q f. (rows-below 4 (rows T-turned) turned-fit f) .0),
-              inr (λ k. twice-or-apart k (λ v p q f. (rows-below 4 (rows T-turned) turned-fit f) .1), inl (turned-twice, refl)),
-            ),
-          ),
-        ),
-      ),
-    )
+    given-first verdicts
+    (under-usable refl
+    nor (λ k. k turned-counts)
+    nor (λ k. omega arith)
+    nor in-or-out (T-skin .in-range)
+    nor below-or-not (λ v p q f. rows-below 4 (rows T-turned) turned-fit f .0)
+    nor twice-or-apart (λ v p q f. rows-below 4 (rows T-turned) turned-fit f .1)
+    nor none-yet)
+    turned-twice
 
 case-turned : Thins NoLimit T-corners T-turned [] (Refused EdgeTwice) T-turned []
 case-turned = only NoLimit (refused {e = EdgeTwice} turned-first refl refl refl)

@@ -8,15 +8,14 @@ use lib.IntN.{ℤ}
 use lib.ListN.{length, replicate}
 use Rattle.surface.specs.Rows.{Row, rows, flat}
 use Rattle.refusal.specs.declared.Refusal.{Refusal}
-use Rattle.refusal.specs.declared.Verdict.{Verdict}
 use Rattle.refusal.specs.declared.Verdict.the-variants.{Passes}
 use Rattle.refusal.specs.declared.Verdict.the-variants as verdict
-use Rattle.refusal.specs.First.{Clause, First}
-use Rattle.refusal.specs.Told.{Told, done, refused}
-use Rattle.refusal.proofs.Laws as verdicts
-use Rattle.refusal.proofs.Laws.{first-one, refused-passes}
-use Rattle.answer.specs.Outcome.{outcome}
-use Rattle.answer.proofs.Laws.{refused-one, refused-done}
+use Rattle.refusal.specs.First.{First}
+use Rattle.refusal.specs.Told.{refused}
+use Rattle.refusal.proofs.Laws.{verdicts, first-one, refused-one, refused-passes}
+use Rattle.refusal.specs.Refuses.{Refuses}
+use Rattle.refusal.proofs.Outcome.{tells-refusal, refused-done}
+use Rattle.refusal.proofs.Refuses.{exactly, not-refused, by-verdict}
 use Rattle.length.proofs.Laws.{limit-told}
 use Rattle.length.specs.declared.Order.{Order}
 use Rattle.thin.specs.declared.Thinning.{Thinning}
@@ -30,12 +29,12 @@ use Rattle.regrow.specs.Answer as regrowths
 use Rattle.record.specs.Layout.{records}
 use Rattle.grow.specs.Room.{standing, filled}
 use Rattle.regrow.specs.Reached.{Reached}
-use Rattle.regrow.specs.Outcome.{grow-lines, GrownAs}
+use Rattle.regrow.specs.Outcome.{grow-refusals, GrownAs}
 use Rattle.regrow.specs.Outcome as growth
 use Rattle.regrow.proofs.Main as grows
 use Rattle.regrow.proofs.Counted.{failing-other, stops, stopped-refused}
 use Rattle.replay.specs.Redone.{Redone}
-use Rattle.replay.specs.Outcome.{replay-lines, ReplayedAs}
+use Rattle.replay.specs.Outcome.{replay-refusals, ReplayedAs}
 use Rattle.replay.specs.Outcome as replay
 use Rattle.replay.proofs.Main as replays
 use Rattle.sheet.specs.declared.Sheet.{Sheet}
@@ -45,23 +44,7 @@ use Rattle.sheet.specs.Form.{SheetOf, form-refusals}
 use Rattle.sheet.specs.Outcome.{skin-refusals, ReadSheet, bad-form, bad-skin, read}
 use Rattle.sheet.proofs.Promises.{one-skin, moved}
 use Rattle.reply.proofs.Main.{reply-told}
-use Rattle.promises.specs.Refusing.{Refuses, DemandOne}
-
--- by one refusal of the list, or by none of it
-exactly : {l : List Clause} {v : Told} → ((e : Refusal) × First l (verdict.Refused e) × (v ≡ refused e)) ⊎ (First l Passes × ((r : Refusal) → ¬ (v ≡ refused r))) → Refuses l v
-exactly {l} {v} (inl (e, f, p)) = record {
-  when = λ r g. p ∙ ap refused (verdicts.refused-one (first-one l f g));
-  only = λ r q. subst (λ k. First l (verdict.Refused k)) (refused-one (sym p ∙ q)) f;
-}
-exactly {l} (inr (f, n)) = record { when = λ r g. refused-passes (first-one l g f); only = λ r q. absurd (n r q) }
-
-not-refused : {v : Told} {vs : List ℤ} → v ≡ done vs → (r : Refusal) → ¬ (v ≡ refused r)
-not-refused p r q = refused-done r (sym q ∙ p)
-
--- a verdict and what it comes to
-by-verdict : {l : List Clause} {a : Told} (vs : List ℤ) (v : Verdict) → First l v → a ≡ outcome v vs → Refuses l a
-by-verdict vs Passes f p = exactly (inr (f, not-refused p))
-by-verdict vs (verdict.Refused r) f p = exactly (inl (r, f, p))
+use Rattle.promises.specs.Refusing.{DemandOne}
 
 thin-same : (o : Order) {xs : List ℤ} {t l : List ℕ} {a : Thinning} {t′ l′ : List ℕ} → Thinned o xs t l a t′ l′ → (r : Refusal) → thinnings.told a ≡ refused r → (t′ ≡ t) × (l′ ≡ l)
 thin-same o {a = thinning.Done k} w r p = absurd (refused-done r (sym p))
@@ -78,33 +61,33 @@ replay-same {a = regrown.Stopped k} w r p = absurd (failing-other k r p)
 replay-same {a = regrown.Refused e} w r p = replays.refused-same w
 
 grow-stopped : {n m : ℕ} {room log : List ℕ} {a : Regrown} {room′ : List ℕ} (k : ℕ) → GrownAs n m room log a room′ → a ≡ regrown.Stopped k →
-    First (grow-lines n m room log) Passes × (T : List Row) × Reached n (standing m room) (records log) (regrown.Stopped k) T × (room′ ≡ filled T room)
+    First (grow-refusals n m room log) Passes × (T : List Row) × Reached n (standing m room) (records log) (regrown.Stopped k) T × (room′ ≡ filled T room)
 grow-stopped k (growth.refused f ea er) q = stopped-refused (sym q ∙ ea)
 grow-stopped {n} {m} {room} {log} k (growth.grown f s w) q = (f, w .table, subst (λ b. Reached n (standing m room) (records log) b (w .table)) q (w .reached), w .left)
 
 replay-stopped : {n : ℕ} {t log : List ℕ} {a : Regrown} {t′ : List ℕ} (k : ℕ) → ReplayedAs n t log a t′ → a ≡ regrown.Stopped k →
-    First (replay-lines n t log) Passes × (T : List Row) × Redone (rows t) (records log) (regrown.Stopped k) T × (t′ ≡ flat T ++ replicate (length t - length (flat T)) 0)
+    First (replay-refusals n t log) Passes × (T : List Row) × Redone (rows t) (records log) (regrown.Stopped k) T × (t′ ≡ flat T ++ replicate (length t - length (flat T)) 0)
 replay-stopped k (replay.refused f ea er) q = stopped-refused (sym q ∙ ea)
 replay-stopped {t = t} {log = log} k (replay.replayed f s w) q = (f, w .table, subst (λ b. Redone (rows t) (records log) b (w .table)) q (w .redone), w .left)
 
 -- a sheet
 module _ {b troom troom′ : List ℕ} {croom croom′ : List ℤ} where
   sheet-form : {a : Sheet} → ReadSheet b troom troom′ croom croom′ a → (r : Refusal) → First (form-refusals b) (verdict.Refused r) → sheets.told a ≡ refused r
-  sheet-form (bad-form f e p q) r g = ap sheets.told e ∙ ap refused (verdicts.refused-one (first-one (form-refusals b) f g))
-  sheet-form (bad-skin f s k e p q) r g = refused-passes (first-one (form-refusals b) g f)
-  sheet-form (read f s k w e p q) r g = refused-passes (first-one (form-refusals b) g f)
+  sheet-form (bad-form f e p q) r g = ap sheets.told e ∙ ap refused (refused-one (first-one verdicts (form-refusals b) f g))
+  sheet-form (bad-skin f s k e p q) r g = refused-passes (first-one verdicts (form-refusals b) g f)
+  sheet-form (read f s k w e p q) r g = refused-passes (first-one verdicts (form-refusals b) g f)
 
   sheet-skin : {a : Sheet} → ReadSheet b troom troom′ croom croom′ a → First (form-refusals b) Passes → {n m : ℕ} {xs : List ℤ} {t : List ℕ} → SheetOf b n m xs t →
       Refuses (skin-refusals troom croom xs t) (sheets.told a)
-  sheet-skin (bad-form f e p q) g s = refused-passes (first-one (form-refusals b) f g)
+  sheet-skin (bad-form f e p q) g s = refused-passes (first-one verdicts (form-refusals b) f g)
   sheet-skin (bad-skin {r = r} f s k e p q) g s′ = exactly (inl (r, moved b troom croom (verdict.Refused r) (one-skin s s′) k, ap sheets.told e))
   sheet-skin (read f s k w e p q) g s′ = exactly (inr (moved b troom croom Passes (one-skin s s′) k, not-refused (ap sheets.told e)))
 
   sheet-only : {a : Sheet} → ReadSheet b troom troom′ croom croom′ a → (r : Refusal) → sheets.told a ≡ refused r → First (form-refusals b) (verdict.Refused r)
       ⊎ (First (form-refusals b) Passes × (n m : ℕ) × (xs : List ℤ) × (t : List ℕ) × SheetOf b n m xs t × First (skin-refusals troom croom xs t) (verdict.Refused r))
-  sheet-only (bad-form f e p q) r g = inl (subst (λ k. First (form-refusals b) (verdict.Refused k)) (refused-one (sym (ap sheets.told e) ∙ g)) f)
+  sheet-only (bad-form f e p q) r g = inl (subst (λ k. First (form-refusals b) (verdict.Refused k)) (tells-refusal (sym (ap sheets.told e) ∙ g)) f)
   sheet-only (bad-skin {n = n} {m = m} {xs = xs} {t = t} f s k e p q) r g =
-      inr (f, n, m, xs, t, s, subst (λ j. First (skin-refusals troom croom xs t) (verdict.Refused j)) (refused-one (sym (ap sheets.told e) ∙ g)) k)
+      inr (f, n, m, xs, t, s, subst (λ j. First (skin-refusals troom croom xs t) (verdict.Refused j)) (tells-refusal (sym (ap sheets.told e) ∙ g)) k)
   sheet-only (read f s k w e p q) r g = absurd (not-refused (ap sheets.told e) r g)
 
   sheet-same : {a : Sheet} → ReadSheet b troom troom′ croom croom′ a → (r : Refusal) → sheets.told a ≡ refused r → (troom′ ≡ troom) × (croom′ ≡ croom)

@@ -8,7 +8,7 @@ use lib.IntN.{pos, natAbs}
 use lib.ListN.{length, getD}
 use Rattle.refusal.specs.declared.Refusal.{Refusal}
 use Rattle.refusal.specs.Told.{Told, done, refused}
-use Rattle.answer.proofs.Laws.{refused-done}
+use Rattle.refusal.proofs.Outcome.{refused-done}
 use Rattle.regrow.specs.declared.Regrown.{Regrown}
 use Rattle.regrow.specs.declared.Regrown.the-variants.{Done, Stopped, Refused}
 use Rattle.regrow.specs.Answer.{told, fails-after, Did, all-done, some-done}

@@ -17,8 +17,7 @@ use Rattle.refusal.specs.declared.Verdict.the-variants.{Passes}
 use Rattle.refusal.specs.declared.Verdict.the-variants as verdict
 use Rattle.refusal.specs.First.{First}
 use Rattle.refusal.specs.Told as answers
-use Rattle.refusal.proofs.Laws.{first-one, refused-one, refused-passes}
-use Rattle.verdicts.proofs.Laws.{first-before, passed}
+use Rattle.refusal.proofs.Laws.{first-one, refused-one, refused-passes, verdicts, rest-decides, passed, none-yet, _nor_}
 use Rattle.faults.specs.Counts.{CountsFit}
 use Rattle.faults.proofs.Order.{after-2, stage-passes}
 use Rattle.record.specs.Layout.{records}
@@ -29,22 +28,22 @@ use Rattle.regrow.specs.declared.Regrown.{Regrown}
 use Rattle.regrow.specs.declared.Regrown.the-variants.{Done, Stopped, Refused}
 use Rattle.regrow.specs.Answer.{told, fails-after, Did}
 use Rattle.regrow.specs.Reached.{Reached, all, stopped, count, need}
-use Rattle.regrow.specs.Outcome.{GrowFits, grow-lines, GrownAs, refused, grown}
+use Rattle.regrow.specs.Outcome.{GrowFits, grow-refusals, GrownAs, refused, grown}
 use Rattle.regrow.proofs.Counted.{did-either, did-refused, done-one, stopped-one, done-stopped, done-refused, stopped-refused}
 use Rattle.regrow.proofs.One.{reached-one}
 use Rattle.regrow.proofs.Judging.{counts-told}
 
 -- no second outcome satisfies the same words
 pub grown-one : {n m : ℕ} {room log : List ℕ} {a b : Regrown} {room₁ room₂ : List ℕ} → GrownAs n m room log a room₁ → GrownAs n m room log b room₂ → (a ≡ b) × (room₁ ≡ room₂)
-grown-one (refused f ea er) (refused g eb es) = (ea ∙ ap Refused (refused-one (first-one _ f g)) ∙ sym eb, er ∙ sym es)
-grown-one (refused f ea er) (grown g s w) = refused-passes (first-one _ f g)
-grown-one (grown f s w) (refused g eb es) = refused-passes (first-one _ g f)
+grown-one (refused f ea er) (refused g eb es) = (ea ∙ ap Refused (refused-one (first-one verdicts _ f g)) ∙ sym eb, er ∙ sym es)
+grown-one (refused f ea er) (grown g s w) = refused-passes (first-one verdicts _ f g)
+grown-one (grown f s w) (refused g eb es) = refused-passes (first-one verdicts _ g f)
 grown-one {room = room} (grown f s w) (grown g u z) = let e = reached-one (w .reached) (z .reached) in (e .0, w .left ∙ ap (λ T. filled T room) (e .1) ∙ sym (z .left))
 
 -- a stage within its counts and with room passes
-pub grow-passes : (n m : ℕ) (room log : List ℕ) → GrowFits n m log → need m log ≤ length room → Stage n (standing m room) → First (grow-lines n m room log) Passes
-grow-passes n m room log fits h s = unfold grow-lines in
-    first-before _ _ _ (λ k. k fits) (first-before _ _ _ (λ k. omega arith) (after-2 n (take (3 * m) room) Passes c (stage-passes (take (3 * m) room) (c .table .threes) n s)))
+pub grow-passes : (n m : ℕ) (room log : List ℕ) → GrowFits n m log → need m log ≤ length room → Stage n (standing m room) → First (grow-refusals n m room log) Passes
+grow-passes n m room log fits h s = unfold grow-refusals in
+    rest-decides verdicts ((λ k. k fits) nor (λ k. omega arith) nor none-yet) Passes (after-2 n (take (3 * m) room) Passes c (stage-passes (take (3 * m) room) (c .table .threes) n s))
   where
     c : CountsFit n (take (3 * m) room)
     c = counts-told n m room log fits h
@@ -56,8 +55,8 @@ restores {n} {m} {room} {log} {T = T} fits h s r w =
     grown-one w (grown (grow-passes n m room log fits h (replayed-stage s r)) (replayed-stage s r) (record { table = T; reached = all (replayed-grown s r) (ap Done (sym (first-length (count log) log))); left = refl }))
 
 -- where no refusal holds, a stage stands
-pub grown-stands : {n m : ℕ} {room log : List ℕ} {a : Regrown} {room′ : List ℕ} → GrownAs n m room log a room′ → First (grow-lines n m room log) Passes → Stage n (standing m room)
-grown-stands (refused f ea er) g = refused-passes (first-one _ f g)
+pub grown-stands : {n m : ℕ} {room log : List ℕ} {a : Regrown} {room′ : List ℕ} → GrownAs n m room log a room′ → First (grow-refusals n m room log) Passes → Stage n (standing m room)
+grown-stands (refused f ea er) g = refused-passes (first-one verdicts _ f g)
 grown-stands (grown f s w) g = s
 
 -- the rows reached are a stage: those that stood, and two more for each record done
@@ -74,9 +73,9 @@ not-less : {i j : ℕ} → ¬ (i < j) → j ≤ i
 not-less h = omega arith
 
 -- the rows told stand in the room
-pub rows-inside : (n m : ℕ) (room log : List ℕ) → First (grow-lines n m room log) Passes → 3 * m ≤ length room
-unfolding grow-lines
-rows-inside n m room log f = let h : need m log ≤ length room = not-less (passed _ _ (passed _ _ f .1) .0) in omega arith
+pub rows-inside : (n m : ℕ) (room log : List ℕ) → First (grow-refusals n m room log) Passes → 3 * m ≤ length room
+unfolding grow-refusals
+rows-inside n m room log f = let h : need m log ≤ length room = not-less (passed verdicts _ _ (passed verdicts _ _ f .1) .0) in omega arith
 
 -- what is left is a stage, whatever the log: so many rows as stood, and two more for each record done
 pub grown-leaves : {n m : ℕ} {room log : List ℕ} {a : Regrown} {room′ : List ℕ} → GrownAs n m room log a room′ → {k : ℕ} → Did k (told a) → Stage n (standing (m + 2 * k) room′)
@@ -106,7 +105,7 @@ reached-told (stopped l k m p g f e) = inr (l, k, m, p, ap told e)
 
 -- the answer tells the first refusal that holds; else 0 and how many records there are, or 13 and how many were done
 pub grown-told : {n m : ℕ} {room log : List ℕ} {a : Regrown} {room′ : List ℕ} → GrownAs n m room log a room′ →
-    ((e : Refusal) × First (grow-lines n m room log) (verdict.Refused e) × (told a ≡ answers.refused e))
-    ⊎ (First (grow-lines n m room log) Passes × ((told a ≡ answers.done (pos (length (records log)) ∷ [])) ⊎ Failing (records log) (told a)))
+    ((e : Refusal) × First (grow-refusals n m room log) (verdict.Refused e) × (told a ≡ answers.refused e))
+    ⊎ (First (grow-refusals n m room log) Passes × ((told a ≡ answers.done (pos (length (records log)) ∷ [])) ⊎ Failing (records log) (told a)))
 grown-told (refused {e = e} f ea er) = inl (e, f, ap told ea)
 grown-told (grown f s w) = inr (f, reached-told (w .reached))

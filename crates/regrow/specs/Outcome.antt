@@ -11,9 +11,9 @@ use Rattle.refusal.specs.declared.Refusal.the-variants.{CountsOutside, RoomShor
 use Rattle.refusal.specs.declared.Verdict.{Verdict}
 use Rattle.refusal.specs.declared.Verdict.the-variants.{Passes}
 use Rattle.refusal.specs.declared.Verdict.the-variants as verdict
-use Rattle.refusal.specs.First.{Clause, _when_, First}
+use Rattle.refusal.specs.First.{Refusals, _when_, First}
 use Rattle.faults.specs.Counts.{RowsFit, CornersFit}
-use Rattle.faults.specs.Order.{row-lines}
+use Rattle.faults.specs.Order.{row-refusals}
 use Rattle.record.specs.Layout.{width}
 use Rattle.grow.specs.Room.{standing}
 use Rattle.regrow.specs.declared.Regrown.{Regrown}
@@ -28,21 +28,21 @@ pub record GrowFits (n m : ℕ) (log : List ℕ) : Type 0 where
   pub most : m + 2 * count log ≤ most-rows
 
 -- 2, 3, then 5 to 11 of the rows that stand in the room
-unfoldable pub grow-lines : ℕ → ℕ → List ℕ → List ℕ → List Clause
-grow-lines n m room log =
+unfoldable pub grow-refusals : ℕ → ℕ → List ℕ → List ℕ → Refusals
+grow-refusals n m room log =
     (CountsOutside when (¬ GrowFits n m log))
     ∷ (RoomShort when (length room < need m log))
-    ∷ row-lines false n (standing m room)
+    ∷ row-refusals false n (standing m room)
 
 -- the verdict on growing back: the first that holds; and where none does, a stage, with room
 pub record Judged (n m : ℕ) (room log : List ℕ) (v : Verdict) : Type 0 where
-  pub holds : First (grow-lines n m room log) v
+  pub holds : First (grow-refusals n m room log) v
   pub room-enough : v ≡ Passes → need m log ≤ length room
   pub stage : v ≡ Passes → Stage n (standing m room)
 
 -- the answer a to growing back a log on the m rows over n corners that stand in a room, and what then stands there
 pub data GrownAs (n m : ℕ) (room log : List ℕ) (a : Regrown) (room′ : List ℕ) : Type 0 where
   -- every refusal but 13 leaves all untouched
-  refused : {e : Refusal} → First (grow-lines n m room log) (verdict.Refused e) → a ≡ Refused e → room′ ≡ room → GrownAs n m room log a room′
+  refused : {e : Refusal} → First (grow-refusals n m room log) (verdict.Refused e) → a ≡ Refused e → room′ ≡ room → GrownAs n m room log a room′
   -- else the rows that stand are a stage, the answer counts the records done, and the rows reached stand in the room; what lies past them is as it was
-  grown : First (grow-lines n m room log) Passes → Stage n (standing m room) → GrownIn n m room log a room′ → GrownAs n m room log a room′
+  grown : First (grow-refusals n m room log) Passes → Stage n (standing m room) → GrownIn n m room log a room′ → GrownAs n m room log a room′

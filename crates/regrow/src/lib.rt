@@ -1,7 +1,7 @@
 // Growing back: a log's records undone on the table they led to, the last first.
 use refusal::Refusal;
 use refusal::Verdict;
-ghost use Rattle.faults.specs.Tells.{Tells};
+ghost use Rattle.refusal.specs.Tells.{Tells};
 ghost use Rattle.regrow.specs.Reached.{Ready, GrownIn};
 ghost use Rattle.regrow.specs.Outcome.{GrowFits, Judged, GrownAs};
 

@@ -14,8 +14,7 @@ use Rattle.refusal.specs.declared.Verdict.the-variants.{Passes}
 use Rattle.refusal.specs.declared.Verdict.the-variants as verdict
 use Rattle.refusal.specs.First.{First}
 use Rattle.refusal.specs.Told as answers
-use Rattle.refusal.proofs.Laws.{first-one, refused-one, refused-passes}
-use Rattle.verdicts.proofs.Laws.{first-before}
+use Rattle.refusal.proofs.Laws.{first-one, refused-one, refused-passes, verdicts, rest-decides, none-yet, _nor_}
 use Rattle.faults.proofs.Order.{after-2, stage-passes}
 use Rattle.run.proofs.Main.{replayed-stage, replayed-rows}
 use Rattle.record.specs.Layout.{records}
@@ -28,22 +27,22 @@ use Rattle.regrow.specs.Answer.{told, fails-after, Did}
 use Rattle.regrow.specs.Reached.{count}
 use Rattle.regrow.proofs.Counted.{did-either, did-refused, done-one, stopped-one, done-stopped, done-refused, stopped-refused}
 use Rattle.replay.specs.Redone.{Redone, all, stopped}
-use Rattle.replay.specs.Outcome.{ReplayFits, replay-lines, ReplayedAs, refused, replayed}
+use Rattle.replay.specs.Outcome.{ReplayFits, replay-refusals, ReplayedAs, refused, replayed}
 use Rattle.replay.proofs.One.{redone-one}
 
 -- no second outcome satisfies the same words
 pub replay-one : {n : ℕ} {t log : List ℕ} {a b : Regrown} {t₁ t₂ : List ℕ} → ReplayedAs n t log a t₁ → ReplayedAs n t log b t₂ → (a ≡ b) × (t₁ ≡ t₂)
-replay-one (refused f ea er) (refused g eb es) = (ea ∙ ap Refused (refused-one (first-one _ f g)) ∙ sym eb, er ∙ sym es)
-replay-one (refused f ea er) (replayed g s w) = refused-passes (first-one _ f g)
-replay-one (replayed f s w) (refused g eb es) = refused-passes (first-one _ g f)
+replay-one (refused f ea er) (refused g eb es) = (ea ∙ ap Refused (refused-one (first-one verdicts _ f g)) ∙ sym eb, er ∙ sym es)
+replay-one (refused f ea er) (replayed g s w) = refused-passes (first-one verdicts _ f g)
+replay-one (replayed f s w) (refused g eb es) = refused-passes (first-one verdicts _ g f)
 replay-one {t = t} (replayed f s w) (replayed g u z) =
     let e = redone-one (w .redone) (z .redone) in
     (e .0, w .left ∙ ap (λ T. flat T ++ replicate (length t - length (flat T)) 0) (e .1) ∙ sym (z .left))
 
 -- a stage within its counts passes
-pub replay-passes : (n : ℕ) (t log : List ℕ) → ReplayFits n t log → Stage n (rows t) → First (replay-lines n t log) Passes
-replay-passes n t log fits s = unfold replay-lines in
-    first-before _ _ _ (λ k. k fits) (after-2 n t Passes (fits .counts) (stage-passes t (fits .counts .table .threes) n s))
+pub replay-passes : (n : ℕ) (t log : List ℕ) → ReplayFits n t log → Stage n (rows t) → First (replay-refusals n t log) Passes
+replay-passes n t log fits s = unfold replay-refusals in
+    rest-decides verdicts ((λ k. k fits) nor none-yet) Passes (after-2 n t Passes (fits .counts) (stage-passes t (fits .counts .table .threes) n s))
 
 -- a log that leads from a stage to T′ is done whole, and leaves T′ in front
 pub replays-whole : {n : ℕ} {t log : List ℕ} {a : Regrown} {t′ : List ℕ} {T′ : List Row} → ReplayFits n t log → Stage n (rows t) → Replayed (rows t) (records log) T′ →
@@ -52,8 +51,8 @@ replays-whole {n} {t} {log} {T′ = T′} fits s r w =
     replay-one w (replayed (replay-passes n t log fits s) s (record { table = T′; redone = all r (ap Done (sym (first-length (count log) log))); left = refl }))
 
 -- where no refusal holds, a stage stands
-pub replay-stands : {n : ℕ} {t log : List ℕ} {a : Regrown} {t′ : List ℕ} → ReplayedAs n t log a t′ → First (replay-lines n t log) Passes → Stage n (rows t)
-replay-stands (refused f ea er) g = refused-passes (first-one _ f g)
+pub replay-stands : {n : ℕ} {t log : List ℕ} {a : Regrown} {t′ : List ℕ} → ReplayedAs n t log a t′ → First (replay-refusals n t log) Passes → Stage n (rows t)
+replay-stands (refused f ea er) g = refused-passes (first-one verdicts _ f g)
 replay-stands (replayed f s w) g = s
 
 -- the rows reached are a stage: those that stood, less two for each record done
@@ -93,7 +92,7 @@ redone-told (stopped m k l p g f e) = inr (m, k, l, p, ap told e)
 
 -- the answer tells the first refusal that holds; else 0 and how many records there are, or 13 and how many were done
 pub replay-told : {n : ℕ} {t log : List ℕ} {a : Regrown} {t′ : List ℕ} → ReplayedAs n t log a t′ →
-    ((e : Refusal) × First (replay-lines n t log) (verdict.Refused e) × (told a ≡ answers.refused e))
-    ⊎ (First (replay-lines n t log) Passes × ((told a ≡ answers.done (pos (length (records log)) ∷ [])) ⊎ Failing (records log) (told a)))
+    ((e : Refusal) × First (replay-refusals n t log) (verdict.Refused e) × (told a ≡ answers.refused e))
+    ⊎ (First (replay-refusals n t log) Passes × ((told a ≡ answers.done (pos (length (records log)) ∷ [])) ⊎ Failing (records log) (told a)))
 replay-told (refused {e = e} f ea er) = inl (e, f, ap told ea)
 replay-told (replayed f s w) = inr (f, redone-told (w .redone))

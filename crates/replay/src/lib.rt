@@ -10,7 +10,7 @@ ghost use Prim.Native.Nat.{_<_};
 ghost use Rattle.surface.specs.Rows.{rows};
 ghost use Rattle.surface.specs.Stage.{StageTable};
 ghost use Rattle.surface.specs.Link.{Meets};
-ghost use Rattle.faults.specs.Tells.{Tells};
+ghost use Rattle.refusal.specs.Tells.{Tells};
 ghost use Rattle.record.specs.Layout.{meant};
 ghost use Rattle.replay.specs.Redone.{placed-as, Accepts, RedoneIn};
 ghost use Rattle.replay.specs.Outcome.{ReplayFits, Judged, ReplayedAs};

@@ -14,8 +14,8 @@ use Rattle.refusal.specs.declared.Verdict.{Verdict}
 use Rattle.refusal.specs.declared.Verdict.the-variants as verdict
 use Rattle.refusal.specs.First.{First}
 use Rattle.refusal.specs.Told.{done, refused}
-use Rattle.refusal.proofs.Laws.{first-one}
-use Rattle.faults.specs.Order.{lines-after-counts}
+use Rattle.refusal.proofs.Laws.{verdicts, first-one, refused-one, refused-passes}
+use Rattle.faults.specs.Order.{refusals-after-counts}
 use Rattle.run.proofs.Main.{run-one}
 use Rattle.sheet.proofs.Promises.{Same, one-skin}
 use Rattle.reply.specs.declared.Answer.{Answer}
@@ -27,26 +27,20 @@ use Rattle.reply.proofs.Most.{answer-fits}
 
 -- ---- one text for any bytes
 
-same-refusal : {r q : Refusal} → verdict.Refused r ≡ verdict.Refused q → r ≡ q
-same-refusal e = cc
-
-not-passed : {X : Type 0} {r : Refusal} → verdict.Refused r ≡ verdict.Passes → X
-not-passed e = let z : _≡_ {A = ℕ} 0 1 = cc in absurd (omega arith)
-
 -- the verdict on what a sheet holds, by another name of that
-moved : {n m i j : ℕ} {xs ys : List ℤ} {t u : List ℕ} (v : Verdict) → Same n m i j xs ys t u → First (lines-after-counts true xs t) v → First (lines-after-counts true ys u) v
+moved : {n m i j : ℕ} {xs ys : List ℤ} {t u : List ℕ} (v : Verdict) → Same n m i j xs ys t u → First (refusals-after-counts true xs t) v → First (refusals-after-counts true ys u) v
 moved v s f = rw (s .coordinates, s .numbers) at f
 
 no-skin-one : {b : List ℕ} {r q : Refusal} → NoSkin b r → NoSkin b q → r ≡ q
-no-skin-one (bad-form f) (bad-form g) = same-refusal (first-one _ f g)
-no-skin-one (bad-form f) (bad-skin g s k) = not-passed (first-one _ f g)
-no-skin-one (bad-skin f s k) (bad-form g) = not-passed (first-one _ g f)
-no-skin-one {r = r} (bad-skin f s k) (bad-skin g u l) = same-refusal (first-one _ (moved (verdict.Refused r) (one-skin s u) k) l)
+no-skin-one (bad-form f) (bad-form g) = refused-one (first-one verdicts _ f g)
+no-skin-one (bad-form f) (bad-skin g s k) = refused-passes (first-one verdicts _ f g)
+no-skin-one (bad-skin f s k) (bad-form g) = refused-passes (first-one verdicts _ g f)
+no-skin-one {r = r} (bad-skin f s k) (bad-skin g u l) = refused-one (first-one verdicts _ (moved (verdict.Refused r) (one-skin s u) k) l)
 
 -- what is refused holds no skin
 pub no-skin-or-skin : {X : Type 0} {b : List ℕ} {r : Refusal} {xs : List ℤ} {t : List ℕ} → NoSkin b r → SkinOf b xs t → X
-no-skin-or-skin (bad-form f) w = not-passed (first-one _ f (w .form))
-no-skin-or-skin {r = r} (bad-skin f s k) w = not-passed (first-one _ (moved (verdict.Refused r) (one-skin s (w .sheet)) k) (w .passes))
+no-skin-or-skin (bad-form f) w = refused-passes (first-one verdicts _ f (w .form))
+no-skin-or-skin {r = r} (bad-skin f s k) w = refused-passes (first-one verdicts _ (moved (verdict.Refused r) (one-skin s (w .sheet)) k) (w .passes))
 
 tells-one : {xs : List ℤ} {t txt txt₂ : List ℕ} → Tells xs t txt → Tells xs t txt₂ → txt ≡ txt₂
 tells-one {xs} {t} p q = let e = run-one (p .run) (q .run) in p .text ∙ (λ i. ok-text xs (rows t) (e .0 i) (e .1 i)) ∙ sym (q .text)

@@ -6,7 +6,7 @@ use Prim.Native.Nat.{ℕ, _*_, _≤_, _<_}
 use lib.IntN.{ℤ, pos}
 use lib.ListN.{length, drop}
 use Rattle.surface.specs.Limits.{least-rows, least-corners}
-use Rattle.refusal.specs.First.{Clause, _when_}
+use Rattle.refusal.specs.First.{Refusals, _when_}
 use Rattle.refusal.specs.declared.Refusal.the-variants.{SheetForm, CountsOutside}
 use Rattle.lines.specs.Lines.{line, lines, Short, LineAt}
 use Rattle.sheet.specs.Limits.{most-sheet-bytes, most-sheet-rows, most-sheet-corners, most-digits}
@@ -77,7 +77,7 @@ abbrev pub NoSheet : List ℕ → Type 0
 NoSheet b = (n m : ℕ) (xs : List ℤ) (t : List ℕ) → ¬ SheetOf b n m xs t
 
 -- "For a sheet this order replaces the table's: size, first line (12), counts (2), other lines (12), the rest."
-unfoldable pub form-refusals : List ℕ → List Clause
+unfoldable pub form-refusals : List ℕ → Refusals
 form-refusals b =
     (SheetForm when (most-sheet-bytes < length b))
     ∷ (SheetForm when NoFirstLine b)

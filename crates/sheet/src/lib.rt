@@ -6,7 +6,7 @@ ghost use lib.Seq.{sets};
 ghost use Rattle.lines.specs.Lines.{Short};
 ghost use Rattle.sheet.specs.Limits.{most-digits, most-sheet-corners, most-sheet-rows};
 ghost use Rattle.sheet.specs.Body.{Naturals, NoNaturals, BodyRead, NoBody};
-ghost use Rattle.faults.specs.Tells.{Tells};
+ghost use Rattle.refusal.specs.Tells.{Tells};
 ghost use Rattle.sheet.specs.Form.{ReadFirst, CountsIn};
 ghost use Rattle.sheet.specs.Outcome.{ReadForm, Delivered, ReadSheet};
 use refusal::Refusal;

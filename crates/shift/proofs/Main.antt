@@ -14,8 +14,8 @@ use Rattle.surface.specs.Record.{Record, Replayed, no-step, one-step}
 use Rattle.surface.proofs.Counted.{used-new}
 use Rattle.surface.proofs.Linked.{opposite}
 use Rattle.refusal.specs.Told.{Told}
-use Rattle.refusal.proofs.Laws.{first-one}
-use Rattle.answer.proofs.Laws.{refused-one, refused-done, outcome-one}
+use Rattle.refusal.proofs.Laws.{first-one, verdicts}
+use Rattle.refusal.proofs.Outcome.{tells-refusal, refused-done, outcome-one}
 use Rattle.record.specs.Layout.{log-of}
 use Rattle.record.proofs.Log.{log-length, records-log}
 use Rattle.faults.specs.Counts.{corners}
@@ -45,11 +45,11 @@ told-one (StandIn v k d) (StandIn w j e) h =
     λ i. StandIn (record { 0 = ev i }) (ek i) (ed i)
 told-one (StandIn v k d) (Refused s) h = absurd (refused-done s (sym h))
 told-one (Refused r) (StandIn w j e) h = absurd (refused-done r h)
-told-one (Refused r) (Refused s) h = ap Refused (refused-one h)
+told-one (Refused r) (Refused s) h = ap Refused (tells-refusal h)
 
 -- no second answer meets the words of `shift`
 pub shift-one : {xs : List ℤ} {log : List ℕ} {v : ℕ} (a b : Shifted) → ShiftReport xs log v (told a) → ShiftReport xs log v (told b) → a ≡ b
-shift-one a b p q = told-one a b (outcome-one _ (first-one _ (p .first) (q .first)) (p .tells) (q .tells))
+shift-one a b p q = told-one a b (outcome-one _ (first-one verdicts _ (p .first) (q .first)) (p .tells) (q .tells))
 
 -- ---- the shift bound
 

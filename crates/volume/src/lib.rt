@@ -31,7 +31,7 @@ pub fn change(earlier: &[u32], later: &[u32], corners: &[i32]) -> Measured
 {
     let of_earlier = skin::check_stage_at(earlier, corners);
     let of_later = skin::check_stage_at(later, corners);
-    let verdict = verdicts::lesser(of_earlier, of_later);
+    let verdict = refusal::lesser(of_earlier, of_later);
     match verdict {
         Verdict::Passes => {
             let before = figure::sixfold_sum(earlier, corners);

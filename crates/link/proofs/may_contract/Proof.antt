@@ -4,7 +4,7 @@ use borrow.Author.Tests.{not-true, not-false}
 use lib.Seq.{length-take-le}
 use Rattle.surface.specs.Limits.{most-corners}
 use Rattle.slots.proofs.Marks.{no-mark}
-use Rattle.faults.proofs.Tells.{tells-false}
+use Rattle.refusal.proofs.Tells.{tells-false}
 use Rattle.link.proofs.Condition.{not-beside}
 use Rattle.link.proofs.Marking.{neighbours-corners}
 use native.Mathlib.Omega.{arith}

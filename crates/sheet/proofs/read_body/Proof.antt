@@ -4,7 +4,7 @@ use Prim.Native.Nat.{_*_, _≤_}
 use lib.IntN.{pos}
 use lib.ListN.{drop, replicate}
 use Rattle.lines.specs.Lines.{Short, LinesAt, ReadInto}
-use Rattle.faults.proofs.Tells.{tells-false}
+use Rattle.refusal.proofs.Tells.{tells-false}
 use Rattle.sheet.specs.Limits.{most-digits}
 use Rattle.sheet.specs.Form.{C, R}
 use Rattle.sheet.proofs.Lower.{no-corners, no-rows, corners-front, rows-front, more-follows, minus-in-row, body-read}

@@ -1,7 +1,7 @@
 -- `past_in` meets its contract: every record below place j has both its numbers below the count.
 use Prim.Native.Nat.{ℕ, _-_, _≤_, _<_}
 use borrow.Author.Count.{below-more}
-use Rattle.faults.proofs.Tells.{tells-true, tells-false}
+use Rattle.refusal.proofs.Tells.{tells-true, tells-false}
 use Rattle.shift.proofs.Checking.{Both, past-kept, past-removed, all-below}
 use native.Mathlib.Omega.{arith}
 use borrow.Author.Needs.{needs}
