@@ -12,7 +12,7 @@ use Rattle.surface.specs.Table.{Edge, Used}
 use Rattle.slots.specs.Slot.{next-slot, Whole, Under}
 use Rattle.slots.specs.Marks.{Blank}
 use Rattle.slots.proofs.Slots.{next-inside, follows-at, at-edge, at-used}
-use Rattle.accept.specs.Noted.{Noted, NotedTo, Round, Near}
+use Rattle.accept.specs.Noted.{Noted, NotedTo, Round, IsNoted}
 
 -- used: a slot holds it
 module _ (t : List ℕ) (w : Whole t) (v : ℕ) where
@@ -58,7 +58,7 @@ note-end t a i at h k n = let e : i ≡ length t = omega arith in rw e at n
 
 -- a noted corner is a neighbour, and every neighbour is noted
 module _ (t : List ℕ) (w : Whole t) (a : ℕ) (at : List ℕ) (under : Under t (length at)) (r : Round t a at) where
-  pub near-edge : {p : ℕ} → Near at p → Edge (rows t) a p
+  pub near-edge : {p : ℕ} → IsNoted at p → Edge (rows t) a p
   near-edge {p} n =
       let l = r .noted p (n .inside) in
       let u = l .upto in
@@ -69,7 +69,7 @@ module _ (t : List ℕ) (w : Whole t) (a : ℕ) (at : List ℕ) (under : Under t
       pos : (x : ℕ) → x ≢ 0 → 0 < x
       pos x n = omega arith
 
-  pub edge-near : {p : ℕ} → Edge (rows t) a p → Near at p
+  pub edge-near : {p : ℕ} → Edge (rows t) a p → IsNoted at p
   edge-near {p} g =
       let s = follows-at t (w .threes) (g .1) in
       let h : getD t (next-slot (s .e)) 0 < length at = under .under (next-slot (s .e)) (next-inside (length t) (s .e) (w .threes) (s .inside)) in

@@ -15,7 +15,7 @@ use Rattle.surface.proofs.Following.{re-edge}
 use Rattle.surface.proofs.Accepting.{ends-one}
 use Rattle.record.specs.declared.Corner.{Corner}
 use Rattle.ends.specs.declared.Ends.the-variants.{At, Nothing}
-use Rattle.accept.specs.Noted.{Round, Near, TwoNear}
+use Rattle.accept.specs.Noted.{Round, IsNoted, BothNoted}
 use Rattle.ends.specs.Rows.{EndsAre}
 use Rattle.accept.specs.Test.{InBounds, Answered}
 use Rattle.slots.proofs.Slots.{under-more}
@@ -74,18 +74,18 @@ module _ (n : ℕ) (t : List ℕ) (k : Record) (w : StageTable n t) where
   no-such-rows m l = m (l .x) (l .y) (l .ends)
 
   module _ (x y : Corner) (e : EndsAre (k .kept) (k .removed) (k .row-1) (k .row-2) (At x y)) (at : List ℕ) (under : n ≤ length at) (r : Round t (k .kept) at) where
-    pub not-two-near : ¬ TwoNear at (x .0) (y .0) → Answered n (rows t) k Nothing
+    pub not-two-near : ¬ BothNoted at (x .0) (y .0) → Answered n (rows t) k Nothing
     unfolding Answered EndsAre
     not-two-near m l =
         let h = same-ends n (rows t) k (w .stage) l e in
         m (record { differ = λ q. l .differ (h .0 ∙ q ∙ sym (h .1)); at-x = noted (re-edge refl (h .0) (l .at-x)); at-y = noted (re-edge refl (h .1) (l .at-y)) })
       where
-        noted : {p : ℕ} → Edge (rows t) (k .kept) p → Near at p
+        noted : {p : ℕ} → Edge (rows t) (k .kept) p → IsNoted at p
         noted g = edge-near t (table-whole w) (k .kept) at (under-more (table-under w) under) r g
 
-    pub all-holds : InBounds n (length t / 3) k → ¬ Used (rows t) (k .removed) → TwoNear at (x .0) (y .0) → Answered n (rows t) k (At x y)
+    pub all-holds : InBounds n (length t / 3) k → ¬ Used (rows t) (k .removed) → BothNoted at (x .0) (y .0) → Answered n (rows t) k (At x y)
     unfolding Answered EndsAre local
     all-holds b u d = (local n (rows t) k (w .stage) e (rw rows-told at b) u (d .differ) (edge (d .at-x)) (edge (d .at-y)), refl, refl)
       where
-        edge : {p : ℕ} → Near at p → Edge (rows t) (k .kept) p
+        edge : {p : ℕ} → IsNoted at p → Edge (rows t) (k .kept) p
         edge g = near-edge t (table-whole w) (k .kept) at (under-more (table-under w) under) r g

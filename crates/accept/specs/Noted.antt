@@ -21,12 +21,12 @@ abbrev pub Round : List ℕ → ℕ → List ℕ → Type 0
 Round t a at = NotedTo t a (length t) at
 
 -- p is noted
-pub record Near (at : List ℕ) (p : ℕ) : Type 0 where
+pub record IsNoted (at : List ℕ) (p : ℕ) : Type 0 where
   pub inside : p < length at
   pub noted : getD at p 0 ≢ 0
 
 -- x and y are two corners, both noted
-pub record TwoNear (at : List ℕ) (x y : ℕ) : Type 0 where
+pub record BothNoted (at : List ℕ) (x y : ℕ) : Type 0 where
   pub differ : x ≢ y
-  pub at-x : Near at x
-  pub at-y : Near at y
+  pub at-x : IsNoted at x
+  pub at-y : IsNoted at y

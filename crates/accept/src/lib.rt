@@ -11,8 +11,8 @@ ghost use Rattle.surface.specs.Stage.{StageTable};
 ghost use Rattle.record.specs.Layout.{meant};
 ghost use Rattle.slots.specs.Slot.{Whole, Under};
 ghost use Rattle.slots.specs.Marks.{Blank};
-ghost use Rattle.faults.specs.Tells.{Tells};
-ghost use Rattle.accept.specs.Noted.{NotedTo, Round, Near, TwoNear};
+ghost use Rattle.refusal.specs.Tells.{Tells};
+ghost use Rattle.accept.specs.Noted.{NotedTo, Round, IsNoted, BothNoted};
 ghost use Rattle.accept.specs.Test.{InBounds, Answered};
 
 // Whether a record's numbers and places can be those of a step to so many rows.
@@ -85,7 +85,7 @@ fn note_round(t: &[u32], kept: Corner, at: &mut [usize])
 
 // Whether a corner is noted.
 fn near(at: &[usize], p: Corner) -> bool
-    ensures { λ r. ⌜ Tells r (Near (now (at .entry)) (p .0)) (¬ Near (now (at .entry)) (p .0)) ⌝ }
+    ensures { λ r. ⌜ Tells r (IsNoted (now (at .entry)) (p .0)) (¬ IsNoted (now (at .entry)) (p .0)) ⌝ }
 {
     let i = p.0 as usize;
     if at.len() <= i {
@@ -99,7 +99,7 @@ fn near(at: &[usize], p: Corner) -> bool
 
 // Whether x and y are two corners, both noted.
 fn two_near(at: &[usize], x: Corner, y: Corner) -> bool
-    ensures { λ r. ⌜ Tells r (TwoNear (now (at .entry)) (x .0) (y .0)) (¬ TwoNear (now (at .entry)) (x .0) (y .0)) ⌝ }
+    ensures { λ r. ⌜ Tells r (BothNoted (now (at .entry)) (x .0) (y .0)) (¬ BothNoted (now (at .entry)) (x .0) (y .0)) ⌝ }
 {
     if x.0 == y.0 {
         return false;

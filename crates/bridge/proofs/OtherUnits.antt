@@ -1,13 +1,12 @@
 -- A unit past 3 is none: its limit is unusable, so the answer is 1 and nothing is written.
 use mathlib.Core.Path.{_≡_, refl}
-use mathlib.Core.Logic.{inl}
 use mathlib.Core.List.{List}
 use Prim.Native.Nat.{ℕ, _<_}
 use native.Mathlib.Omega.{arith}
 use lib.IntN.{ℤ}
 use lib.Ieee.{Float, nan}
 use borrow.Author.Tests.{ne-eqb}
-use Rattle.refusal.specs.First.{First}
+use Rattle.refusal.proofs.Laws.{verdicts, given-first, none-yet}
 use Rattle.refusal.specs.declared.Refusal.the-variants.{LimitUnusable}
 use Rattle.length.specs.declared.Length.the-variants.{Centimetres}
 use Rattle.length.specs.declared.Order.the-variants.{Limit}
@@ -16,7 +15,7 @@ use Rattle.length.specs.Limit.{reading, limit-of}
 use Rattle.thin.specs.declared.Asked.the-variants.{NoUse}
 use Rattle.thin.specs.declared.Thinning.the-variants.{Refused}
 use Rattle.thin.specs.Order.{asked}
-use Rattle.thin.specs.Thin.{thin-lines, refused}
+use Rattle.thin.specs.Thin.{thin-refusals, refused}
 use Rattle.bridge.specs.declared.Counted.{Counted}
 use Rattle.bridge.specs.declared.Centimetres as struct
 use Rattle.bridge.specs.Units.{length-of, order-of}
@@ -43,6 +42,6 @@ module _ (u : ℕ) (v : Float) (other : 3 < u) where
   other-unit-limit p = limit-crosses u v p (record { answer = Unusable; gives = rw (no-length, no-number) refl; says = record { status = refl; values = refl } })
 
   pub other-unit-thin : {xs : List ℤ} {t l t′ l′ : List ℕ} {r : Counted} → ThinShown u v xs t l r t′ l′ → (r ≡ record { status = 1; records = 0 }) × (t′ ≡ t) × (l′ ≡ l)
-  unfolding First thin-lines
+  unfolding thin-refusals
   other-unit-thin p =
-      thin-crosses u v p (record { answer = Refused LimitUnusable; gives = refused {e = LimitUnusable} (inl (no-use, refl)) refl refl refl; says = record { status = refl; values = refl } })
+      thin-crosses u v p (record { answer = Refused LimitUnusable; gives = refused {e = LimitUnusable} (given-first verdicts none-yet no-use) refl refl refl; says = record { status = refl; values = refl } })

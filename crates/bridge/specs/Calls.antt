@@ -1,4 +1,4 @@
--- What each call that may refuse says where it crosses: the struct shows an answer that the call itself gives, in its own words.
+-- What each call that may refuse says where it crosses: the numbers, gathered in a struct, show an answer that the call itself gives, in its own words.
 use mathlib.Core.Path.{_≡_}
 use mathlib.Core.List.{List}
 use Prim.Native.Nat.{ℕ}

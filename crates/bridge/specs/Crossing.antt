@@ -29,7 +29,7 @@ use Rattle.reply.specs.declared.Answer.{Answer}
 use Rattle.reply.specs.Outcome.{Replied}
 use Rattle.reply.specs.Answer as reply-answer
 use Rattle.ring.specs.declared.Trial.{Trial}
-use Rattle.ring.specs.Ring.{Tells}
+use Rattle.ring.specs.Ring.{AnswerAt}
 use Rattle.link.specs.Chosen.{Chosen}
 use Rattle.catchup.specs.CatchUp.{CaughtUp}
 use Rattle.bridge.specs.declared.Counted.{Counted}
@@ -71,7 +71,7 @@ pub record Crossing : Type 0 where
   pub catch-up-one : {first second : RefT (List ℕ)} {r q : Part} → PartShown first second r → PartShown first second q → r ≡ q
   pub read-sheet : {b t t₁ t₂ : List ℕ} {xs xs₁ xs₂ : List ℤ} {r : Counts} {a : Sheet} → SheetShown b t t₁ xs xs₁ r → ReadSheet b t t₂ xs xs₂ a → Says (sheet-answer.told a) (of-counts r) × (t₁ ≡ t₂) × (xs₁ ≡ xs₂)
   pub read-sheet-one : {b t t₁ t₂ : List ℕ} {xs xs₁ xs₂ : List ℤ} {r q : Counts} → SheetShown b t t₁ xs xs₁ r → SheetShown b t t₂ xs xs₂ q → (r ≡ q) × (t₁ ≡ t₂) × (xs₁ ≡ xs₂)
-  pub trial-number : {k : ℕ} {r : Stored} (a : Trial) → TrialShown k r → Tells k a → Stores a r
+  pub trial-number : {k : ℕ} {r : Stored} (a : Trial) → TrialShown k r → AnswerAt k a → Stores a r
   pub trial-number-one : {k : ℕ} {r q : Stored} → TrialShown k r → TrialShown k q → r ≡ q
   pub reply : {b text : List ℕ} {r : Written} {text₁ text₂ : List ℕ} {a : Answer} → ReplyShown b text r text₁ → Replied b text a text₂ → Says (reply-answer.told a) (of-written r) × (text₁ ≡ text₂)
   pub reply-one : {b text : List ℕ} {r q : Written} {text₁ text₂ : List ℕ} → ReplyShown b text r text₁ → ReplyShown b text q text₂ → (r ≡ q) × (text₁ ≡ text₂)

@@ -1,4 +1,4 @@
--- The numbers of each struct that crosses: the status, then its values in their order.
+-- The numbers that cross, gathered in a struct for each kind of answer: the status, then its values in their order.
 use mathlib.Core.List.{[], _∷_}
 use lib.IntN.{pos}
 use Rattle.refusal.specs.Told.{Told}

@@ -6,7 +6,7 @@ use lib.ListN.{length, drop}
 use denote.Ref.{RefT}
 use Rattle.ring.specs.declared.Trial.{Trial}
 use Rattle.ring.specs.declared.Trial.the-variants.{Number, Nothing}
-use Rattle.ring.specs.Ring.{Tells}
+use Rattle.ring.specs.Ring.{AnswerAt}
 use Rattle.link.specs.Chosen.{Chosen}
 use Rattle.catchup.specs.CatchUp.{PartOf, CaughtUp}
 use Rattle.bridge.specs.declared.Stored.{Stored}
@@ -20,7 +20,7 @@ Stores Nothing r = (r .there ≡ 0) × (r .number ≡ 0)
 -- as the call answers
 pub record TrialShown (at : ℕ) (r : Stored) : Type 0 where
   pub answer : Trial
-  pub tells : Tells at answer
+  pub tells : AnswerAt at answer
   pub stores : Stores answer r
 
 -- 0 where the ring is the first, 1 where it is the second and not the first

@@ -1,6 +1,5 @@
 -- The starred cases hold: for each the listed outcome is allowed, and thinning has no second one.
 use mathlib.Core.Path.{_≡_, refl, _∙_, ap}
-use mathlib.Core.Logic.{inl, inr}
 use mathlib.Core.Bool.{Bool, true}
 use mathlib.Core.List.{List, [], _∷_, List·Memᴰ·head, _++_}
 use Prim.Native.Nat.{ℕ, _*_, _≤_}
@@ -16,11 +15,12 @@ use Rattle.surface.specs.Stage.{StageTable, InRange}
 use Rattle.surface.specs.Contract.{contract, renumber, replace, stays?, holds?}
 use Rattle.surface.specs.Record.{at, later, leaving, Record, Replayed}
 use Rattle.refusal.specs.First.{First}
+use Rattle.refusal.proofs.Laws.{verdicts, given-first, none-yet, _nor_}
 use Rattle.refusal.specs.declared.Verdict.the-variants as verdict
 use Rattle.refusal.specs.declared.Refusal.the-variants.{EdgeTwice}
 use Rattle.faults.specs.Counts.{CountsFitAt, corners}
 use Rattle.faults.specs.Words.{Twice, again, later as after}
-use Rattle.faults.specs.Order.{lines-after-counts, row-lines}
+use Rattle.faults.specs.Order.{refusals-after-counts, row-refusals}
 use Rattle.faults.proofs.Opposites.{in-or-out, below-or-not, twice-or-apart}
 use Rattle.run.specs.Run.{Run}
 use Rattle.figure.specs.Corners.{squared-distance}
@@ -42,7 +42,7 @@ use Rattle.record.specs.Front.{zeroed}
 use Rattle.thin.specs.declared.Asked.the-variants.{Under}
 use Rattle.thin.specs.declared.Thinning.{Thinning}
 use Rattle.thin.specs.declared.Thinning.the-variants.{Done, Refused}
-use Rattle.thin.specs.Thin.{thin-lines, Thinned, refused, done}
+use Rattle.thin.specs.Thin.{thin-refusals, Thinned, refused, done}
 use Rattle.thin.proofs.Main.{thinned-one, thin-passes}
 use Rattle.thin.proofs.Judging.{under-usable}
 use Rattle.thin.specs.Answer as thinnings
@@ -56,7 +56,7 @@ use Rattle.surface.proofs.Testing.{every}
 use Rattle.computed.proofs.Passing.{row-fits, rows-below, passes-stage}
 use Rattle.computed.proofs.Running.{Passing, least, Steps, stays-at, goes-on, steps-taken, run-sound, run-same}
 use Rattle.cases.specs.Skins.{T, T-corners, T-turned, O, O-corners, M, M-corners}
-use Rattle.cases.specs.Cases.{thins, weighs, changes, replays, Holds, cm-141, cm-142, lent, O-last, O-log, O-one, O-two, starred, All, all-none, all-more}
+use Rattle.cases.specs.Cases.{thins, weighs, changes, replays, CaseHolds, cm-141, cm-142, lent, O-last, O-log, O-one, O-two, AllStarred, all-none, all-more}
 use Rattle.cases.proofs.Skinned.{T-skin, O-skin, M-skin}
 
 -- an outcome that is allowed, and the only one
@@ -76,16 +76,16 @@ only : (o : Order) {xs : List ℤ} {t l : List ℕ} {a : Thinning} {t′ l′ : 
 only o h = (h, λ b u m k. thinned-one k h)
 
 -- so it holds as told
-thins-told : (o : Order) {xs : List ℤ} {t l : List ℕ} (a : Thinning) {t′ l′ : List ℕ} → Thins o xs t l a t′ l′ → Holds (thins o xs t l (thinnings.told a) t′ l′)
+thins-told : (o : Order) {xs : List ℤ} {t l : List ℕ} (a : Thinning) {t′ l′ : List ℕ} → Thins o xs t l a t′ l′ → CaseHolds (thins o xs t l (thinnings.told a) t′ l′)
 thins-told o a h = record { answer = a; tells = refl; allowed = h .0; no-other = λ b c k. let e = h .1 b (c .0) (c .1) k in (ap thinnings.told (e .0), λ i. (e .1 i, e .2 i)) }
 
-weighs-told : {xs : List ℤ} {t : List ℕ} {s : ℤ} (f : ℤ) → Weighs xs t s f → Holds (weighs xs t s (told (Figure f)))
+weighs-told : {xs : List ℤ} {t : List ℕ} {s : ℤ} (f : ℤ) → Weighs xs t s f → CaseHolds (weighs xs t s (told (Figure f)))
 weighs-told f h = (h .0, record { answer = Figure f; tells = refl; allowed = h .1; no-other = λ b c k. (ap told (h .2 b k), refl) })
 
-changes-told : {xs : List ℤ} {t u : List ℕ} (f : ℤ) → Changes xs t u f → Holds (changes xs t u (told (Figure f)))
+changes-told : {xs : List ℤ} {t u : List ℕ} (f : ℤ) → Changes xs t u f → CaseHolds (changes xs t u (told (Figure f)))
 changes-told f h = record { answer = Figure f; tells = refl; allowed = h .0; no-other = λ b c k. (ap told (h .1 b k), refl) }
 
-replays-told : {n : ℕ} {t l : List ℕ} (k : ℕ) {u : List ℕ} → Replays n t l k u → Holds (replays n t l (regrowths.told (regrown.Done k)) u)
+replays-told : {n : ℕ} {t l : List ℕ} (k : ℕ) {u : List ℕ} → Replays n t l k u → CaseHolds (replays n t l (regrowths.told (regrown.Done k)) u)
 replays-told k h = record { answer = regrown.Done k; tells = refl; allowed = h .0; no-other = λ b v w. let e = h .1 b v w in (ap regrowths.told (e .0), e .1) }
 
 -- limits as computed tests
@@ -151,25 +151,18 @@ turned-counts = record {
   coordinates = record { threes = refl; count = record { few = omega arith; many = omega arith } };
 }
 
-turned-first : First (thin-lines (Under Free) T-corners T-turned 0) (verdict.Refused EdgeTwice)
-unfolding thin-lines lines-after-counts row-lines First
+turned-first : First (thin-refusals (Under Free) T-corners T-turned 0) (verdict.Refused EdgeTwice)
+unfolding thin-refusals refusals-after-counts row-refusals
 turned-first =
-    inr (
-      under-usable refl,
-      inr (
-        λ k. k turned-counts,
-        inr (
-          λ k. omega arith,
-          inr (
-            λ k. in-or-out k (T-skin .in-range),
-            inr (
-              λ k. below-or-not k (λ v p q f. (rows-below 4 (rows T-turned) turned-fit f) .0),
-              inr (λ k. twice-or-apart k (λ v p q f. (rows-below 4 (rows T-turned) turned-fit f) .1), inl (turned-twice, refl)),
-            ),
-          ),
-        ),
-      ),
-    )
+    given-first verdicts
+    (under-usable refl
+    nor (λ k. k turned-counts)
+    nor (λ k. omega arith)
+    nor in-or-out (T-skin .in-range)
+    nor below-or-not (λ v p q f. rows-below 4 (rows T-turned) turned-fit f .0)
+    nor twice-or-apart (λ v p q f. rows-below 4 (rows T-turned) turned-fit f .1)
+    nor none-yet)
+    turned-twice
 
 case-turned : Thins NoLimit T-corners T-turned [] (Refused EdgeTwice) T-turned []
 case-turned = only NoLimit (refused {e = EdgeTwice} turned-first refl refl refl)
@@ -265,7 +258,7 @@ unfolding rows flat first-records
 replays-two = replayed-only O-log 2 O-last (O-fits O-log refl (omega arith)) both-steps refl refl
 
 -- every starred case holds
-pub all-starred : All Holds starred
+pub all-starred : AllStarred
 all-starred =
     all-more (thins-told NoLimit (Done 0) case-T)
     (all-more (thins-told NoLimit (Refused EdgeTwice) case-turned)

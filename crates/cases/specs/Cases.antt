@@ -38,11 +38,11 @@ pub record Pinned {A B : Type 0} (Allows : A → B → Type 0) (told : A → Tol
   pub no-other : (a : A) (c : B) → Allows a c → (told a ≡ v) × (c ≡ b)
 
 -- the listed outcome is allowed by the call's contract, and no other is. A volume and a change leave nothing.
-abbrev pub Holds : Case → Type 0
-Holds (thins o xs t l v t′ l′) = Pinned (λ a (b : List ℕ × List ℕ). Thinned o xs t l a (b .0) (b .1)) thinnings.told v (t′, l′)
-Holds (weighs xs t s v) = (sixfold xs (rows t) ≡ s) × Pinned (λ a (b : Unit {0}). VolumeReport xs t (volumes.told a)) volumes.told v tt
-Holds (changes xs t u v) = Pinned (λ a (b : Unit {0}). ChangeReport xs t u (volumes.told a)) volumes.told v tt
-Holds (replays n t l v u) = Pinned (λ a b. ReplayedAs n t l a b) regrowths.told v u
+abbrev pub CaseHolds : Case → Type 0
+CaseHolds (thins o xs t l v t′ l′) = Pinned (λ a (b : List ℕ × List ℕ). Thinned o xs t l a (b .0) (b .1)) thinnings.told v (t′, l′)
+CaseHolds (weighs xs t s v) = (sixfold xs (rows t) ≡ s) × Pinned (λ a (b : Unit {0}). VolumeReport xs t (volumes.told a)) volumes.told v tt
+CaseHolds (changes xs t u v) = Pinned (λ a (b : Unit {0}). ChangeReport xs t u (volumes.told a)) volumes.told v tt
+CaseHolds (replays n t l v u) = Pinned (λ a b. ReplayedAs n t l a b) regrowths.told v u
 
 -- limits of 141 and 142 cm
 abbrev pub cm-141 : Order
@@ -99,3 +99,7 @@ starred =
 pub data All (P : Case → Type 0) : List Case → Type 0 where
   all-none : All P []
   all-more : {c : Case} {l : List Case} → P c → All P l → All P (c ∷ l)
+
+-- every starred case holds
+abbrev pub AllStarred : Type 0
+AllStarred = All CaseHolds starred

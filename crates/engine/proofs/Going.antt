@@ -18,23 +18,23 @@ use Rattle.run.proofs.Main.{taken-more, step-corners}
 use Rattle.record.specs.declared.Record.{Record}
 use Rattle.record.specs.Layout.{width, log-of, numbers, meant}
 use Rattle.record.proofs.Log.{numbers-length, log-length, log-append}
-use Rattle.record.specs.Front.{front}
+use Rattle.record.specs.Front.{front-rows}
 use Rattle.step.specs.Front.{SteppedFront, Fallen}
 use Rattle.step.proofs.Front.{fallen-none, front-replays, fallen-on, fallen-left}
-use Rattle.engine.specs.Engine.{Ready, WentOn}
+use Rattle.engine.specs.Engine.{CanGoOn, WentOn}
 
 -- the table t with r rows in front, the log l with k records: what the steps from t₀ have made
 pub record Going (P : ℕ → ℕ → Type 0) (n : ℕ) (t₀ : List ℕ) (r₀ : ℕ) (l₀ : List ℕ) (d : ℕ) (t l : List ℕ) (r k : ℕ) : Type 0 where
   pub log : List surface.Record
   pub fallen : Fallen n t₀ r₀ t r
-  pub taken : Taken P (rows (front r₀ t₀)) log (rows (front r t))
+  pub taken : Taken P (rows (front-rows r₀ t₀)) log (rows (front-rows r t))
   pub count : k ≡ d + length log
   pub same-log : length l ≡ length l₀
   pub logged : l ≡ take (width * d) l₀ ++ (log-of log ++ drop (width * k) l₀)
-  pub room : (v : ℕ) → Exactly (Used (rows (front r t))) v → width * (k + v) ≤ length l₀ + width * least-corners
+  pub room : (v : ℕ) → Exactly (Used (rows (front-rows r t))) v → width * (k + v) ≤ length l₀ + width * least-corners
 
 module _ {P : ℕ → ℕ → Type 0} {n : ℕ} {t₀ : List ℕ} {r₀ : ℕ} {l₀ : List ℕ} {d : ℕ} where
-  pub go-start : Ready n t₀ r₀ l₀ d → Going P n t₀ r₀ l₀ d t₀ l₀ r₀ d
+  pub go-start : CanGoOn n t₀ r₀ l₀ d → Going P n t₀ r₀ l₀ d t₀ l₀ r₀ d
   go-start w = record {
     log = [];
     fallen = fallen-none (w .inside) (w .table);
@@ -47,7 +47,7 @@ module _ {P : ℕ → ℕ → Type 0} {n : ℕ} {t₀ : List ℕ} {r₀ : ℕ} {
 
   module _ (t l : List ℕ) (r k : ℕ) (g : Going P n t₀ r₀ l₀ d t l r k) where
     abbrev T : List Row
-    T = rows (front r t)
+    T = rows (front-rows r t)
 
     -- where an edge qualifies, the log has room for its record: a stage follows, and uses four corners
     pub room-left : {a b : ℕ} → Least P T a b → width * k + width ≤ length l
@@ -69,7 +69,7 @@ module _ {P : ℕ → ℕ → Type 0} {n : ℕ} {t₀ : List ℕ} {r₀ : ℕ} {
       least : Least P T (meant e .kept) (meant e .removed)
       least = rw (w .stepped .kept-is, w .stepped .removed-is) least-ab
 
-      replays : surface.Replays T (meant e) (rows (front (r - 2) t′))
+      replays : surface.Replays T (meant e) (rows (front-rows (r - 2) t′))
       replays = front-replays t r (g .fallen) e t′ w same
 
       -- the log with one record more

@@ -11,22 +11,22 @@ use Rattle.surface.specs.Stage.{StageTable}
 use Rattle.surface.specs.Record as surface
 use Rattle.run.specs.Run.{Run}
 use Rattle.record.specs.Layout.{log-of, room-for}
-use Rattle.record.specs.Front.{front, lowered}
+use Rattle.record.specs.Front.{front-rows, lowered}
 
 -- the front of t is a stage over n corners, and the log l, which has d records, has room for as many as may follow: one for each used
 -- corner but four
-pub record Ready (n : ℕ) (t : List ℕ) (r : ℕ) (l : List ℕ) (d : ℕ) : Type 0 where
+pub record CanGoOn (n : ℕ) (t : List ℕ) (r : ℕ) (l : List ℕ) (d : ℕ) : Type 0 where
   pub inside : 3 * r ≤ length t
-  pub table : StageTable n (front r t)
+  pub table : StageTable n (front-rows r t)
   pub stand : room-for d ≤ length l
-  pub room : (v : ℕ) → Exactly (Used (rows (front r t))) v → room-for (d + v) ≤ length l + room-for least-corners
+  pub room : (v : ℕ) → Exactly (Used (rows (front-rows r t))) v → room-for (d + v) ≤ length l + room-for least-corners
 
 -- the run from the front of t under the limit P: its last stage in front, zeros to where the first one ended, what lies past that as it
 -- was; its records in the log after the d that stood there, what lies past them as it was; k records in all
 pub record WentOn (P : ℕ → ℕ → Type 0) (t : List ℕ) (r : ℕ) (l : List ℕ) (d : ℕ) (k : ℕ) (t′ l′ : List ℕ) : Type 0 where
   pub log : List surface.Record
   pub last : List Row
-  pub run : Run P (rows (front r t)) log last
+  pub run : Run P (rows (front-rows r t)) log last
   pub count : k ≡ d + length log
   pub table : t′ ≡ lowered r last t
   pub logged : l′ ≡ take (room-for d) l ++ (log-of log ++ drop (room-for k) l)

@@ -9,7 +9,7 @@ ghost use Rattle.surface.specs.Stage.{StageTable};
 ghost use Rattle.link.specs.Around.{Unmarked};
 ghost use Rattle.least.specs.Limited.{Allowed, Measurable};
 ghost use Rattle.least.specs.Search.{FoundLeast};
-ghost use Rattle.engine.specs.Engine.{Ready, WentOn};
+ghost use Rattle.engine.specs.Engine.{CanGoOn, WentOn};
 
 // The least edge of a stage that qualifies. The chains round its corners are built anew for each step; the rest is the search's scratch.
 fn next_edge(
@@ -46,7 +46,7 @@ pub fn go_on(
     log: &mut [u32],
     done: usize,
 ) -> usize
-    requires { ⌜ Ready n (now table) rows (now log) done ⌝ }
+    requires { ⌜ CanGoOn n (now table) rows (now log) done ⌝ }
     requires { ⌜ Measurable bound n (now xs) ⌝ }
     ensures { λ k. ⌜ WentOn (Allowed bound (now (xs .entry))) (now (table .entry)) rows (now (log .entry)) done k (now (table .exit)) (now (log .exit)) ⌝ }
 {

@@ -1,3 +1,2 @@
-pub mod Tells
 pub mod Opposites
 pub mod Order

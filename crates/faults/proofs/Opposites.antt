@@ -1,4 +1,4 @@
--- Each fault is the negation of its opposite; together the opposites are the stages and skins.
+-- Each of 4 to 11 is not given where its opposite stands; together the opposites are the stages and skins.
 use mathlib.Core.Path.{_≡_}
 use mathlib.Core.List.{List, [], _∷_}
 use Prim.Native.Nat.{ℕ, zero, suc, _*_, _<_, _%_}
@@ -13,21 +13,21 @@ use Rattle.faults.specs.Counts.{RowsFit, CornersFit, corners}
 use Rattle.faults.specs.Words.{OutOfRange, NotBelow, Below, TwiceInRow, Apart, Twice, again, later, NoReverse, BothWays, Unused, AllUsed, ManyRings, OneRing, Parted, Connected, Closed}
 
 -- 4
-pub in-or-out : {xs : List ℤ} → OutOfRange xs → InRange xs → ⊥
-in-or-out f g = let h = g .range (f .here) in let k = f .far in omega arith
+pub in-or-out : {xs : List ℤ} → InRange xs → ¬ OutOfRange xs
+in-or-out g f = let h = g .range (f .here) in let k = f .far in omega arith
 
 -- 5
-pub below-or-not : {n : ℕ} {T : List Row} → NotBelow n T → Below n T → ⊥
-below-or-not f g = let h = g _ _ _ (f .here) in let k = f .past in omega arith
+pub below-or-not : {n : ℕ} {T : List Row} → Below n T → ¬ NotBelow n T
+below-or-not g f = let h = g _ _ _ (f .here) in let k = f .past in omega arith
 
 -- 6
-pub twice-or-apart : {T : List Row} → TwiceInRow T → Apart T → ⊥
-twice-or-apart f g = g _ _ _ (f .here) (f .same)
+pub twice-or-apart : {T : List Row} → Apart T → ¬ TwiceInRow T
+twice-or-apart g f = g _ _ _ (f .here) (f .same)
 
 -- 7
-pub twice-or-once : {A : Type 0} {l : List A} → Twice l → Distinct l → ⊥
-twice-or-once (again m) (more n d) = n m
-twice-or-once (later t) (more n d) = twice-or-once t d
+pub twice-or-once : {A : Type 0} {l : List A} → Distinct l → ¬ Twice l
+twice-or-once (more n d) (again m) = n m
+twice-or-once (more n d) (later t) = twice-or-once d t
 
 -- two places that hold the same
 pub same-twice : {A : Type 0} (d : A) (l : List A) (i j : ℕ) → i < j → j < length l → getD l i d ≡ getD l j d → Twice l
@@ -37,20 +37,20 @@ same-twice d (a ∷ l) zero (suc j) h k e = again {a = a} {l = l} (rw e (at-plac
 same-twice d (a ∷ l) (suc i) (suc j) h k e = later (same-twice d l i j (omega arith) (omega arith) e)
 
 -- 8
-pub one-or-both-ways : {T : List Row} → NoReverse T → BothWays T → ⊥
-one-or-both-ways f g = f .back (g _ _ (f .goes))
+pub one-or-both-ways : {T : List Row} → BothWays T → ¬ NoReverse T
+one-or-both-ways g f = f .back (g _ _ (f .goes))
 
 -- 9
-pub unused-or-all : {n : ℕ} {T : List Row} → Unused n T → AllUsed n T → ⊥
-unused-or-all f g = f .unused (g _ (f .below))
+pub unused-or-all : {n : ℕ} {T : List Row} → AllUsed n T → ¬ Unused n T
+unused-or-all g f = f .unused (g _ (f .below))
 
 -- 10
-pub many-or-one-ring : {T : List Row} → ManyRings T → OneRing T → ⊥
-many-or-one-ring f g = f .apart (g _ _ _ (f .one) (f .other))
+pub many-or-one-ring : {T : List Row} → OneRing T → ¬ ManyRings T
+many-or-one-ring g f = f .apart (g _ _ _ (f .one) (f .other))
 
 -- 11
-pub parted-or-connected : {T : List Row} → Parted T → Connected T → ⊥
-parted-or-connected f g = f .apart (g _ _ (f .one) (f .other))
+pub parted-or-connected : {T : List Row} → Connected T → ¬ Parted T
+parted-or-connected g f = f .apart (g _ _ (f .one) (f .other))
 
 -- the opposites of 2, 5 to 8, 10 and 11 are a stage
 pub stage-of : {n : ℕ} {T : List Row} → RowsFit (length T) → CornersFit n → Closed n T → OneRing T → Connected T → Stage n T

@@ -1,56 +1,59 @@
 -- 01's table of refusals for what a check is given, line by line, and what passing gives. 3 is the caller's: it stands between 2 and 4.
 use mathlib.Core.Path.{_≡_}
 use mathlib.Core.Bool.{Bool, true, false}
-use mathlib.Core.List.{List, [], _∷_}
+use mathlib.Core.List.{List, [], _∷_, _++_}
 use Prim.Native.Nat.{ℕ}
 use lib.IntN.{ℤ}
 use Rattle.surface.specs.Rows.{Row, rows}
 use Rattle.surface.specs.Stage.{Stage, InRange, Skin}
 use Rattle.refusal.specs.declared.Verdict.{Verdict}
 use Rattle.refusal.specs.declared.Verdict.the-variants.{Passes}
+use Rattle.refusal.specs.declared.Refusal.{Refusal}
 use Rattle.refusal.specs.declared.Refusal.the-variants.{CountsOutside, CoordinateOutOfRange, NumberNotBelow, NumberTwice, EdgeTwice, ReverseMissing, CornerUnused, RingsMany, NotConnected}
-use Rattle.refusal.specs.First.{Clause, _when_, First}
+use Rattle.refusal.specs.First.{Clause, _when_, First, Refusals}
 use Rattle.faults.specs.Counts.{CountsFit, CountsFitAt, corners}
 use Rattle.faults.specs.Words.{OutOfRange, NotBelow, TwiceInRow, EdgeRepeats, NoReverse, Unused, AllUsed, ManyRings, Parted}
 
 -- a line that is asked of first tables only
-abbrev pub only : Bool → Clause → List Clause → List Clause
-only true c l = c ∷ l
-only false c l = l
+abbrev pub only : Bool → Clause Refusal → Refusals
+only true c = c ∷ []
+only false c = []
+
+-- 10 and 11, of rows
+abbrev pub ring-refusals : List Row → Refusals
+ring-refusals T = (RingsMany when ManyRings T) ∷ (NotConnected when Parted T) ∷ []
 
 -- 5 to 11, of rows over n corners; first: whether they are a first table, which has to use every corner
-unfoldable pub row-lines : Bool → ℕ → List Row → List Clause
-row-lines first n T =
+unfoldable pub row-refusals : Bool → ℕ → List Row → Refusals
+row-refusals first n T =
     (NumberNotBelow when NotBelow n T)
     ∷ (NumberTwice when TwiceInRow T)
     ∷ (EdgeTwice when EdgeRepeats T)
     ∷ (ReverseMissing when NoReverse T)
     ∷ only first (CornerUnused when Unused n T)
-    ((RingsMany when ManyRings T)
-    ∷ (NotConnected when Parted T)
-    ∷ [])
+    ++ ring-refusals T
 
 -- 4 to 11, of a table with its coordinates
-unfoldable pub lines-after-counts : Bool → List ℤ → List ℕ → List Clause
-lines-after-counts first xs t = (CoordinateOutOfRange when OutOfRange xs) ∷ row-lines first (corners xs) (rows t)
+unfoldable pub refusals-after-counts : Bool → List ℤ → List ℕ → Refusals
+refusals-after-counts first xs t = (CoordinateOutOfRange when OutOfRange xs) ∷ row-refusals first (corners xs) (rows t)
 
 -- 2 and 4 to 11, of a table with its coordinates
-unfoldable pub lines-at : Bool → List ℤ → List ℕ → List Clause
-lines-at first xs t = (CountsOutside when (¬ CountsFitAt xs t)) ∷ lines-after-counts first xs t
+unfoldable pub refusals-at : Bool → List ℤ → List ℕ → Refusals
+refusals-at first xs t = (CountsOutside when (¬ CountsFitAt xs t)) ∷ refusals-after-counts first xs t
 
 -- 2 and 5 to 11, of a stage's table with a told corner count
-unfoldable pub lines : ℕ → List ℕ → List Clause
-lines n t = (CountsOutside when (¬ CountsFit n t)) ∷ row-lines false n (rows t)
+unfoldable pub stage-refusals : ℕ → List ℕ → Refusals
+stage-refusals n t = (CountsOutside when (¬ CountsFit n t)) ∷ row-refusals false n (rows t)
 
 -- the verdict on rows over n corners: the first that holds, and where none does, a stage, that uses every corner if it is a first table
 pub record CheckedRows (first : Bool) (n : ℕ) (T : List Row) (v : Verdict) : Type 0 where
-  pub holds : First (row-lines first n T) v
+  pub holds : First (row-refusals first n T) v
   pub stage : v ≡ Passes → Stage n T
   pub used : v ≡ Passes → first ≡ true → AllUsed n T
 
 -- the same of a table with its coordinates
 pub record CheckedAt (first : Bool) (xs : List ℤ) (t : List ℕ) (v : Verdict) : Type 0 where
-  pub holds : First (lines-at first xs t) v
+  pub holds : First (refusals-at first xs t) v
   pub fits : v ≡ Passes → CountsFitAt xs t
   pub stage : v ≡ Passes → Stage (corners xs) (rows t)
   pub in-range : v ≡ Passes → InRange xs
@@ -58,19 +61,19 @@ pub record CheckedAt (first : Bool) (xs : List ℤ) (t : List ℕ) (v : Verdict)
 
 -- the verdict on a first table with its coordinates: the first that holds, and where none does, a skin
 pub record CheckedFirst (xs : List ℤ) (t : List ℕ) (v : Verdict) : Type 0 where
-  pub holds : First (lines-at true xs t) v
+  pub holds : First (refusals-at true xs t) v
   pub fits : v ≡ Passes → CountsFitAt xs t
   pub skin : v ≡ Passes → Skin (corners xs) (rows t) xs
 
 -- the verdict on a stage's table with its coordinates: the first that holds, and where none does, a stage, with coordinates in range
 pub record CheckedStageAt (xs : List ℤ) (t : List ℕ) (v : Verdict) : Type 0 where
-  pub holds : First (lines-at false xs t) v
+  pub holds : First (refusals-at false xs t) v
   pub fits : v ≡ Passes → CountsFitAt xs t
   pub stage : v ≡ Passes → Stage (corners xs) (rows t)
   pub in-range : v ≡ Passes → InRange xs
 
 -- the verdict on a stage's table of a told corner count: the first that holds, and where none does, a stage
 pub record CheckedStage (n : ℕ) (t : List ℕ) (v : Verdict) : Type 0 where
-  pub holds : First (lines n t) v
+  pub holds : First (stage-refusals n t) v
   pub fits : v ≡ Passes → CountsFit n t
   pub stage : v ≡ Passes → Stage n (rows t)

@@ -10,7 +10,7 @@ use lib.Signed.{leZ, quotZ, remZ}
 use mir.Syntax.{w64}
 use mir.Val.{SFits, toZ, ofZ}
 use Rattle.ints.proofs.Machine.{Is, any, lit, fits, kept, over, rest, plus, less}
-use Rattle.figure.specs.Rounding.{divisor, half, rounded, figure}
+use Rattle.figure.specs.Rounding.{divisor, half, to-nearest, figure}
 
 -- ---- as the machine has them, by any divisor above 1: the quotient, one more, one less, the remainder
 
@@ -67,14 +67,14 @@ down-from : (k : ℕ) → half ≤ suc k → (s : ℤ) → leZ (remZ s (pos divi
 unfolding figure
 down-from k b (pos n) t = true-false (sym t)
 down-from k b (negsuc n) t =
-    let q : suc n / divisor + 1 ≡ rounded (suc n) = omega (arith, low k (suc n % divisor) t) in
+    let q : suc n / divisor + 1 ≡ to-nearest (suc n) = omega (arith, low k (suc n % divisor) t) in
     sym (negℤ-+ℤ (pos (suc n / divisor)) (pos 1)) ∙ ap (λ (m : ℕ). negℤ (pos m)) q
 
 stay-below : (h k : ℕ) → h ≤ half → suc k ≤ half → (s : ℤ) → leZ (pos h) (remZ s (pos divisor)) ≡ false → leZ (remZ s (pos divisor)) (negsuc k) ≡ false → quotZ s (pos divisor) ≡ figure s
 unfolding figure
 stay-below h k a b (pos n) t u = ap pos (omega (arith, leb-false h (n % divisor) t))
 stay-below h k a b (negsuc n) t u =
-    let q : suc n / divisor ≡ rounded (suc n) = omega (arith, not-low k (suc n % divisor) u) in
+    let q : suc n / divisor ≡ to-nearest (suc n) = omega (arith, not-low k (suc n % divisor) u) in
     ap (λ (m : ℕ). negℤ (pos m)) q
 
 -- r is the remainder as the machine has it

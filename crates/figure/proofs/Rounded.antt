@@ -5,8 +5,8 @@ use Prim.Native.Nat.{ℕ, zero, suc, _+_, _-_, _*_, _/_, _%_, _≤_, _<_}
 use native.Mathlib.Decide.{ℕ-discrete}
 use native.Mathlib.Omega.{arith}
 use lib.IntN.{ℤ, pos, negsuc, negℤ, _-ℤ_, _*ℤ_, natAbs, negℤ-negℤ}
-use Rattle.ints.proofs.Ints.{abs-neg, abs-diff, abs-across, times-neg, minus-neg, minus-back, minus-self}
-use Rattle.figure.specs.Rounding.{divisor, half, rounded, figure, change, Nearest, WithinHalf}
+use Rattle.ints.proofs.Ints.{abs-neg, abs-diff, abs-across, times-neg, minus-neg}
+use Rattle.figure.specs.Rounding.{divisor, half, to-nearest, figure, change, Nearest, WithinHalf}
 
 -- ---- the sign
 
@@ -14,7 +14,7 @@ pub figure-neg : (s : ℤ) → figure (negℤ s) ≡ negℤ (figure s)
 unfolding figure
 figure-neg (pos zero) = refl
 figure-neg (pos (suc n)) = refl
-figure-neg (negsuc n) = sym (negℤ-negℤ (pos (rounded (suc n))))
+figure-neg (negsuc n) = sym (negℤ-negℤ (pos (to-nearest (suc n))))
 
 off-neg : (s f : ℤ) → natAbs (pos divisor *ℤ negℤ f -ℤ negℤ s) ≡ natAbs (pos divisor *ℤ f -ℤ s)
 off-neg s f = ap (λ (z : ℤ). natAbs (z -ℤ negℤ s)) (times-neg (pos divisor) f) ∙ ap natAbs (minus-neg (pos divisor *ℤ f) s) ∙ abs-neg (pos divisor *ℤ f -ℤ s)
@@ -26,8 +26,8 @@ nearest-neg {s} {f} h =
 
 -- ---- the figure is the nearest
 
-above-nearest : (n : ℕ) → Nearest (pos n) (pos (rounded n))
-above-nearest n = let d = abs-diff (divisor * rounded n) n in record { near = omega arith; away = λ e. omega arith }
+above-nearest : (n : ℕ) → Nearest (pos n) (pos (to-nearest n))
+above-nearest n = let d = abs-diff (divisor * to-nearest n) n in record { near = omega arith; away = λ e. omega arith }
 
 pub figure-nearest : (s : ℤ) → Nearest s (figure s)
 unfolding figure
@@ -44,17 +44,17 @@ unfolding figure
 figure-half n e = let up : figure (pos n) ≡ pos (n / divisor + 1) = ap pos (omega arith) in (up, figure-neg (pos n) ∙ ap negℤ up)
 
 -- how large a figure can be
-pub figure-size : (s : ℤ) (B : ℕ) → natAbs s ≤ B → natAbs (figure s) ≤ rounded B
+pub figure-size : (s : ℤ) (B : ℕ) → natAbs s ≤ B → natAbs (figure s) ≤ to-nearest B
 unfolding figure
 figure-size (pos n) B h = omega arith
-figure-size (negsuc n) B h = omega (arith, abs-neg (pos (rounded (suc n))))
+figure-size (negsuc n) B h = omega (arith, abs-neg (pos (to-nearest (suc n))))
 
 -- ---- and the only one
 
-size-one : (n q : ℕ) → 2 * ((divisor * q - n) + (n - divisor * q)) ≤ divisor → (2 * ((divisor * q - n) + (n - divisor * q)) ≡ divisor → n < divisor * q) → q ≡ rounded n
+size-one : (n q : ℕ) → 2 * ((divisor * q - n) + (n - divisor * q)) ≤ divisor → (2 * ((divisor * q - n) + (n - divisor * q)) ≡ divisor → n < divisor * q) → q ≡ to-nearest n
 size-one n q near away = go (ℕ-discrete (2 * ((divisor * q - n) + (n - divisor * q))) divisor)
   where
-    go : Dec (2 * ((divisor * q - n) + (n - divisor * q)) ≡ divisor) → q ≡ rounded n
+    go : Dec (2 * ((divisor * q - n) + (n - divisor * q)) ≡ divisor) → q ≡ to-nearest n
     go (yes e) = omega (arith, away e)
     go (no ne) = omega (arith, ne)
 
@@ -75,10 +75,3 @@ nearest-one (negsuc n) f h =
 -- the change is within half of the exact one
 pub change-near : (earlier later : ℤ) → WithinHalf (later -ℤ earlier) (change earlier later)
 change-near earlier later = figure-near (later -ℤ earlier)
-
-pub change-none : (s : ℤ) → change s s ≡ pos 0
-unfolding figure
-change-none s = ap figure (minus-self s)
-
-pub change-back : (earlier later : ℤ) → change later earlier ≡ negℤ (change earlier later)
-change-back earlier later = ap figure (sym (minus-back later earlier)) ∙ figure-neg (later -ℤ earlier)

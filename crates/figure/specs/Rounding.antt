@@ -11,14 +11,14 @@ abbrev pub half : ℕ
 half = divisor / 2
 
 -- a size over the divisor, to the nearest whole, a half going up
-abbrev pub rounded : ℕ → ℕ
-rounded n = (n + half) / divisor
+abbrev pub to-nearest : ℕ → ℕ
+to-nearest n = (n + half) / divisor
 
 -- the figure in cubic metres is the sum over 6,000,000, to the nearest whole, a half going away from zero: the sum's size is rounded, and
 -- its sign put back
 unfoldable pub figure : ℤ → ℤ
-figure (pos n) = pos (rounded n)
-figure (negsuc n) = negℤ (pos (rounded (suc n)))
+figure (pos n) = pos (to-nearest n)
+figure (negsuc n) = negℤ (pos (to-nearest (suc n)))
 
 -- a change is the later exact sum less the earlier, rounded once the same way
 abbrev pub change : ℤ → ℤ → ℤ

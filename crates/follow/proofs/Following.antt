@@ -1,11 +1,11 @@
 -- A call that follows a list has one outcome; what its answer tells; and what it leaves, done or stopped.
 use mathlib.Core.Path.{_≡_, refl, sym, _∙_, ap}
 use mathlib.Core.Logic.{_⊎_, inl, inr}
-use mathlib.Core.List.{List, [], _∷_, _++_, head-eq-of-cons-eq, tail-eq-of-cons-eq}
+use mathlib.Core.List.{List, [], _∷_, _++_, append-nil, head-eq-of-cons-eq, tail-eq-of-cons-eq}
 use Prim.Native.Nat.{ℕ}
 use lib.ListN.{length}
 use Rattle.follow.specs.Leads.{Leads}
-use Rattle.follow.specs.Follow.{Answers, Call, Followed, all, some, Outcome, refused, followed}
+use Rattle.follow.specs.Follow.{Answering, Call, Followed, all, some, Outcome, refused, followed}
 use Rattle.follow.proofs.Leading.{leads-one, leads-there}
 
 -- two ways to part a list at an item: the same, or one further on than the other
@@ -34,7 +34,7 @@ pub record Plain {S I R Q A B : Type 0} (c : Call S I R Q A B) : Type 0 where
   pub reason : {s : S} {i : I} {r q : R} → c .Fails s i r → c .Fails s i q → r ≡ q
 
 -- what tells answers apart
-pub record Apart {R Q A : Type 0} (w : Answers R Q A) : Type 0 where
+pub record Apart {R Q A : Type 0} (w : Answering R Q A) : Type 0 where
   pub refused-finished : {e : Q} {k : ℕ} → w .refused e ≡ w .finished k → ⊥
   pub refused-stopped : {e : Q} {r : R} {k : ℕ} → w .refused e ≡ w .stopped r k → ⊥
   pub finished-stopped : {r : R} {j k : ℕ} → w .finished j ≡ w .stopped r k → ⊥
@@ -42,7 +42,7 @@ pub record Apart {R Q A : Type 0} (w : Answers R Q A) : Type 0 where
   pub stopped-one : {r q : R} {j k : ℕ} → w .stopped r j ≡ w .stopped q k → j ≡ k
 
 -- so many items were done: all, or those before one that fails
-pub data Did {R Q A : Type 0} (w : Answers R Q A) (k : ℕ) (a : A) : Type 0 where
+pub data Did {R Q A : Type 0} (w : Answering R Q A) (k : ℕ) (a : A) : Type 0 where
   all-done : a ≡ w .finished k → Did w k a
   some-done : {r : R} → a ≡ w .stopped r k → Did w k a
 
@@ -78,13 +78,20 @@ module _ {S I R Q A B : Type 0} (c : Call S I R Q A B) where
     pub outcome-whole : {a : A} {b : B} {t : S} → c .Passes → Leads (c .Does) (c .start) (c .items) t → Outcome c a b → (a ≡ c .answers .finished (length (c .items))) × (b ≡ c .left t)
     outcome-whole h w o = outcome-one o (followed h (all w refl) refl)
 
-  -- what the answer tells: the refusal; else all items, or those before one that fails
+  -- what the answer tells: the refusal; else all items, or those that lead to one that fails
   pub outcome-told : {a : A} {b : B} → Outcome c a b →
       ((e : Q) × c .Refuses e × (a ≡ c .answers .refused e))
-      ⊎ (c .Passes × ((a ≡ c .answers .finished (length (c .items))) ⊎ ((done : List I) × (i : I) × (rest : List I) × (r : R) × (c .items ≡ done ++ i ∷ rest) × (a ≡ c .answers .stopped r (length done)))))
+      ⊎ (c .Passes × ((a ≡ c .answers .finished (length (c .items))) ⊎ ((done : List I) × (i : I) × (rest : List I) × (r : R) × (c .items ≡ done ++ i ∷ rest) × (a ≡ c .answers .stopped r (length done))
+      × ((t : S) × Leads (c .Does) (c .start) done t × c .Fails t i r))))
   outcome-told (refused {e = e} h ea eb) = inl (e, h, ea)
   outcome-told (followed h (all w e) eb) = inr (h, inl e)
-  outcome-told (followed h (some done i rest {r = r} q w g e) eb) = inr (h, inr (done, i, rest, r, q, e))
+  outcome-told (followed {t = t} h (some done i rest {r = r} q w g e) eb) = inr (h, inr (done, i, rest, r, q, e, (t, w, g)))
+
+  -- in short: refused, or so many items done
+  pub outcome-did : {a : A} {b : B} → Outcome c a b → ((e : Q) × c .Refuses e × (a ≡ c .answers .refused e)) ⊎ (c .Passes × (k : ℕ) × Did (c .answers) k a)
+  outcome-did (refused {e = e} h ea eb) = inl (e, h, ea)
+  outcome-did (followed h (all w e) eb) = inr (h, _, all-done e)
+  outcome-did (followed h (some done i rest q w g e) eb) = inr (h, _, some-done e)
 
   -- where no refusal is given it passes
   pub outcome-passes : {a : A} {b : B} → Outcome c a b → ((e : Q) → ¬ c .Refuses e) → c .Passes
@@ -103,11 +110,12 @@ module _ {S I R Q A B : Type 0} (c : Call S I R Q A B) where
     refused-same (followed h (all w e) eb) = absurd (x .refused-finished e)
     refused-same (followed h (some done i rest q w g e) eb) = absurd (x .refused-stopped e)
 
-    -- what is left, all done or stopped, is what as many items lead to
-    pub outcome-reached : {a : A} {b : B} {k : ℕ} → Did (c .answers) k a → Outcome c a b → c .Passes × (t : S) × (done : List I) × Leads (c .Does) (c .start) done t × (length done ≡ k) × (b ≡ c .left t)
+    -- what is left, all done or stopped, is what as many of the first items lead to
+    pub outcome-reached : {a : A} {b : B} {k : ℕ} → Did (c .answers) k a → Outcome c a b →
+        c .Passes × (t : S) × (done : List I) × Leads (c .Does) (c .start) done t × (length done ≡ k) × (b ≡ c .left t) × ((rest : List I) × (c .items ≡ done ++ rest))
     outcome-reached (all-done d) (refused h ea eb) = absurd (x .refused-finished (sym ea ∙ d))
     outcome-reached (some-done d) (refused h ea eb) = absurd (x .refused-stopped (sym ea ∙ d))
-    outcome-reached (all-done d) (followed {t = t} h (all w e) eb) = (h, t, c .items, w, x .finished-one (sym e ∙ d), eb)
+    outcome-reached (all-done d) (followed {t = t} h (all w e) eb) = (h, t, c .items, w, x .finished-one (sym e ∙ d), eb, ([], sym (append-nil (c .items))))
     outcome-reached (some-done d) (followed h (all w e) eb) = absurd (x .finished-stopped (sym e ∙ d))
     outcome-reached (all-done d) (followed h (some done i rest q w g e) eb) = absurd (x .finished-stopped (sym d ∙ e))
-    outcome-reached (some-done d) (followed {t = t} h (some done i rest q w g e) eb) = (h, t, done, w, x .stopped-one (sym e ∙ d), eb)
+    outcome-reached (some-done d) (followed {t = t} h (some done i rest q w g e) eb) = (h, t, done, w, x .stopped-one (sym e ∙ d), eb, (i ∷ rest, q))

@@ -7,7 +7,7 @@ use lib.ListN.{length}
 use Rattle.follow.specs.Leads.{Leads}
 
 -- how such a call is answered: refused; all items done; so many done, and the next one fails for a reason
-pub record Answers (R Q A : Type 0) : Type 0 where
+pub record Answering (R Q A : Type 0) : Type 0 where
   pub refused : Q → A
   pub finished : ℕ → A
   pub stopped : R → ℕ → A
@@ -23,7 +23,7 @@ pub record Call (S I R Q A B : Type 0) : Type 1 where
   -- the step of an item leads from a state to a state; or the item fails there, for a reason
   pub Does : S → I → S → Type 0
   pub Fails : S → I → R → Type 0
-  pub answers : Answers R Q A
+  pub answers : Answering R Q A
   -- what was lent, and what a state leaves there
   pub lent : B
   pub left : S → B

@@ -20,9 +20,8 @@ use Rattle.surface.proofs.Following.{re, follows-same}
 use Rattle.surface.proofs.Flat.{rows-at, rows-length}
 use Rattle.surface.proofs.Walked.{fan, fan-step}
 use Rattle.slots.specs.Slot.{next-slot}
-use Rattle.slots.proofs.Slots.{next-0, next-1, next-2, next-inside, at-follows, one-slot}
-use Rattle.accept.specs.Noted.{Noted, Near}
-use Rattle.slots.proofs.Slots.{under-more}
+use Rattle.slots.proofs.Slots.{next-0, next-1, next-2, next-inside, at-follows, one-slot, under-more}
+use Rattle.accept.specs.Noted.{Noted, IsNoted}
 use Rattle.slots.proofs.Staged.{table-whole, table-under}
 use Rattle.accept.proofs.Notes.{edge-near}
 use Rattle.grow.specs.Walk.{Walkable, Renamed}
@@ -93,7 +92,7 @@ module _ (t₀ at : List ℕ) (a b x y : ℕ) (w : Walkable t₀ at a x y) where
   walk-start = record { same = refl; here = w .at-y; on = stay refl; slots = λ e h. to-come (λ q k. k .on) refl }
 
   module _ (t : List ℕ) (p : ℕ) (k : Walking t₀ a b x y t p) where
-    pub noted : Near at p
+    pub noted : IsNoted at p
     noted = edge-near t₀ (table-whole (w .table)) a at (under-more (table-under (w .table)) (w .fits)) (w .round) (k .here)
 
     -- where p is noted

@@ -10,7 +10,7 @@ use lib.IntN.{ℤ}
 use Rattle.surface.specs.Stage.{InRange}
 use Rattle.length.specs.Limit.{most-limit}
 use Rattle.figure.specs.Corners.{Has, squared-distance}
-use Rattle.faults.specs.Tells.{Tells}
+use Rattle.refusal.specs.Tells.{Tells}
 use Rattle.least.specs.declared.Bound.{Bound}
 use Rattle.least.specs.declared.Bound.the-variants.{Free, Within}
 use Rattle.least.specs.Limited.{Allowed, Measurable, MeasurableAt}

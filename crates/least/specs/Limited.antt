@@ -16,7 +16,7 @@ Allowed Free xs a b = Unit
 Allowed (Within l) xs a b = Short xs l a b
 
 -- a usable limit, and coordinates in range, three for each of n corners
-pub record Measured (l n : ℕ) (xs : List ℤ) : Type 0 where
+pub record WithinReach (l n : ℕ) (xs : List ℤ) : Type 0 where
   pub usable : l ≤ most-limit
   pub corners : length xs ≡ 3 * n
   pub in-range : InRange xs
@@ -24,7 +24,7 @@ pub record Measured (l n : ℕ) (xs : List ℤ) : Type 0 where
 -- what the limit asks: nothing where there is none
 abbrev pub Measurable : Bound → ℕ → List ℤ → Type 0
 Measurable Free n xs = Unit
-Measurable (Within l) n xs = Measured l n xs
+Measurable (Within l) n xs = WithinReach l n xs
 
 -- the same of one corner
 abbrev pub MeasurableAt : Bound → List ℤ → ℕ → Type 0

@@ -6,7 +6,7 @@ ghost use Rattle.surface.specs.Limits.{most-corners};
 ghost use Rattle.surface.specs.Lists.{_∈_};
 ghost use Rattle.surface.specs.Rows.{rows};
 ghost use Rattle.run.specs.Run.{Qualifies};
-ghost use Rattle.faults.specs.Tells.{Tells};
+ghost use Rattle.refusal.specs.Tells.{Tells};
 ghost use Rattle.link.specs.Around.{Neighbours, Marked, Unmarked};
 ghost use Rattle.least.specs.Limited.{Allowed, MeasurableAt};
 ghost use Rattle.least.specs.Search.{Searchable, SearchableAt, Above, Better, NextAbove, NextMarked, FoundAt, FoundLeast};

@@ -13,7 +13,7 @@ use Rattle.refusal.specs.declared.Refusal.the-variants.{LimitUnusable}
 use Rattle.length.specs.declared.Length.{Length}
 use Rattle.length.specs.declared.Reading.{Reading}
 use Rattle.length.specs.declared.Reading.the-variants.{Whole, Unusable}
-use Rattle.length.specs.Limit.{Typed, typed, rounded, most-limit, capped, reading, limit-of, Unfit, no-number, infinite, below-zero, above}
+use Rattle.length.specs.Limit.{Typed, typed, rounded-down, most-limit, capped, reading, limit-of, Unfit, no-number, infinite, below-zero, above}
 use Rattle.length.specs.Answer.{told}
 use Rattle.length.proofs.Quotient.{capped-usable, capped-above}
 
@@ -49,10 +49,10 @@ module _ (num den : ℕ) where
   most (inf s) p = absurd (usable p)
   most (fin true zero e) {c} p = let z : 0 ≡ c = cc in omega arith
   most (fin true (suc m) e) p = absurd (usable p)
-  most (fin false m e) {c} p = go (cap (rounded m e num den))
+  most (fin false m e) {c} p = go (cap (rounded-down m e num den))
     where
-      go : Cap (rounded m e num den) → c ≤ most-limit
-      go (within h q) = let z : rounded m e num den ≡ c = cc in omega arith
+      go : Cap (rounded-down m e num den) → c ≤ most-limit
+      go (within h q) = let z : rounded-down m e num den ≡ c = cc in omega arith
       go (beyond h q) = absurd (usable (sym q ∙ p))
 
 unfit : (t : Typed) (v : Float) → t .figure ≡ v → reading v (t .num) (t .den) ≡ Unusable → Unfit t
@@ -61,9 +61,9 @@ unfit t nan f p = no-number f
 unfit t (inf s) f p = infinite f
 unfit t (fin true zero e) f p = absurd (usable (sym p))
 unfit t (fin true (suc m) e) f p = below-zero f (omega arith)
-unfit t (fin false m e) f p = go (cap (rounded m e (t .num) (t .den)))
+unfit t (fin false m e) f p = go (cap (rounded-down m e (t .num) (t .den)))
   where
-    go : Cap (rounded m e (t .num) (t .den)) → Unfit t
+    go : Cap (rounded-down m e (t .num) (t .den)) → Unfit t
     go (within h q) = absurd (usable (sym p ∙ q))
     go (beyond h q) = above f h
 

@@ -25,8 +25,8 @@ typed (Feet v) = record { figure = v; num = 3048; den = 100 }
 typed (Centimetres v) = record { figure = v; num = 1; den = 1 }
 
 -- the exact value m * 2 ^ e turned to centimetres and rounded down once: the whole part of a quotient of two whole numbers
-abbrev pub rounded : ℕ → ℤ → ℕ → ℕ → ℕ
-rounded m e num den = m * up e * num / (down e * den)
+abbrev pub rounded-down : ℕ → ℤ → ℕ → ℕ → ℕ
+rounded-down m e num den = m * up e * num / (down e * den)
 
 -- the most centimetres of a usable limit; the code's MOST_LIMIT
 abbrev pub most-limit : ℕ
@@ -45,7 +45,7 @@ reading (inf s) num den = Unusable
 -- minus zero is zero; else unusable when below zero
 reading (fin true zero e) num den = Whole 0
 reading (fin true (suc m) e) num den = Unusable
-reading (fin false m e) num den = capped (rounded m e num den)
+reading (fin false m e) num den = capped (rounded-down m e num den)
 
 -- the limit that a typed length says
 unfoldable pub limit-of : Length → Reading
@@ -57,4 +57,4 @@ pub data Unfit (t : Typed) : Type 0 where
   no-number : t .figure ≡ nan → Unfit t
   infinite : {s : Bool} → t .figure ≡ inf s → Unfit t
   below-zero : {m : ℕ} {e : ℤ} → t .figure ≡ fin true m e → 0 < m → Unfit t
-  above : {m : ℕ} {e : ℤ} → t .figure ≡ fin false m e → most-limit < rounded m e (t .num) (t .den) → Unfit t
+  above : {m : ℕ} {e : ℤ} → t .figure ≡ fin false m e → most-limit < rounded-down m e (t .num) (t .den) → Unfit t

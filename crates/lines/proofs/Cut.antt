@@ -9,7 +9,7 @@ use lib.Seq.{take-all, take-append-le, drop-append-le, length-take-le}
 use Rattle.text.specs.Decimal.{decimal, signed, Digit, NoDigit}
 use Rattle.text.specs.Reading.{SignedAt}
 use Rattle.text.proofs.Signs.{signed-unique}
-use Rattle.lines.specs.Lines.{tab, newline, fields, line, lines, Short}
+use Rattle.lines.specs.Lines.{tab, newline, fields, line, lines, FewDigits}
 
 tab-no-digit : ¬ Digit tab
 tab-no-digit d = let l = d .least in omega arith
@@ -19,15 +19,15 @@ newline-no-digit d = let l = d .least in omega arith
 
 -- ---- laws of Short and fields over ++
 
-pub short-append : (most : ℕ) (xs ys : List ℤ) → Short most xs → Short most ys → Short most (xs ++ ys)
+pub short-append : (most : ℕ) (xs ys : List ℤ) → FewDigits most xs → FewDigits most ys → FewDigits most (xs ++ ys)
 short-append most [] ys a b = b
 short-append most (x ∷ xs) ys a b = (a .0, short-append most xs ys (a .1) b)
 
-pub short-left : (most : ℕ) (xs ys : List ℤ) → Short most (xs ++ ys) → Short most xs
+pub short-left : (most : ℕ) (xs ys : List ℤ) → FewDigits most (xs ++ ys) → FewDigits most xs
 short-left most [] ys a = tt
 short-left most (x ∷ xs) ys a = (a .0, short-left most xs ys (a .1))
 
-pub short-right : (most : ℕ) (xs ys : List ℤ) → Short most (xs ++ ys) → Short most ys
+pub short-right : (most : ℕ) (xs ys : List ℤ) → FewDigits most (xs ++ ys) → FewDigits most ys
 short-right most [] ys a = a
 short-right most (x ∷ xs) ys a = short-right most xs ys (a .1)
 

@@ -17,7 +17,7 @@ use Rattle.text.specs.declared.Signed.the-variants as whole
 use Rattle.text.specs.declared.Passed.{Passed}
 use Rattle.text.specs.declared.Passed.the-variants.{To, Bad}
 use Rattle.text.proofs.Digits.{digits-below}
-use Rattle.lines.specs.Lines.{tab, newline, fields, line, lines, Short, FieldAt, FieldsAt, LineAt, LinesAt, ReadField, PutFrom, ReadInto}
+use Rattle.lines.specs.Lines.{tab, newline, fields, line, lines, FewDigits, FieldAt, FieldsAt, LineAt, LinesAt, ReadField, PutFrom, ReadInto}
 use Rattle.lines.proofs.Cut.{short-append, short-left, short-right, fields-append, after-field, newline-no-digit, cut, fields-unique, line-after, lines-more, cut-lines}
 
 -- ---- one field
@@ -91,7 +91,7 @@ module _ (most count : ℕ) (s : List ℕ) (at : ℕ) (room : List ℤ) (start :
         go [] zs e f c = omega (arith, ap length e, length-append {A = ℤ} zs [])
         go (t ∷ ts) zs e f c = none t (fields ts ++ r) (record {
           bytes = f ∙ ap (λ x. tab ∷ x) (append-assoc (signed t) (fields ts) r);
-          short = short-right most zs (t ∷ ts) (subst (Short most) e (b .short)) .0;
+          short = short-right most zs (t ∷ ts) (subst (FewDigits most) e (b .short)) .0;
           ends = after-field ts r (b .ends (omega arith));
         })
 
@@ -163,10 +163,10 @@ module _ (most width count : ℕ) (s : List ℕ) (at : ℕ) (w : List ℕ) (room
         let v = cut-lines w width i count (suc j) (p .zs) ys (drop k s) r e c n (sym (p .here .bytes) ∙ b .bytes) in
         let m : length ys ≡ length (p .zs) + length (v .ts) = ap length (v .text) ∙ length-append (p .zs) (v .ts) in
         let o : length ys ≡ (i + suc j) * width = n ∙ ap (λ (x : ℕ). x * width) e in
-        let short : Short most (v .ts) = short-right most (p .zs) (v .ts) (subst (Short most) (v .text) (b .short)) in
+        let short : FewDigits most (v .ts) = short-right most (p .zs) (v .ts) (subst (FewDigits most) (v .text) (b .short)) in
         none (take width (v .ts)) (lines w width j (drop width (v .ts)) ++ r) (length-take-le width (v .ts) (omega arith)) (record {
           bytes = v .after ∙ append-assoc (line w (take width (v .ts))) (lines w width j (drop width (v .ts))) r;
-          short = short-left most (take width (v .ts)) (drop width (v .ts)) (subst (Short most) (sym (take-append-drop width (v .ts))) short);
+          short = short-left most (take width (v .ts)) (drop width (v .ts)) (subst (FewDigits most) (sym (take-append-drop width (v .ts))) short);
         })
 
     pub lines-end : count ≤ i → PutFrom (LinesAt most w width count (drop at s)) (count * width) room 0 room′ (drop k s)

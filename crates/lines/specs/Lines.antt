@@ -32,9 +32,9 @@ lines w width zero zs = []
 lines w width (suc k) zs = line w (take width zs) ++ lines w width k (drop width zs)
 
 -- numbers of at most so many digits
-abbrev pub Short : ℕ → List ℤ → Type 0
-Short most [] = Unit
-Short most (z ∷ zs) = (length (decimal (natAbs z)) ≤ most) × Short most zs
+abbrev pub FewDigits : ℕ → List ℤ → Type 0
+FewDigits most [] = Unit
+FewDigits most (z ∷ zs) = (length (decimal (natAbs z)) ≤ most) × FewDigits most zs
 
 -- one field stands in front of l, and r, which begins with no digit, follows
 pub record FieldAt (most : ℕ) (l : List ℕ) (z : ℤ) (r : List ℕ) : Type 0 where
@@ -45,18 +45,18 @@ pub record FieldAt (most : ℕ) (l : List ℕ) (z : ℤ) (r : List ℕ) : Type 0
 -- fields stand in front of l, and r follows
 pub record FieldsAt (most : ℕ) (l : List ℕ) (zs : List ℤ) (r : List ℕ) : Type 0 where
   pub bytes : l ≡ fields zs ++ r
-  pub short : Short most zs
+  pub short : FewDigits most zs
   pub ends : 0 < length zs → NoDigit r
 
 -- a line of the word w stands in front of l, and r follows
 pub record LineAt (most : ℕ) (w : List ℕ) (l : List ℕ) (zs : List ℤ) (r : List ℕ) : Type 0 where
   pub bytes : l ≡ line w zs ++ r
-  pub short : Short most zs
+  pub short : FewDigits most zs
 
 -- k lines of the word w stand in front of l, and r follows
 pub record LinesAt (most : ℕ) (w : List ℕ) (width k : ℕ) (l : List ℕ) (zs : List ℤ) (r : List ℕ) : Type 0 where
   pub bytes : l ≡ lines w width k zs ++ r
-  pub short : Short most zs
+  pub short : FewDigits most zs
 
 -- one field read from a place, and the place after it; or none stands there
 unfoldable pub ReadField : ℕ → List ℕ → ℕ → Signed → Type 0

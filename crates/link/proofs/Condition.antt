@@ -14,7 +14,7 @@ use Rattle.surface.specs.Table.{Edge}
 use Rattle.surface.specs.Stage.{StageTable}
 use Rattle.surface.proofs.Main.{link-counts, counts-one}
 use Rattle.surface.specs.Link.{Meets, Common}
-use Rattle.faults.specs.Tells.{Tells}
+use Rattle.refusal.specs.Tells.{Tells}
 use Rattle.link.specs.Around.{Neighbours, Both}
 use Rattle.link.proofs.Tally.{exactly-same}
 

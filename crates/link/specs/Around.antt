@@ -12,7 +12,7 @@ use Rattle.surface.specs.Stage.{StageTable}
 use Rattle.surface.specs.Link.{Meets}
 use Rattle.slots.specs.Chain.{Chained}
 use Rattle.slots.specs.Marks.{Blank}
-use Rattle.faults.specs.Tells.{Tells}
+use Rattle.refusal.specs.Tells.{Tells}
 
 -- the flat table t is a stage, and last and prev are the chains of its slots
 pub record Charted (t last prev : List ℕ) : Type 0 where

@@ -6,7 +6,7 @@ ghost use Rattle.surface.specs.Limits.{most-corners};
 ghost use Rattle.surface.specs.Lists.{_∈_, Distinct, Exactly};
 ghost use Rattle.surface.specs.Rows.{rows};
 ghost use Rattle.surface.specs.Link.{Meets};
-ghost use Rattle.faults.specs.Tells.{Tells};
+ghost use Rattle.refusal.specs.Tells.{Tells};
 ghost use Rattle.link.specs.Chosen.{Chosen};
 ghost use Rattle.link.specs.Around.{Charted, Gathered, CornerNumbers, Marked, Unmarked, MarkedTwice, Both, TellsEdge};
 

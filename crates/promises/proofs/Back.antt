@@ -31,12 +31,13 @@ use Rattle.record.proofs.Front.{standing-front, zeroed-whole}
 use Rattle.regrow.specs.declared.Regrown.{Regrown}
 use Rattle.regrow.specs.declared.Regrown.the-variants.{Done}
 use Rattle.regrow.specs.Answer.{told}
-use Rattle.regrow.specs.Outcome.{GrowFits, need, GrownAs}
+use Rattle.regrow.specs.Outcome.{GrowFits, room-need, GrownAs}
 use Rattle.regrow.proofs.Main.{restores}
 use Rattle.replay.specs.Outcome.{ReplayFits, ReplayedAs}
 use Rattle.follow.proofs.Leading.{leads-one}
 use Rattle.surface.proofs.Main.{left}
 use Rattle.replay.proofs.Main.{replays-whole}
+use Rattle.promises.specs.Stages.{StageOf}
 use Rattle.promises.proofs.Logged.{front-log, rest-log}
 
 drop-zeros : (m n : ℕ) → drop m (replicate {A = ℕ} n 0) ≡ replicate (n - m) 0
@@ -80,7 +81,7 @@ module _ {d : Asked} {xs : List ℤ} {t l : List ℕ} {k : ℕ} {t′ l′ : Lis
       most = let a = records-many q in let b = replayed-rows there on in let c = there .most in omega arith;
     }
 
-    enough : need (length (w .last)) (log-of q) ≤ length t′
+    enough : room-need (length (w .last)) (log-of q) ≤ length t′
     enough =
         let a = records-many q in
         let b = replayed-rows there on in
@@ -109,7 +110,7 @@ module _ {d : Asked} {xs : List ℤ} {t l : List ℕ} {k : ℕ} {t′ l′ : Lis
         ∙ ap (λ z. replicate z 0) f)
 
     -- the log from record i on, i being how many p are, grown back in any room in which the last stage stands: the rows before record i
-    pub restored-in : {room : List ℕ} → standing (length (rows t) - 2 * k) room ≡ standing (length (rows t) - 2 * k) t′ → need (length (rows t) - 2 * k) (log-of q) ≤ length room →
+    pub restored-in : {room : List ℕ} → standing (length (rows t) - 2 * k) room ≡ standing (length (rows t) - 2 * k) t′ → room-need (length (rows t) - 2 * k) (log-of q) ≤ length room →
         {a : Regrown} {r : List ℕ} → GrownAs (corners xs) (length (rows t) - 2 * k) room (drop (width * length p) (take (width * k) l′)) a r →
         (told a ≡ answers.done (pos (length q) ∷ [])) × (r ≡ filled T₁ room)
     restored-in {room} same h g =
@@ -136,11 +137,12 @@ module _ {d : Asked} {xs : List ℤ} {t l : List ℕ} {k : ℕ} {t′ l′ : Lis
         }
 
 -- what thinning leaves in front is a stage
-pub thinned-leaves : (o : Order) {xs : List ℤ} {t l : List ℕ} {k : ℕ} {t′ l′ : List ℕ} → Thinned o xs t l (thinning.Done k) t′ l′ → Stage (corners xs) (standing (length (rows t) - 2 * k) t′)
+pub thinned-leaves : (o : Order) {xs : List ℤ} {t l : List ℕ} {k : ℕ} {t′ l′ : List ℕ} → Thinned o xs t l (thinning.Done k) t′ l′ → StageOf (corners xs) (length (rows t) - 2 * k) t′
 thinned-leaves o {t = t} {k = k} z =
     let w = thinned-run z in
     let m = rows-left w [] (w .log) refl (none-yet refl) in
-    rw (m, stands w [] (w .log) refl (none-yet refl)) (last-stage w)
+    let s = stands w [] (w .log) refl (none-yet refl) in
+    rw m (record { many = ap length s; stage = rw s (last-stage w) })
 
 -- growing back the whole log of any accepted thinning restores the first table, number for number
 pub restored : (o : Order) {xs : List ℤ} {t l : List ℕ} {k : ℕ} {t′ l′ : List ℕ} → Thinned o xs t l (thinning.Done k) t′ l′ → {a : Regrown} {r : List ℕ} →

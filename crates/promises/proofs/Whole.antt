@@ -35,7 +35,11 @@ nothing-left = record {
 }
 
 pub stages-left : StagesLeft
-stages-left = record { thin = λ o w. thinned-leaves o w; replay = λ w d. replay-leaves w d; grow-back = λ w d. grown-leaves w d }
+stages-left = record {
+  thin = λ o w. thinned-leaves o w;
+  replay = λ w d. let s = replay-leaves w d in record { many = s .0; stage = s .1 };
+  grow-back = λ w d. let s = grown-leaves w d in record { many = s .0; stage = s .1 };
+}
 
 pub demand-two : DemandTwo
 demand-two = record {

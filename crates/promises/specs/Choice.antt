@@ -46,6 +46,6 @@ pub record NothingLeft : Type 0 where
   -- the answer, the table and the corners
   pub read-sheet : (b troom : List ℕ) (croom : List ℤ) {a₁ a₂ : Sheet} {t₁ t₂ : List ℕ} {c₁ c₂ : List ℤ} → ReadSheet b troom t₁ croom c₁ a₁ → ReadSheet b troom t₂ croom c₂ a₂ →
       (a₁ ≡ a₂) × (t₁ ≡ t₂) × (c₁ ≡ c₂)
-  pub trial-number : (k : ℕ) (a b : Trial) → ring.Tells k a → ring.Tells k b → a ≡ b
+  pub trial-number : (k : ℕ) (a b : Trial) → ring.AnswerAt k a → ring.AnswerAt k b → a ≡ b
   -- the answer and the text
   pub reply : {b text : List ℕ} {a₁ a₂ : Answer} {text₁ text₂ : List ℕ} → Replied b text a₁ text₁ → Replied b text a₂ text₂ → (a₁ ≡ a₂) × (text₁ ≡ text₂)

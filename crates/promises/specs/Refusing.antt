@@ -12,10 +12,11 @@ use Rattle.surface.specs.Rows.{Row}
 use Rattle.refusal.specs.declared.Refusal.{Refusal}
 use Rattle.refusal.specs.declared.Verdict.the-variants.{Passes}
 use Rattle.refusal.specs.declared.Verdict.the-variants as verdict
-use Rattle.refusal.specs.First.{Clause, First}
+use Rattle.refusal.specs.First.{Refusals, First}
 use Rattle.refusal.specs.Told.{Told, refused-as, refused, stopped-as}
-use Rattle.verdicts.specs.Lesser.{either}
-use Rattle.faults.specs.Order.{lines-at}
+use Rattle.refusal.specs.Refuses.{Refuses}
+use Rattle.refusal.specs.Lesser.{either}
+use Rattle.faults.specs.Order.{refusals-at}
 use Rattle.length.specs.declared.Order.{Order}
 use Rattle.length.specs.declared.Length.{Length}
 use Rattle.length.specs.Answer as limits
@@ -23,19 +24,19 @@ use Rattle.length.specs.Limit.{Unfit, typed, limit-of}
 use Rattle.thin.specs.declared.Thinning.{Thinning}
 use Rattle.thin.specs.Answer as thinnings
 use Rattle.thin.specs.Order.{asked}
-use Rattle.thin.specs.Thin.{thin-lines, Thinned}
+use Rattle.thin.specs.Thin.{thin-refusals, Thinned}
 use Rattle.record.specs.Front.{filled, zeroed}
 use Rattle.regrow.specs.declared.Regrown.{Regrown}
 use Rattle.regrow.specs.declared.Regrown.the-variants.{Stopped}
 use Rattle.regrow.specs.Answer as regrowths
-use Rattle.regrow.specs.Outcome.{grow-lines, growing, GrownAs}
-use Rattle.replay.specs.Outcome.{replay-lines, replaying, ReplayedAs}
+use Rattle.regrow.specs.Outcome.{grow-refusals, growing, GrownAs}
+use Rattle.replay.specs.Outcome.{replay-refusals, replaying, ReplayedAs}
 use Rattle.volume.specs.declared.Measured.{Measured}
 use Rattle.volume.specs.Answer as volumes
 use Rattle.volume.specs.Report.{VolumeReport, ChangeReport}
 use Rattle.shift.specs.declared.Shifted.{Shifted}
 use Rattle.shift.specs.Answer as shifts
-use Rattle.shift.specs.Order.{shift-lines}
+use Rattle.shift.specs.Order.{shift-refusals}
 use Rattle.shift.specs.Report.{ShiftReport}
 use Rattle.sheet.specs.declared.Sheet.{Sheet}
 use Rattle.sheet.specs.Answer as sheets
@@ -45,31 +46,26 @@ use Rattle.reply.specs.declared.Answer.{Answer}
 use Rattle.reply.specs.Answer as replies
 use Rattle.reply.specs.Outcome.{Replied}
 
--- what is told is a refusal exactly when the list has it: the first that holds is the answer, and it is given only then
-pub record Refuses (l : List Clause) (v : Told) : Type 0 where
-  pub when : (r : Refusal) → First l (verdict.Refused r) → v ≡ refused r
-  pub only : (r : Refusal) → v ≡ refused r → First l (verdict.Refused r)
-
 -- 13 and a number of records are told exactly when no refusal of the list holds and the records stop after so many; the rows that these led to are left
-pub record Fails (l : List Clause) (Stops : ℕ → List Row → Type 0) (Left : List Row → Type 0) (v : Told) : Type 0 where
+pub record Fails (l : Refusals) (Stops : ℕ → List Row → Type 0) (Left : List Row → Type 0) (v : Told) : Type 0 where
   pub when : (k : ℕ) (T : List Row) → First l Passes → Stops k T → v ≡ stopped-as 13 k
   pub only : (k : ℕ) → v ≡ stopped-as 13 k → First l Passes × (T : List Row) × Stops k T × Left T
 
 pub record DemandOne : Type 0 where
-  pub thin : (o : Order) {xs : List ℤ} {t l : List ℕ} {a : Thinning} {t′ l′ : List ℕ} → Thinned o xs t l a t′ l′ → Refuses (thin-lines (asked o) xs t (length l)) (thinnings.told a)
+  pub thin : (o : Order) {xs : List ℤ} {t l : List ℕ} {a : Thinning} {t′ l′ : List ℕ} → Thinned o xs t l a t′ l′ → Refuses (thin-refusals (asked o) xs t (length l)) (thinnings.told a)
   pub thin-same : (o : Order) {xs : List ℤ} {t l : List ℕ} {a : Thinning} {t′ l′ : List ℕ} → Thinned o xs t l a t′ l′ → (r : Refusal) → thinnings.told a ≡ refused r → (t′ ≡ t) × (l′ ≡ l)
   -- 13 is told with the records done, and is no refusal of the list
-  pub grow-back : {n m : ℕ} {room log : List ℕ} {a : Regrown} {room′ : List ℕ} → GrownAs n m room log a room′ → Refuses (grow-lines n m room log) (regrowths.told a)
+  pub grow-back : {n m : ℕ} {room log : List ℕ} {a : Regrown} {room′ : List ℕ} → GrownAs n m room log a room′ → Refuses (grow-refusals n m room log) (regrowths.told a)
   pub grow-same : {n m : ℕ} {room log : List ℕ} {a : Regrown} {room′ : List ℕ} → GrownAs n m room log a room′ → (r : Refusal) → regrowths.told a ≡ refused r → room′ ≡ room
   pub grow-fails : {n m : ℕ} {room log : List ℕ} {a : Regrown} {room′ : List ℕ} → GrownAs n m room log a room′ →
-      Fails (grow-lines n m room log) (λ k T. Followed (growing n m room log) (Stopped k) T) (λ T. room′ ≡ filled T room) (regrowths.told a)
-  pub replay : {n : ℕ} {t log : List ℕ} {a : Regrown} {t′ : List ℕ} → ReplayedAs n t log a t′ → Refuses (replay-lines n t log) (regrowths.told a)
+      Fails (grow-refusals n m room log) (λ k T. Followed (growing n m room log) (Stopped k) T) (λ T. room′ ≡ filled T room) (regrowths.told a)
+  pub replay : {n : ℕ} {t log : List ℕ} {a : Regrown} {t′ : List ℕ} → ReplayedAs n t log a t′ → Refuses (replay-refusals n t log) (regrowths.told a)
   pub replay-same : {n : ℕ} {t log : List ℕ} {a : Regrown} {t′ : List ℕ} → ReplayedAs n t log a t′ → (r : Refusal) → regrowths.told a ≡ refused r → t′ ≡ t
   pub replay-fails : {n : ℕ} {t log : List ℕ} {a : Regrown} {t′ : List ℕ} → ReplayedAs n t log a t′ →
-      Fails (replay-lines n t log) (λ k T. Followed (replaying n t log) (Stopped k) T) (λ T. t′ ≡ zeroed T t) (regrowths.told a)
-  pub volume : {xs : List ℤ} {t : List ℕ} (a : Measured) → VolumeReport xs t (volumes.told a) → Refuses (lines-at false xs t) (volumes.told a)
-  pub change : {xs : List ℤ} {t s : List ℕ} (a : Measured) → ChangeReport xs t s (volumes.told a) → Refuses (either (lines-at false xs t) (lines-at false xs s)) (volumes.told a)
-  pub shift : {xs : List ℤ} {log : List ℕ} {v : ℕ} (a : Shifted) → ShiftReport xs log v (shifts.told a) → Refuses (shift-lines xs log v) (shifts.told a)
+      Fails (replay-refusals n t log) (λ k T. Followed (replaying n t log) (Stopped k) T) (λ T. t′ ≡ zeroed T t) (regrowths.told a)
+  pub volume : {xs : List ℤ} {t : List ℕ} (a : Measured) → VolumeReport xs t (volumes.told a) → Refuses (refusals-at false xs t) (volumes.told a)
+  pub change : {xs : List ℤ} {t s : List ℕ} (a : Measured) → ChangeReport xs t s (volumes.told a) → Refuses (either (refusals-at false xs t) (refusals-at false xs s)) (volumes.told a)
+  pub shift : {xs : List ℤ} {log : List ℕ} {v : ℕ} (a : Shifted) → ShiftReport xs log v (shifts.told a) → Refuses (shift-refusals xs log v) (shifts.told a)
   pub limit : (l : Length) → (Unfit (typed l) → limits.told (limit-of l) ≡ refused-as 1) × ((r : Refusal) → limits.told (limit-of l) ≡ refused r → Unfit (typed l))
   -- a sheet: for its form, or else for what it holds, and only for one of these
   pub sheet-form : {b troom troom′ : List ℕ} {croom croom′ : List ℤ} {a : Sheet} → ReadSheet b troom troom′ croom croom′ a → (r : Refusal) → First (form-refusals b) (verdict.Refused r) → sheets.told a ≡ refused r

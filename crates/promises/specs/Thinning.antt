@@ -26,7 +26,7 @@ use Rattle.thin.specs.declared.Thinning.{Thinning}
 use Rattle.thin.specs.declared.Thinning.the-variants.{Done}
 use Rattle.thin.specs.Answer as thinnings
 use Rattle.thin.specs.Order.{asked}
-use Rattle.thin.specs.Thin.{need, Thinned}
+use Rattle.thin.specs.Thin.{log-need, Thinned}
 use Rattle.thin.specs.Run.{RunOf, KeptAfter}
 use Rattle.regrow.specs.declared.Regrown.{Regrown}
 use Rattle.regrow.specs.Answer as regrowths
@@ -49,11 +49,11 @@ DoneWith o xs t l k t′ l′ = Thinned o xs t l (Done k) t′ l′
 
 pub record DemandTwo : Type 0 where
   -- with room and a usable limit or none, every skin within the limits is accepted
-  pub accepts : (o : Order) {xs : List ℤ} {t l : List ℕ} {a : Thinning} {t′ l′ : List ℕ} → ¬ (asked o ≡ NoUse) → length t % 3 ≡ 0 → Skin (corners xs) (rows t) xs → need xs ≤ length l →
+  pub accepts : (o : Order) {xs : List ℤ} {t l : List ℕ} {a : Thinning} {t′ l′ : List ℕ} → ¬ (asked o ≡ NoUse) → length t % 3 ≡ 0 → Skin (corners xs) (rows t) xs → log-need xs ≤ length l →
       Thinned o xs t l a t′ l′ → (k : ℕ) × (thinnings.told a ≡ answers.done (pos k ∷ []))
   -- each contraction is the least edge that meets the link condition and the limit, and it stops only when no edge is left: `Run`
   pub runs : (o : Order) {xs : List ℤ} {t l : List ℕ} {k : ℕ} {t′ l′ : List ℕ} → DoneWith o xs t l k t′ l′ → RunOf (asked o) xs t l k t′ l′
-  -- each leaves a closed oriented skin of the same Euler number, with two rows and one corner fewer
+  -- after each beginning p of its records a closed oriented stage stands, of the same Euler number, with two rows and one used corner fewer for each record
   pub keeps : (o : Order) {xs : List ℤ} {t l : List ℕ} {k : ℕ} {t′ l′ : List ℕ} → (w : RunOf (asked o) xs t l k t′ l′) (p q : List Record) → w .log ≡ p ++ q →
       (T₁ : List Row) × Taken (Allowed (w .b) xs) (rows t) p T₁ × KeptAfter (corners xs) (rows t) p T₁
   -- growing back the log restores the first table, number for number

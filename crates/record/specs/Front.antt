@@ -5,12 +5,12 @@ use lib.ListN.{length, take, drop, replicate}
 use Rattle.surface.specs.Rows.{Row, rows, flat}
 
 -- the numbers of the first m rows
-abbrev pub front : ℕ → List ℕ → List ℕ
-front m t = take (3 * m) t
+abbrev pub front-rows : ℕ → List ℕ → List ℕ
+front-rows m t = take (3 * m) t
 
 -- the m rows that stand in front
 abbrev pub standing : ℕ → List ℕ → List Row
-standing m t = rows (front m t)
+standing m t = rows (front-rows m t)
 
 -- the rows T in front, and all that lies past them as it was
 abbrev pub filled : List Row → List ℕ → List ℕ

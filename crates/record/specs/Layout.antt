@@ -6,7 +6,7 @@ use lib.ListN.{length, drop, getD}
 use Rattle.surface.specs.Rows.{Row, row}
 use Rattle.surface.specs.Record as surface
 use Rattle.record.specs.declared.Record.{Record}
-use Rattle.record.specs.declared.Edge.{Edge}
+use Rattle.record.specs.declared.Contracted.{Contracted}
 
 -- a record is ten numbers
 abbrev pub width : ℕ
@@ -47,7 +47,7 @@ record-at l i = record {
 }
 
 -- e has kept and removed of the record k
-pub record IsEdge (k : surface.Record) (e : Edge) : Type 0 where
+pub record IsContracted (k : surface.Record) (e : Contracted) : Type 0 where
   pub kept : e .kept .0 ≡ k .kept
   pub removed : e .removed .0 ≡ k .removed
 

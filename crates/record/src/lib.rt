@@ -4,7 +4,7 @@ ghost use mathlib.Core.List.{_∷_, []};
 ghost use Prim.Native.Nat.{_+_, _≤_};
 ghost use lib.ListN.{length};
 ghost use lib.Seq.{sets};
-ghost use Rattle.record.specs.Layout.{width, numbers, meant, record-at, IsEdge};
+ghost use Rattle.record.specs.Layout.{width, numbers, meant, record-at, IsContracted};
 
 // A corner number.
 pub struct Corner(pub u32);
@@ -29,7 +29,7 @@ pub struct Record {
 }
 
 // The edge that a step contracted.
-pub struct Edge {
+pub struct Contracted {
     pub kept: Corner,
     pub removed: Corner,
 }
@@ -63,13 +63,13 @@ pub fn read_record(log: &[u32], i: usize) -> Record
 }
 
 // Inner: reads kept and removed alone of the record whose numbers stand in the log from place i on.
-pub fn read_edge(log: &[u32], i: usize) -> Edge
+pub fn read_contracted(log: &[u32], i: usize) -> Contracted
     requires { ⌜ i + width ≤ length (now log) ⌝ }
-    ensures { λ e. ⌜ IsEdge (record-at (now (log .entry)) i) e ⌝ }
+    ensures { λ e. ⌜ IsContracted (record-at (now (log .entry)) i) e ⌝ }
 {
     let kept = Corner(log[i]);
     let removed = Corner(log[i + 1]);
-    Edge {
+    Contracted {
         kept: kept,
         removed: removed,
     }

@@ -8,13 +8,13 @@ use Rattle.surface.specs.Stage.{StageTable}
 use Rattle.run.proofs.Main.{step-one}
 use Rattle.record.specs.declared.Record.{Record}
 use Rattle.record.specs.Layout.{meant}
-use Rattle.record.specs.Front.{front, standing}
+use Rattle.record.specs.Front.{front-rows, standing}
 use Rattle.step.specs.Front.{SteppedFront}
 use Rattle.step.proofs.Front.{fallen-none, front-replays, fallen-on, fallen-left}
 use Rattle.redo.specs.Redo.{Accepts, Redid}
 
 module _ (m : ℕ) (t : List ℕ) (k : Record) where
-  pub redo-done : {n : ℕ} → StageTable n (front m t) → 3 * m ≤ length t → Accepts (standing m t) (meant k) → (e : Record) (t′ : List ℕ) → SteppedFront t m (k .kept .0) (k .removed .0) e t′ → length t′ ≡ length t → Redid m (meant k) t true t′
+  pub redo-done : {n : ℕ} → StageTable n (front-rows m t) → 3 * m ≤ length t → Accepts (standing m t) (meant k) → (e : Record) (t′ : List ℕ) → SteppedFront t m (k .kept .0) (k .removed .0) e t′ → length t′ ≡ length t → Redid m (meant k) t true t′
   unfolding Redid
   redo-done w h a e t′ s same =
       let g = fallen-none h w in

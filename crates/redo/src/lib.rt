@@ -8,9 +8,9 @@ ghost use lib.ListN.{length};
 ghost use Rattle.surface.specs.Rows.{rows};
 ghost use Rattle.surface.specs.Stage.{StageTable};
 ghost use Rattle.surface.specs.Link.{Meets};
-ghost use Rattle.faults.specs.Tells.{Tells};
+ghost use Rattle.refusal.specs.Tells.{Tells};
 ghost use Rattle.record.specs.Layout.{meant};
-ghost use Rattle.record.specs.Front.{front};
+ghost use Rattle.record.specs.Front.{front-rows};
 ghost use Rattle.redo.specs.Redo.{placed-as, Accepts, Redid};
 
 // Whether two rows with their places are the same.
@@ -78,7 +78,7 @@ fn accepts(t: &[u32], n: usize, r: Record) -> bool
 
 // Inner: does a record again on the first rows of a lent table where it is accepted, and tells whether it is.
 pub fn redo(table: &mut [u32], rows: usize, corners: usize, r: Record) -> bool
-    requires { ⌜ StageTable corners (front rows (now table)) ⌝ }
+    requires { ⌜ StageTable corners (front-rows rows (now table)) ⌝ }
     requires { ⌜ 3 * rows ≤ length (now table) ⌝ }
     ensures { λ b. ⌜ Redid rows (meant r) (now (table .entry)) b (now (table .exit)) ⌝ }
 {

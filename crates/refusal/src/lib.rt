@@ -1,6 +1,7 @@
-// The refusals: one case for each number that 01 lists, and the answer of a check.
+// The refusals: one case for each number that 01 lists, the answer of a check, and the lesser of two.
 ghost use mathlib.Core.Path.{_≡_};
 ghost use Rattle.refusal.specs.Number.{number};
+ghost use Rattle.refusal.specs.Lesser.{lesser-of};
 
 pub enum Refusal {
     LimitUnusable,
@@ -42,5 +43,18 @@ pub fn number_of(r: Refusal) -> u32
         Refusal::NotConnected => 11,
         Refusal::SheetForm => 12,
         Refusal::RecordFails => 13,
+    }
+}
+
+// Inner: the verdict with the lesser number, the answer where two tables are asked; passing has none.
+pub fn lesser(v: Verdict, w: Verdict) -> Verdict
+    ensures { λ r. ⌜ r ≡ lesser-of v w ⌝ }
+{
+    match v {
+        Verdict::Passes => w,
+        Verdict::Refused(a) => match w {
+            Verdict::Passes => v,
+            Verdict::Refused(b) => { if number_of(b) < number_of(a) { w } else { v } }
+        },
     }
 }

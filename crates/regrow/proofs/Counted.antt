@@ -10,7 +10,7 @@ use Rattle.follow.proofs.Following.{Apart}
 use Rattle.refusal.specs.declared.Refusal.{Refusal}
 use Rattle.refusal.specs.declared.Refusal.the-variants.{RecordFails}
 use Rattle.refusal.specs.Told.{Told, done, refused}
-use Rattle.answer.proofs.Laws.{refused-done}
+use Rattle.refusal.proofs.Outcome.{refused-done}
 use Rattle.regrow.specs.declared.Regrown.{Regrown}
 use Rattle.regrow.specs.declared.Regrown.the-variants.{Done, Stopped, Refused}
 use Rattle.regrow.specs.Answer.{told, fails-after, Did, all-done, some-done}

@@ -1,6 +1,5 @@
 -- The verdict on growing back, line by line, and what then stands in the room.
 use mathlib.Core.Path.{_≡_, refl}
-use mathlib.Core.Logic.{inl, inr}
 use mathlib.Core.List.{List}
 use Prim.Native.Nat.{ℕ, _*_, _≤_, _<_}
 use native.Mathlib.Omega.{arith}
@@ -12,40 +11,40 @@ use Rattle.refusal.specs.declared.Verdict.{Verdict}
 use Rattle.refusal.specs.declared.Verdict.the-variants.{Passes}
 use Rattle.refusal.specs.declared.Verdict.the-variants as verdict
 use Rattle.refusal.specs.First.{First}
-use Rattle.refusal.proofs.Laws.{refused-passes}
+use Rattle.refusal.proofs.Laws.{verdicts, rest-decides, given-first, refused-passes, none-yet, _nor_}
 use Rattle.faults.specs.Counts.{CountsFit}
 use Rattle.faults.specs.Order.{CheckedStage}
 use Rattle.faults.proofs.Order.{after-2}
 use Rattle.record.proofs.Front.{standing-length}
-use Rattle.regrow.specs.Outcome.{GrowFits, need, grow-lines}
-use Rattle.regrow.specs.Inner.{Judged, Ready}
+use Rattle.regrow.specs.Outcome.{GrowFits, room-need, grow-refusals}
+use Rattle.regrow.specs.Inner.{JudgedGrowing, CanGrow}
 
 module _ (n m : ℕ) (room log : List ℕ) where
-  no : {r : Refusal} → First (grow-lines n m room log) (verdict.Refused r) → Judged n m room log (verdict.Refused r)
+  no : {r : Refusal} → First (grow-refusals n m room log) (verdict.Refused r) → JudgedGrowing n m room log (verdict.Refused r)
   no f = record { holds = f; room-enough = λ e. refused-passes e; stage = λ e. refused-passes e }
 
-  pub judge-2 : (¬ GrowFits n m log) → Judged n m room log (verdict.Refused CountsOutside)
-  judge-2 e = no (unfold grow-lines First in inl (e, refl))
+  pub judge-2 : (¬ GrowFits n m log) → JudgedGrowing n m room log (verdict.Refused CountsOutside)
+  judge-2 e = no (unfold grow-refusals in given-first verdicts none-yet e)
 
   module _ (fits : GrowFits n m log) where
-    pub judge-3 : length room < need m log → Judged n m room log (verdict.Refused RoomShort)
-    judge-3 e = no (unfold grow-lines First in inr ((λ k. k fits), inl (e, refl)))
+    pub judge-3 : length room < room-need m log → JudgedGrowing n m room log (verdict.Refused RoomShort)
+    judge-3 e = no (unfold grow-refusals in given-first verdicts ((λ k. k fits) nor none-yet) e)
 
-    module _ (h : need m log ≤ length room) where
+    module _ (h : room-need m log ≤ length room) where
       three : length (take (3 * m) room) ≡ 3 * m
       three = length-take-le (3 * m) room (omega arith)
 
       pub counts-told : CountsFit n (take (3 * m) room)
       counts-told = record { table = record { threes = let e = three in omega arith; count = rw (standing-length m room (omega arith)) (fits .rows) }; count = fits .corners }
 
-      pub judge-on : {v : Verdict} → CheckedStage n (take (3 * m) room) v → Judged n m room log v
+      pub judge-on : {v : Verdict} → CheckedStage n (take (3 * m) room) v → JudgedGrowing n m room log v
       judge-on {v} c = record {
-        holds = unfold grow-lines First in inr ((λ k. k fits), inr ((λ k. omega arith), after-2 n (take (3 * m) room) v counts-told (c .holds)));
+        holds = unfold grow-refusals in rest-decides verdicts ((λ k. k fits) nor (λ k. omega arith) nor none-yet) v (after-2 n (take (3 * m) room) v counts-told (c .holds));
         room-enough = λ e. h;
         stage = c .stage;
       }
 
-  pub grow-ready : Judged n m room log Passes → Ready n m room log
+  pub grow-ready : JudgedGrowing n m room log Passes → CanGrow n m room log
   grow-ready j =
       let h = j .room-enough refl in
       let e = length-take-le (3 * m) room (omega arith) in

@@ -15,18 +15,17 @@ use Rattle.run.proofs.Main.{replayed-stage}
 use Rattle.refusal.specs.declared.Refusal.{Refusal}
 use Rattle.refusal.specs.declared.Verdict.the-variants.{Passes}
 use Rattle.refusal.specs.First.{First}
-use Rattle.refusal.proofs.Laws.{first-one, refused-one, refused-passes}
-use Rattle.verdicts.proofs.Laws.{first-before, passed}
+use Rattle.refusal.proofs.Laws.{verdicts, first-one, refused-one, refused-passes, rest-decides, passed, none-yet, _nor_}
 use Rattle.faults.specs.Counts.{CountsFit}
 use Rattle.faults.proofs.Order.{after-2, stage-passes}
 use Rattle.record.specs.Layout.{count, records}
-use Rattle.record.specs.Front.{front, standing, filled}
+use Rattle.record.specs.Front.{front-rows, standing, filled}
 use Rattle.record.proofs.Log.{first-length}
 use Rattle.record.proofs.Front.{standing-length, standing-filled}
 use Rattle.regrow.specs.declared.Regrown.{Regrown}
 use Rattle.regrow.specs.declared.Regrown.the-variants.{Done, Refused}
 use Rattle.regrow.specs.Answer.{told, Did}
-use Rattle.regrow.specs.Outcome.{GrowFits, need, grow-lines, growing, GrownAs}
+use Rattle.regrow.specs.Outcome.{GrowFits, room-need, grow-refusals, growing, GrownAs}
 use Rattle.regrow.proofs.Counted.{regrown-apart, did}
 use Rattle.regrow.proofs.Judging.{counts-told}
 use Rattle.regrow.proofs.Undoing.{grown-rows}
@@ -34,8 +33,8 @@ use Rattle.regrow.proofs.Undoing.{grown-rows}
 -- a record is accepted to one table, or to none
 pub growing-plain : (n m : ℕ) (room log : List ℕ) → Plain (growing n m room log)
 growing-plain n m room log = record {
-  refusal = λ f g. refused-one (first-one _ f g);
-  passing = λ f g. refused-passes (first-one _ f (g .0));
+  refusal = λ f g. refused-one (first-one verdicts _ f g);
+  passing = λ f g. refused-passes (first-one verdicts _ f (g .0));
   step = λ T T₁ T₂ k a b. surface.told a b;
   apart = λ f a. f .0 _ a;
   reason = λ f g. f .1 ∙ sym (g .1);
@@ -50,15 +49,15 @@ pub refused-same : {n m : ℕ} {room log : List ℕ} {r : Refusal} {room′ : Li
 refused-same {n} {m} {room} {log} w = following.refused-same (growing n m room log) regrown-apart (w .outcome)
 
 -- a stage within its counts and with room passes
-pub grow-passes : (n m : ℕ) (room log : List ℕ) → GrowFits n m log → need m log ≤ length room → Stage n (standing m room) → First (grow-lines n m room log) Passes
-grow-passes n m room log fits h s = unfold grow-lines in
-    first-before _ _ _ (λ k. k fits) (first-before _ _ _ (λ k. omega arith) (after-2 n (front m room) Passes c (stage-passes (front m room) (c .table .threes) n s)))
+pub grow-passes : (n m : ℕ) (room log : List ℕ) → GrowFits n m log → room-need m log ≤ length room → Stage n (standing m room) → First (grow-refusals n m room log) Passes
+grow-passes n m room log fits h s = unfold grow-refusals in
+    rest-decides verdicts ((λ k. k fits) nor none-yet) _ (rest-decides verdicts ((λ k. omega arith) nor none-yet) _ (after-2 n (front-rows m room) Passes c (stage-passes (front-rows m room) (c .table .threes) n s)))
   where
-    c : CountsFit n (front m room)
+    c : CountsFit n (front-rows m room)
     c = counts-told n m room log fits h
 
 -- the log of steps from T, grown back from where they led, is done whole and leaves T
-pub restores : {n m : ℕ} {room log : List ℕ} {a : Regrown} {room′ : List ℕ} {T : List Row} → GrowFits n m log → need m log ≤ length room → Stage n T → Replayed T (records log) (standing m room) →
+pub restores : {n m : ℕ} {room log : List ℕ} {a : Regrown} {room′ : List ℕ} {T : List Row} → GrowFits n m log → room-need m log ≤ length room → Stage n T → Replayed T (records log) (standing m room) →
     GrownAs n m room log a room′ → (a ≡ Done (count log)) × (room′ ≡ filled T room)
 restores {n} {m} {room} {log} fits h s r w =
     let z = replayed-stage s r in
@@ -69,14 +68,15 @@ not-less : {i j : ℕ} → ¬ (i < j) → j ≤ i
 not-less h = omega arith
 
 -- the rows told stand in the room
-rows-inside : (n m : ℕ) (room log : List ℕ) → First (grow-lines n m room log) Passes → 3 * m ≤ length room
-unfolding grow-lines
-rows-inside n m room log f = let h : need m log ≤ length room = not-less (passed _ _ (passed _ _ f .1) .0) in omega arith
+rows-inside : (n m : ℕ) (room log : List ℕ) → First (grow-refusals n m room log) Passes → 3 * m ≤ length room
+unfolding grow-refusals
+rows-inside n m room log f = let h : room-need m log ≤ length room = not-less (passed verdicts _ _ (passed verdicts _ _ f .1) .0) in omega arith
 
 -- what is left is a stage, whatever the log: so many rows as stood, and two more for each record done
-pub grown-leaves : {n m : ℕ} {room log : List ℕ} {a : Regrown} {room′ : List ℕ} → GrownAs n m room log a room′ → {k : ℕ} → Did k (told a) → Stage n (standing (m + 2 * k) room′)
+pub grown-leaves : {n m : ℕ} {room log : List ℕ} {a : Regrown} {room′ : List ℕ} → GrownAs n m room log a room′ → {k : ℕ} → Did k (told a) → (length (standing (m + 2 * k) room′) ≡ m + 2 * k) × Stage n (standing (m + 2 * k) room′)
 grown-leaves {n} {m} {room} {log} {a} w {k} d =
     let o = outcome-reached (growing n m room log) regrown-apart (did a d) (w .outcome) in
     let z = grown-rows n (o .3) in
     let h = standing-length m room (rows-inside n m room log (o .0 .0)) in
-    rw (ap (standing (m + 2 * k)) (o .5) ∙ standing-filled (m + 2 * k) (o .1) room (omega (arith, z, h, o .4))) (grown-back-stage n (o .0 .1) (o .3))
+    let l : length (o .1) ≡ m + 2 * k = omega (arith, z, h, o .4) in
+    rw (ap (standing (m + 2 * k)) (o .5) ∙ standing-filled (m + 2 * k) (o .1) room l) (l, grown-back-stage n (o .0 .1) (o .3))

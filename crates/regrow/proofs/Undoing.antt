@@ -16,14 +16,14 @@ use Rattle.surface.proofs.Flat.{rows-flat, flat-length}
 use Rattle.surface.proofs.Main.{two-fewer}
 use Rattle.surface.proofs.Recorded.{grown-back-stage}
 use Rattle.record.specs.Layout.{width, count, record-at, records}
-use Rattle.record.specs.Front.{front, standing, filled}
+use Rattle.record.specs.Front.{front-rows, standing, filled}
 use Rattle.record.proofs.Places.{records-length, records-back}
 use Rattle.refusal.specs.declared.Refusal.the-variants.{RecordFails}
 use Rattle.grow.specs.Room.{GrewBack}
 use Rattle.record.proofs.Front.{standing-length, standing-filled, filled-standing, filled-length, filled-again}
 use Rattle.regrow.specs.declared.Regrown.the-variants.{Done, Stopped}
 use Rattle.regrow.specs.Outcome.{growing}
-use Rattle.regrow.specs.Inner.{Ready, GrownIn}
+use Rattle.regrow.specs.Inner.{CanGrow, GrownIn}
 
 -- an accepted record makes two rows more
 two-more : {n : ℕ} {T′ T : List Row} {k : Record} → Accepted n T′ k T → length T ≡ 2 + length T′
@@ -40,7 +40,7 @@ pub record Undone (n m : ℕ) (room log : List ℕ) (done : ℕ) (room′ : List
   pub many : length table ≡ m + 2 * done
   pub left : room′ ≡ filled table room
 
-module _ (n m : ℕ) (room log : List ℕ) (g : Ready n m room log) where
+module _ (n m : ℕ) (room log : List ℕ) (g : CanGrow n m room log) where
   inside : 3 * m ≤ length room
   inside = let h = g .fits in omega arith
 
@@ -68,9 +68,9 @@ module _ (n m : ℕ) (room log : List ℕ) (g : Ready n m room log) where
     pub same : length room′ ≡ length room
     same = let u = w .upto .within in let h = g .fits in let k = w .many in let a = all-of in ap length (w .left) ∙ filled-length (w .table) room (omega arith)
 
-    pub table-stands : StageTable n (front (m + 2 * done) room′)
+    pub table-stands : StageTable n (front-rows (m + 2 * done) room′)
     table-stands =
-        let e = ap (front here) (w .left) ∙ take-at (flat (w .table)) (drop (3 * length (w .table)) room) (3 * here) (flat-length (w .table) ∙ ap (λ z. 3 * z) (w .many)) in
+        let e = ap (front-rows here) (w .left) ∙ take-at (flat (w .table)) (drop (3 * length (w .table)) room) (3 * here) (flat-length (w .table) ∙ ap (λ z. 3 * z) (w .many)) in
         rw e (record { count = flat-length (w .table) ∙ ap (λ (S : List Row). 3 * length S) (sym (rows-flat (w .table))); stage = rw (rows-flat (w .table)) stage })
 
     pub done-all : count log ≤ done → GrownIn n m room log (Done done) room′

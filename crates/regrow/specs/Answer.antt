@@ -20,7 +20,7 @@ told (Stopped k) = fails-after k
 -- the refusal's number
 told (Refused r) = answers.refused r
 
--- k records were done: all of them, 0 and k; or those before one that fails, 13 and k
+-- k records were done: 0 and k, or 13 and k
 pub data Did (k : ℕ) (v : answers.Told) : Type 0 where
   all-done : v ≡ answers.done (pos k ∷ []) → Did k v
   some-done : v ≡ fails-after k → Did k v

@@ -9,20 +9,20 @@ use Rattle.surface.specs.Stage.{Stage, StageTable}
 use Rattle.refusal.specs.declared.Verdict.{Verdict}
 use Rattle.refusal.specs.declared.Verdict.the-variants.{Passes}
 use Rattle.refusal.specs.First.{First}
-use Rattle.record.specs.Front.{front, standing, filled}
+use Rattle.record.specs.Front.{front-rows, standing, filled}
 use Rattle.regrow.specs.declared.Regrown.{Regrown}
-use Rattle.regrow.specs.Outcome.{need, grow-lines, growing}
+use Rattle.regrow.specs.Outcome.{room-need, grow-refusals, growing}
 
 -- the verdict on growing back: the first that holds; and where none does, a stage, with room
-pub record Judged (n m : ℕ) (room log : List ℕ) (v : Verdict) : Type 0 where
-  pub holds : First (grow-lines n m room log) v
-  pub room-enough : v ≡ Passes → need m log ≤ length room
+pub record JudgedGrowing (n m : ℕ) (room log : List ℕ) (v : Verdict) : Type 0 where
+  pub holds : First (grow-refusals n m room log) v
+  pub room-enough : v ≡ Passes → room-need m log ≤ length room
   pub stage : v ≡ Passes → Stage n (standing m room)
 
 -- a room in which a stage of m rows stands, with room for all that the log may put in
-pub record Ready (n m : ℕ) (room log : List ℕ) : Type 0 where
-  pub table : StageTable n (front m room)
-  pub fits : need m log ≤ length room
+pub record CanGrow (n m : ℕ) (room log : List ℕ) : Type 0 where
+  pub table : StageTable n (front-rows m room)
+  pub fits : room-need m log ≤ length room
 
 -- the rows reached stand in the room, and what lies past them is as it was
 pub record GrownIn (n m : ℕ) (room log : List ℕ) (a : Regrown) (room′ : List ℕ) : Type 0 where

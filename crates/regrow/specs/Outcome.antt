@@ -4,7 +4,7 @@ use mathlib.Core.Bool.{false}
 use mathlib.Core.List.{List, _∷_, reverse}
 use Prim.Native.Nat.{ℕ, _+_, _*_, _≤_, _<_}
 use lib.ListN.{length}
-use Rattle.follow.specs.Follow.{Answers, Call, Outcome}
+use Rattle.follow.specs.Follow.{Answering, Call, Outcome}
 use Rattle.surface.specs.Limits.{most-rows}
 use Rattle.surface.specs.Rows.{Row}
 use Rattle.surface.specs.Stage.{Stage}
@@ -13,9 +13,9 @@ use Rattle.surface.specs.Accept.{Accepted}
 use Rattle.refusal.specs.declared.Refusal.{Refusal}
 use Rattle.refusal.specs.declared.Refusal.the-variants.{CountsOutside, RoomShort, RecordFails}
 use Rattle.refusal.specs.declared.Verdict.the-variants as verdict
-use Rattle.refusal.specs.First.{Clause, _when_, First}
+use Rattle.refusal.specs.First.{Refusals, _when_, First}
 use Rattle.faults.specs.Counts.{RowsFit, CornersFit}
-use Rattle.faults.specs.Order.{row-lines}
+use Rattle.faults.specs.Order.{row-refusals}
 use Rattle.record.specs.Layout.{count, records, WholeRecords}
 use Rattle.record.specs.Front.{standing, filled}
 use Rattle.regrow.specs.declared.Regrown.{Regrown}
@@ -29,18 +29,18 @@ pub record GrowFits (n m : ℕ) (log : List ℕ) : Type 0 where
   pub most : m + 2 * count log ≤ most-rows
 
 -- growing back needs 3 x (rows + 2k) numbers
-abbrev pub need : ℕ → List ℕ → ℕ
-need m log = 3 * (m + 2 * count log)
+abbrev pub room-need : ℕ → List ℕ → ℕ
+room-need m log = 3 * (m + 2 * count log)
 
 -- 2, 3, then 5 to 11 of the rows that stand in the room
-unfoldable pub grow-lines : ℕ → ℕ → List ℕ → List ℕ → List Clause
-grow-lines n m room log =
+unfoldable pub grow-refusals : ℕ → ℕ → List ℕ → List ℕ → Refusals
+grow-refusals n m room log =
     (CountsOutside when (¬ GrowFits n m log))
-    ∷ (RoomShort when (length room < need m log))
-    ∷ row-lines false n (standing m room)
+    ∷ (RoomShort when (length room < room-need m log))
+    ∷ row-refusals false n (standing m room)
 
 -- the answers of growing back and of replay: both answer how many records were done
-abbrev pub regrown : Answers Refusal Refusal Regrown
+abbrev pub regrown : Answering Refusal Refusal Regrown
 regrown = record { refused = Refused; finished = Done; stopped = λ r k. Stopped k }
 
 -- 13: the record is accepted to no table
@@ -51,8 +51,8 @@ NotAccepted n T k r = ((T₀ : List Row) → ¬ Accepted n T k T₀) × (r ≡ R
 abbrev pub growing : ℕ → ℕ → List ℕ → List ℕ → Call (List Row) Record Refusal Refusal Regrown (List ℕ)
 growing n m room log = record {
   -- the first that holds; where none does, the rows that stand are a stage
-  Refuses = λ e. First (grow-lines n m room log) (verdict.Refused e);
-  Passes = First (grow-lines n m room log) verdict.Passes × Stage n (standing m room);
+  Refuses = λ e. First (grow-refusals n m room log) (verdict.Refused e);
+  Passes = First (grow-refusals n m room log) verdict.Passes × Stage n (standing m room);
   -- a log is grown back from its last record to its first
   items = reverse (records log);
   start = standing m room;

@@ -1,9 +1,9 @@
 // Growing back: a log's records undone on the table they led to, the last first.
 use refusal::Refusal;
 use refusal::Verdict;
-ghost use Rattle.faults.specs.Tells.{Tells};
+ghost use Rattle.refusal.specs.Tells.{Tells};
 ghost use Rattle.regrow.specs.Outcome.{GrowFits, GrownAs};
-ghost use Rattle.regrow.specs.Inner.{Judged, Ready, GrownIn};
+ghost use Rattle.regrow.specs.Inner.{JudgedGrowing, CanGrow, GrownIn};
 
 // What growing back and replay answer: all records done, those before one that fails, or the refusal.
 pub enum Regrown {
@@ -14,7 +14,7 @@ pub enum Regrown {
 
 // Grows a log back on the stage that stands in a room, from its last record on.
 fn grow_log(room: &mut [u32], rows: usize, corners: usize, log: &[u32]) -> Regrown
-    requires { ⌜ Ready corners rows (now room) (now log) ⌝ }
+    requires { ⌜ CanGrow corners rows (now room) (now log) ⌝ }
     ensures { λ a. ⌜ GrownIn corners rows (now (room .entry)) (now (log .entry)) a (now (room .exit)) ⌝ }
 {
     let all = log.len() / record::WIDTH;
@@ -50,7 +50,7 @@ fn grow_fits(rows: usize, corners: usize, log: &[u32]) -> bool
 
 // The first of the refusals 2 to 11 that holds.
 fn judge(room: &[u32], rows: usize, corners: usize, log: &[u32]) -> Verdict
-    ensures { λ v. ⌜ Judged corners rows (now (room .entry)) (now (log .entry)) v ⌝ }
+    ensures { λ v. ⌜ JudgedGrowing corners rows (now (room .entry)) (now (log .entry)) v ⌝ }
 {
     if !grow_fits(rows, corners, log) {
         return Verdict::Refused(Refusal::CountsOutside);

@@ -14,8 +14,7 @@ use Rattle.run.proofs.Main.{replayed-stage, replayed-rows}
 use Rattle.refusal.specs.declared.Refusal.{Refusal}
 use Rattle.refusal.specs.declared.Verdict.the-variants.{Passes}
 use Rattle.refusal.specs.First.{First}
-use Rattle.refusal.proofs.Laws.{first-one, refused-one, refused-passes}
-use Rattle.verdicts.proofs.Laws.{first-before}
+use Rattle.refusal.proofs.Laws.{verdicts, first-one, refused-one, refused-passes, rest-decides, none-yet, _nor_}
 use Rattle.faults.proofs.Order.{after-2, stage-passes}
 use Rattle.record.specs.Layout.{count, records}
 use Rattle.record.specs.Front.{standing, zeroed}
@@ -25,13 +24,13 @@ use Rattle.regrow.specs.declared.Regrown.{Regrown}
 use Rattle.regrow.specs.declared.Regrown.the-variants.{Done, Refused}
 use Rattle.regrow.specs.Answer.{told, Did}
 use Rattle.regrow.proofs.Counted.{regrown-apart, did}
-use Rattle.replay.specs.Outcome.{ReplayFits, replay-lines, replaying, ReplayedAs}
+use Rattle.replay.specs.Outcome.{ReplayFits, replay-refusals, replaying, ReplayedAs}
 
 -- a record's step leads to one table, or to none
 pub replaying-plain : (n : ℕ) (t log : List ℕ) → Plain (replaying n t log)
 replaying-plain n t log = record {
-  refusal = λ f g. refused-one (first-one _ f g);
-  passing = λ f g. refused-passes (first-one _ f (g .0));
+  refusal = λ f g. refused-one (first-one verdicts _ f g);
+  passing = λ f g. refused-passes (first-one verdicts _ f (g .0));
   step = λ T T₁ T₂ k r q. left r q;
   apart = λ f r. f .0 _ r;
   reason = λ f g. f .1 ∙ sym (g .1);
@@ -46,9 +45,9 @@ pub refused-same : {n : ℕ} {t log : List ℕ} {r : Refusal} {t′ : List ℕ} 
 refused-same {n} {t} {log} w = following.refused-same (replaying n t log) regrown-apart (w .outcome)
 
 -- a stage within its counts passes
-pub replay-passes : (n : ℕ) (t log : List ℕ) → ReplayFits n t log → Stage n (rows t) → First (replay-lines n t log) Passes
-replay-passes n t log fits s = unfold replay-lines in
-    first-before _ _ _ (λ k. k fits) (after-2 n t Passes (fits .counts) (stage-passes t (fits .counts .table .threes) n s))
+pub replay-passes : (n : ℕ) (t log : List ℕ) → ReplayFits n t log → Stage n (rows t) → First (replay-refusals n t log) Passes
+replay-passes n t log fits s = unfold replay-refusals in
+    rest-decides verdicts ((λ k. k fits) nor none-yet) _ (after-2 n t Passes (fits .counts) (stage-passes t (fits .counts .table .threes) n s))
 
 -- a log that leads from a stage to T′ is done whole, and leaves T′ in front
 pub replays-whole : {n : ℕ} {t log : List ℕ} {a : Regrown} {t′ : List ℕ} {T′ : List Row} → ReplayFits n t log → Stage n (rows t) → Replayed (rows t) (records log) T′ →
@@ -58,10 +57,12 @@ replays-whole {n} {t} {log} fits s r w =
     (o .0 ∙ ap Done (first-length (count log) log), o .1)
 
 -- what is left is a stage, whatever the log: so many rows as stood, less two for each record done
-pub replay-leaves : {n : ℕ} {t log : List ℕ} {a : Regrown} {t′ : List ℕ} → ReplayedAs n t log a t′ → {k : ℕ} → Did k (told a) → Stage n (standing (length (rows t) - 2 * k) t′)
+pub replay-leaves : {n : ℕ} {t log : List ℕ} {a : Regrown} {t′ : List ℕ} → ReplayedAs n t log a t′ → {k : ℕ} → Did k (told a) →
+    (length (standing (length (rows t) - 2 * k) t′) ≡ length (rows t) - 2 * k) × Stage n (standing (length (rows t) - 2 * k) t′)
 replay-leaves {n} {t} {log} {a} w {k} d =
     let o = outcome-reached (replaying n t log) regrown-apart (did a d) (w .outcome) in
     let s = o .0 .1 in
     let z = replayed-rows s (o .3) in
     let m = length (rows t) - 2 * k in
-    rw (ap (standing m) (o .5) ∙ standing-front m (o .1) (replicate (length t - length (flat (o .1))) 0) (omega (arith, z, o .4))) (replayed-stage s (o .3))
+    let l : length (o .1) ≡ m = omega (arith, z, o .4) in
+    rw (ap (standing m) (o .5) ∙ standing-front m (o .1) (replicate (length t - length (flat (o .1))) 0) l) (l, replayed-stage s (o .3))

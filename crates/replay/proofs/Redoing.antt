@@ -14,7 +14,7 @@ use Rattle.surface.proofs.Flat.{rows-flat, flat-length}
 use Rattle.run.proofs.Main.{replayed-stage, step-rows}
 use Rattle.refusal.specs.declared.Refusal.the-variants.{RecordFails}
 use Rattle.record.specs.Layout.{width, count, record-at, records}
-use Rattle.record.specs.Front.{front, standing, lowered, zeroed}
+use Rattle.record.specs.Front.{front-rows, standing, lowered, zeroed}
 use Rattle.record.proofs.Log.{first-at}
 use Rattle.record.proofs.Places.{records-length}
 use Rattle.record.proofs.Front.{standing-front, zeroed-whole, zeroed-length, zeroed-again}
@@ -62,9 +62,9 @@ module _ (n : ℕ) (t log : List ℕ) (g : StageTable n t) where
     pub rows-inside : 3 * (length t / 3 - 2 * done) ≤ length t′
     rows-inside = omega (arith, same, many, inside)
 
-    pub table-stands : StageTable n (front (length t / 3 - 2 * done) t′)
+    pub table-stands : StageTable n (front-rows (length t / 3 - 2 * done) t′)
     table-stands =
-        let e = ap (front here) (w .left) ∙ take-at (flat (w .table)) (replicate (length t - length (flat (w .table))) 0) (3 * here) (flat-length (w .table) ∙ ap (λ z. 3 * z) many) in
+        let e = ap (front-rows here) (w .left) ∙ take-at (flat (w .table)) (replicate (length t - length (flat (w .table))) 0) (3 * here) (flat-length (w .table) ∙ ap (λ z. 3 * z) many) in
         rw e (record { count = flat-length (w .table) ∙ ap (λ (S : List Row). 3 * length S) (sym (rows-flat (w .table))); stage = rw (rows-flat (w .table)) stage })
 
     pub done-all : count log ≤ done → RedoneIn n t log (Done done) t′

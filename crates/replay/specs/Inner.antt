@@ -10,11 +10,11 @@ use Rattle.refusal.specs.declared.Verdict.the-variants.{Passes}
 use Rattle.refusal.specs.First.{First}
 use Rattle.record.specs.Front.{zeroed}
 use Rattle.regrow.specs.declared.Regrown.{Regrown}
-use Rattle.replay.specs.Outcome.{replay-lines, replaying}
+use Rattle.replay.specs.Outcome.{replay-refusals, replaying}
 
 -- the verdict on a replay: the first that holds; and where none does, a stage
-pub record Judged (n : ℕ) (t log : List ℕ) (v : Verdict) : Type 0 where
-  pub holds : First (replay-lines n t log) v
+pub record JudgedReplay (n : ℕ) (t log : List ℕ) (v : Verdict) : Type 0 where
+  pub holds : First (replay-refusals n t log) v
   pub stage : v ≡ Passes → StageTable n t
 
 -- the stage reached stands in front, and zeros in the rest of the table's length

@@ -12,9 +12,9 @@ use Rattle.surface.specs.Record.{Record, Replays}
 use Rattle.refusal.specs.declared.Refusal.{Refusal}
 use Rattle.refusal.specs.declared.Refusal.the-variants.{CountsOutside, RecordFails}
 use Rattle.refusal.specs.declared.Verdict.the-variants as verdict
-use Rattle.refusal.specs.First.{Clause, _when_, First}
+use Rattle.refusal.specs.First.{Refusals, _when_, First}
 use Rattle.faults.specs.Counts.{CountsFit}
-use Rattle.faults.specs.Order.{row-lines}
+use Rattle.faults.specs.Order.{row-refusals}
 use Rattle.record.specs.Layout.{count, records, WholeRecords}
 use Rattle.record.specs.Front.{zeroed}
 use Rattle.regrow.specs.declared.Regrown.{Regrown}
@@ -27,8 +27,8 @@ pub record ReplayFits (n : ℕ) (t log : List ℕ) : Type 0 where
   pub least : least-rows + 2 * count log ≤ length (rows t)
 
 -- 2, then 5 to 11 of the table
-unfoldable pub replay-lines : ℕ → List ℕ → List ℕ → List Clause
-replay-lines n t log = (CountsOutside when (¬ ReplayFits n t log)) ∷ row-lines false n (rows t)
+unfoldable pub replay-refusals : ℕ → List ℕ → List ℕ → Refusals
+replay-refusals n t log = (CountsOutside when (¬ ReplayFits n t log)) ∷ row-refusals false n (rows t)
 
 -- 13: the record's step leads to no table
 abbrev pub NotReplayed : List Row → Record → Refusal → Type 0
@@ -38,8 +38,8 @@ NotReplayed T k r = ((T₁ : List Row) → ¬ Replays T k T₁) × (r ≡ Record
 abbrev pub replaying : ℕ → List ℕ → List ℕ → Call (List Row) Record Refusal Refusal Regrown (List ℕ)
 replaying n t log = record {
   -- the first that holds; where none does, the table is a stage
-  Refuses = λ e. First (replay-lines n t log) (verdict.Refused e);
-  Passes = First (replay-lines n t log) verdict.Passes × Stage n (rows t);
+  Refuses = λ e. First (replay-refusals n t log) (verdict.Refused e);
+  Passes = First (replay-refusals n t log) verdict.Passes × Stage n (rows t);
   -- replaying forward
   items = records log;
   start = rows t;

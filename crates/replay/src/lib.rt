@@ -3,9 +3,9 @@ use refusal::Refusal;
 use refusal::Verdict;
 use regrow::Regrown;
 ghost use Rattle.surface.specs.Stage.{StageTable};
-ghost use Rattle.faults.specs.Tells.{Tells};
+ghost use Rattle.refusal.specs.Tells.{Tells};
 ghost use Rattle.replay.specs.Outcome.{ReplayFits, ReplayedAs};
-ghost use Rattle.replay.specs.Inner.{Judged, RedoneIn};
+ghost use Rattle.replay.specs.Inner.{JudgedReplay, RedoneIn};
 
 // Does a log's records on a stage's table, from the first on.
 fn replay_log(table: &mut [u32], n: usize, log: &[u32]) -> Regrown
@@ -43,7 +43,7 @@ fn replay_fits(table: &[u32], corners: usize, log: &[u32]) -> bool
 
 // The first of the refusals 2 to 11 that holds.
 fn judge(table: &[u32], corners: usize, log: &[u32]) -> Verdict
-    ensures { λ v. ⌜ Judged corners (now (table .entry)) (now (log .entry)) v ⌝ }
+    ensures { λ v. ⌜ JudgedReplay corners (now (table .entry)) (now (log .entry)) v ⌝ }
 {
     if !replay_fits(table, corners, log) {
         return Verdict::Refused(Refusal::CountsOutside);

@@ -14,41 +14,35 @@ use Rattle.refusal.specs.declared.Verdict.{Verdict}
 use Rattle.refusal.specs.declared.Verdict.the-variants as verdict
 use Rattle.refusal.specs.First.{First}
 use Rattle.refusal.specs.Told.{done, refused}
-use Rattle.refusal.proofs.Laws.{first-one}
-use Rattle.faults.specs.Order.{lines-after-counts}
+use Rattle.refusal.proofs.Laws.{verdicts, first-one, refused-one, refused-passes}
+use Rattle.faults.specs.Order.{refusals-after-counts}
 use Rattle.run.proofs.Main.{run-one}
 use Rattle.sheet.proofs.Promises.{Same, one-skin}
 use Rattle.reply.specs.declared.Answer.{Answer}
 use Rattle.reply.specs.declared.Answer.the-variants.{Written}
 use Rattle.reply.specs.Text.{most-text, no-text, ok-text}
 use Rattle.reply.specs.Answer.{told}
-use Rattle.reply.specs.Outcome.{NoSkin, bad-form, bad-skin, SkinOf, Tells, Answers, no, ok, Put, fits, short, Replied}
+use Rattle.reply.specs.Outcome.{NoSkin, bad-form, bad-skin, SkinOf, TellsRun, Answers, no, ok, Put, fits, short, Replied}
 use Rattle.reply.proofs.Most.{answer-fits}
 
 -- ---- one text for any bytes
 
-same-refusal : {r q : Refusal} → verdict.Refused r ≡ verdict.Refused q → r ≡ q
-same-refusal e = cc
-
-not-passed : {X : Type 0} {r : Refusal} → verdict.Refused r ≡ verdict.Passes → X
-not-passed e = let z : _≡_ {A = ℕ} 0 1 = cc in absurd (omega arith)
-
 -- the verdict on what a sheet holds, by another name of that
-moved : {n m i j : ℕ} {xs ys : List ℤ} {t u : List ℕ} (v : Verdict) → Same n m i j xs ys t u → First (lines-after-counts true xs t) v → First (lines-after-counts true ys u) v
+moved : {n m i j : ℕ} {xs ys : List ℤ} {t u : List ℕ} (v : Verdict) → Same n m i j xs ys t u → First (refusals-after-counts true xs t) v → First (refusals-after-counts true ys u) v
 moved v s f = rw (s .coordinates, s .numbers) at f
 
 no-skin-one : {b : List ℕ} {r q : Refusal} → NoSkin b r → NoSkin b q → r ≡ q
-no-skin-one (bad-form f) (bad-form g) = same-refusal (first-one _ f g)
-no-skin-one (bad-form f) (bad-skin g s k) = not-passed (first-one _ f g)
-no-skin-one (bad-skin f s k) (bad-form g) = not-passed (first-one _ g f)
-no-skin-one {r = r} (bad-skin f s k) (bad-skin g u l) = same-refusal (first-one _ (moved (verdict.Refused r) (one-skin s u) k) l)
+no-skin-one (bad-form f) (bad-form g) = refused-one (first-one verdicts _ f g)
+no-skin-one (bad-form f) (bad-skin g s k) = refused-passes (first-one verdicts _ f g)
+no-skin-one (bad-skin f s k) (bad-form g) = refused-passes (first-one verdicts _ g f)
+no-skin-one {r = r} (bad-skin f s k) (bad-skin g u l) = refused-one (first-one verdicts _ (moved (verdict.Refused r) (one-skin s u) k) l)
 
 -- what is refused holds no skin
 pub no-skin-or-skin : {X : Type 0} {b : List ℕ} {r : Refusal} {xs : List ℤ} {t : List ℕ} → NoSkin b r → SkinOf b xs t → X
-no-skin-or-skin (bad-form f) w = not-passed (first-one _ f (w .form))
-no-skin-or-skin {r = r} (bad-skin f s k) w = not-passed (first-one _ (moved (verdict.Refused r) (one-skin s (w .sheet)) k) (w .passes))
+no-skin-or-skin (bad-form f) w = refused-passes (first-one verdicts _ f (w .form))
+no-skin-or-skin {r = r} (bad-skin f s k) w = refused-passes (first-one verdicts _ (moved (verdict.Refused r) (one-skin s (w .sheet)) k) (w .passes))
 
-tells-one : {xs : List ℤ} {t txt txt₂ : List ℕ} → Tells xs t txt → Tells xs t txt₂ → txt ≡ txt₂
+tells-one : {xs : List ℤ} {t txt txt₂ : List ℕ} → TellsRun xs t txt → TellsRun xs t txt₂ → txt ≡ txt₂
 tells-one {xs} {t} p q = let e = run-one (p .run) (q .run) in p .text ∙ (λ i. ok-text xs (rows t) (e .0 i) (e .1 i)) ∙ sym (q .text)
 
 pub answers-one : {b txt txt₂ : List ℕ} → Answers b txt → Answers b txt₂ → txt ≡ txt₂
@@ -58,7 +52,7 @@ answers-one (ok w p) (no k e) = no-skin-or-skin k w
 answers-one (ok w p) (ok z q) = let s = one-skin (w .sheet) (z .sheet) in tells-one (rw (s .coordinates, s .numbers) at p) q
 
 -- of a skin's sheet it tells the run
-pub skin-tells : {b txt : List ℕ} {xs : List ℤ} {t : List ℕ} → Answers b txt → SkinOf b xs t → Tells xs t txt
+pub skin-tells : {b txt : List ℕ} {xs : List ℤ} {t : List ℕ} → Answers b txt → SkinOf b xs t → TellsRun xs t txt
 skin-tells (no k e) w = no-skin-or-skin k w
 skin-tells (ok z p) w = let s = one-skin (z .sheet) (w .sheet) in rw (s .coordinates, s .numbers) at p
 

@@ -26,26 +26,26 @@ use Rattle.figure.proofs.Sizes.{sixfold-size}
 use Rattle.ints.proofs.Ints.{abs-neg}
 use Rattle.text.specs.Decimal.{decimal, signed}
 use Rattle.text.proofs.Digits.{below-digits}
-use Rattle.lines.specs.Lines.{fields, line, lines, Short}
+use Rattle.lines.specs.Lines.{fields, line, lines, FewDigits}
 use Rattle.lines.proofs.Cut.{short-append}
 use Rattle.sheet.specs.Limits.{most-digits, most-sheet-rows}
 use Rattle.sheet.specs.Form.{R, row-lines}
 use Rattle.sheet.proofs.Sizes.{signed-size, fields-size}
 use Rattle.reply.specs.Text.{OK, NO, K, most-text, no-text, ok-text, record-lines}
-use Rattle.reply.specs.Outcome.{Tells, SkinOf, Answers, no, ok}
+use Rattle.reply.specs.Outcome.{TellsRun, SkinOf, Answers, no, ok}
 use Rattle.reply.proofs.Telling.{line-length, lines-length}
 use Rattle.reply.proofs.Sheets.{counts-within}
 
 -- ---- numbers of at most six digits
 
 abbrev Few : List ℕ → Type 0
-Few t = Short most-digits (map pos t)
+Few t = FewDigits most-digits (map pos t)
 
 small : (v : ℕ) → v < 10 ^ most-digits → length (decimal v) ≤ most-digits
 small v h = below-digits v most-digits (omega arith) h
 
 few-append : (t u : List ℕ) → Few t → Few u → Few (t ++ u)
-few-append t u a b = subst (Short most-digits) (sym (map-append pos t u)) (short-append most-digits (map pos t) (map pos u) a b)
+few-append t u a b = subst (FewDigits most-digits) (sym (map-append pos t u)) (short-append most-digits (map pos t) (map pos u) a b)
 
 module _ {n : ℕ} {T : List Row} (s : Stage n T) where
   corner-small : {v p q : ℕ} → Follows T v p q → length (decimal v) ≤ most-digits
@@ -138,7 +138,7 @@ unfolding no-text
 no-fits r = omega (arith, line-length NO (pos (number r) ∷ []), length-append (decimal (number r)) [], small (number r) (number-small r))
 
 -- the rows left and twice the records are the sheet's rows
-ok-fits : {b : List ℕ} {xs : List ℤ} {t txt : List ℕ} → SkinOf b xs t → Tells xs t txt → length txt ≤ most-text
+ok-fits : {b : List ℕ} {xs : List ℤ} {t txt : List ℕ} → SkinOf b xs t → TellsRun xs t txt → length txt ≤ most-text
 unfolding ok-text
 ok-fits {xs = xs} {t} {txt} w p =
     let T = rows t in

@@ -9,7 +9,7 @@ use Rattle.refusal.specs.declared.Refusal.{Refusal}
 use Rattle.reply.specs.declared.Answer.{Answer}
 use Rattle.reply.specs.declared.Answer.the-variants.{Written}
 use Rattle.reply.specs.Text.{no-text}
-use Rattle.reply.specs.Outcome.{NoSkin, SkinOf, Tells, no, ok, Put, fits, short, Replied}
+use Rattle.reply.specs.Outcome.{NoSkin, SkinOf, TellsRun, no, ok, Put, fits, short, Replied}
 use Rattle.reply.proofs.Main.{answers-one}
 
 -- where a sheet is refused, the `NO` line is all that is put into the lent text
@@ -17,7 +17,7 @@ pub no-line : {b text : List ℕ} {r : Refusal} {a : Answer} {text′ : List ℕ
 no-line {b} {text} {r} {a} {text′} n w = subst (λ x. Put x text a text′) (answers-one (w .answers) (no n refl)) (w .put)
 
 -- where it is that of a skin, the `OK` text is, whole
-pub ok-whole : {b text : List ℕ} {xs : List ℤ} {t : List ℕ} {a : Answer} {text′ txt : List ℕ} → SkinOf b xs t → Tells xs t txt → Replied b text a text′ → Put txt text a text′
+pub ok-whole : {b text : List ℕ} {xs : List ℤ} {t : List ℕ} {a : Answer} {text′ txt : List ℕ} → SkinOf b xs t → TellsRun xs t txt → Replied b text a text′ → Put txt text a text′
 ok-whole {text = text} {a = a} {text′ = text′} s t w = subst (λ x. Put x text a text′) (answers-one (w .answers) (ok s t)) (w .put)
 
 -- one that begins with `OK`, and goes on with `NO` when it finds that the sheet is refused: not even the letter O, 79, is written there

@@ -14,9 +14,9 @@ use Rattle.refusal.specs.First.{First}
 use Rattle.refusal.specs.Number.{number}
 use Rattle.refusal.specs.declared.Refusal.{Refusal}
 use Rattle.refusal.specs.declared.Verdict.the-variants.{Passes}
-use Rattle.verdicts.proofs.Laws.{first-after, passed}
+use Rattle.refusal.proofs.Laws.{verdicts, rest-decided, passed, none-yet, _nor_}
 use Rattle.faults.specs.Counts.{corners}
-use Rattle.faults.specs.Order.{lines-after-counts}
+use Rattle.faults.specs.Order.{refusals-after-counts}
 use Rattle.sheet.specs.declared.Sheet.{Sheet}
 use Rattle.sheet.specs.declared.Sheet.the-variants.{Read, Refused}
 use Rattle.sheet.specs.Limits.{most-sheet-rows, most-sheet-corners}
@@ -40,7 +40,7 @@ not-over a b h = omega arith
 pub counts-within : {b : List ℕ} {n m : ℕ} {xs : List ℤ} {t : List ℕ} → First (form-refusals b) Passes → SheetOf b n m xs t → CountsIn n m
 unfolding form-refusals
 counts-within {b} {n} {m} f s =
-    let no-out = passed _ _ (passed _ _ (passed _ _ f .1) .1) .0 in
+    let no-out = passed verdicts _ _ (passed verdicts _ _ (passed verdicts _ _ f .1) .1) .0 in
     let out : ¬ (¬ CountsIn n m) = λ h. no-out (record { n = n; m = m; begins = record { rest = _; line = its-line s }; out = h }) in
     record {
       few = not-over least-corners n (λ h. out (λ c. let q = c .few in omega arith));
@@ -67,7 +67,7 @@ same-refusal e = cc
 pub sheet-refused : {b troom′ : List ℕ} {croom′ : List ℤ} {a : Sheet} {r : Refusal} → a ≡ Refused r → ReadSheet b troom troom′ croom croom′ a → NoSkin b r
 unfolding skin-refusals
 sheet-refused e (sheets.bad-form f d p q) = bad-form (rw (same-refusal (sym d ∙ e)) at f)
-sheet-refused e (sheets.bad-skin f s k d p q) = bad-skin f s (rw (same-refusal (sym d ∙ e)) at (first-after _ _ _ (never-short f s) k))
+sheet-refused e (sheets.bad-skin f s k d p q) = bad-skin f s (rw (same-refusal (sym d ∙ e)) at (rest-decided verdicts _ k (never-short f s nor none-yet)))
 sheet-refused e (read f s k w d p q) = read-refused (sym d ∙ e)
 
 -- `NO` and the number of a refusal, told as a line with no rows and no records
@@ -92,7 +92,7 @@ sheet-skin {n} {m} {xs} {t} c ex et w =
     let e : n ≡ corners xs = omega arith in
     record { threes = omega arith; most = omega arith; many = omega arith; skin = rw e at w }
 
-held : {b : List ℕ} {n m : ℕ} {xs : List ℤ} {t : List ℕ} {troom′ : List ℕ} {croom′ : List ℤ} → First (form-refusals b) Passes → SheetOf b n m xs t → First (lines-after-counts true xs t) Passes → Skin n (rows t) xs →
+held : {b : List ℕ} {n m : ℕ} {xs : List ℤ} {t : List ℕ} {troom′ : List ℕ} {croom′ : List ℤ} → First (form-refusals b) Passes → SheetOf b n m xs t → First (refusals-after-counts true xs t) Passes → Skin n (rows t) xs →
     troom′ ≡ t ++ drop (length t) troom → croom′ ≡ xs ++ drop (length xs) croom → Holds b n m troom′ croom′
 held {b} {n} {m} {xs} {t} f s k w p q =
     let et = ap (take (m * 3)) p ∙ take-at t (drop (length t) troom) (m * 3) (s .rows) in
@@ -108,7 +108,7 @@ pub sheet-read : {b troom′ : List ℕ} {croom′ : List ℤ} {a : Sheet} {n m 
 unfolding skin-refusals
 sheet-read e (sheets.bad-form f d p q) = read-refused (sym e ∙ d)
 sheet-read e (sheets.bad-skin f s k d p q) = read-refused (sym e ∙ d)
-sheet-read {b} {troom′} {croom′} e (read f s k w d p q) = same-counts (sym d ∙ e) (held f s (first-after _ _ _ (never-short f s) k) w p q)
+sheet-read {b} {troom′} {croom′} e (read f s k w d p q) = same-counts (sym d ∙ e) (held f s (rest-decided verdicts _ k (never-short f s nor none-yet)) w p q)
   where
     same-counts : {n m i j : ℕ} → Read n m ≡ Read i j → Holds b n m troom′ croom′ → Holds b i j troom′ croom′
     same-counts {n} {m} {i} {j} e h = let en : n ≡ i = cc in let em : m ≡ j = cc in subst (λ (x : ℕ). Holds b x j troom′ croom′) en (subst (λ (y : ℕ). Holds b n y troom′ croom′) em h)

@@ -14,7 +14,7 @@ use Rattle.sheet.specs.Limits.{most-sheet-rows, most-sheet-corners}
 use Rattle.sheet.specs.Form.{R, row-lines}
 use Rattle.reply.specs.declared.Answer.{Answer}
 use Rattle.reply.specs.Text.{OK, K, record-lines}
-use Rattle.reply.specs.Outcome.{Tells, Put}
+use Rattle.reply.specs.Outcome.{TellsRun, Put}
 
 -- numbers of the first line
 abbrev pub head : ℕ
@@ -64,5 +64,5 @@ pub record SheetSkin (xs : List ℤ) (t : List ℕ) : Type 0 where
 -- what its run comes to, put into the lent text
 pub record RunPut (xs : List ℤ) (t text : List ℕ) (a : Answer) (text′ : List ℕ) : Type 0 where
   pub txt : List ℕ
-  pub tells : Tells xs t txt
+  pub tells : TellsRun xs t txt
   pub put : Put txt text a text′

@@ -12,7 +12,7 @@ use Rattle.refusal.specs.First.{First}
 use Rattle.refusal.specs.declared.Refusal.{Refusal}
 use Rattle.refusal.specs.declared.Refusal.the-variants.{RoomShort}
 use Rattle.refusal.specs.declared.Verdict.the-variants as verdict
-use Rattle.faults.specs.Order.{lines-after-counts}
+use Rattle.faults.specs.Order.{refusals-after-counts}
 use Rattle.run.specs.Run.{Run}
 use Rattle.least.specs.declared.Bound.the-variants.{Free}
 use Rattle.least.specs.Limited.{Allowed}
@@ -24,7 +24,7 @@ use Rattle.reply.specs.Text.{no-text, ok-text}
 -- the sheet b is refused: for its form, or for what it holds, 4 to 11. No room is lent for what it holds, so 3 is not asked
 pub data NoSkin (b : List ℕ) (r : Refusal) : Type 0 where
   bad-form : First (form-refusals b) (verdict.Refused r) → NoSkin b r
-  bad-skin : {n m : ℕ} {xs : List ℤ} {t : List ℕ} → First (form-refusals b) verdict.Passes → SheetOf b n m xs t → First (lines-after-counts true xs t) (verdict.Refused r) → NoSkin b r
+  bad-skin : {n m : ℕ} {xs : List ℤ} {t : List ℕ} → First (form-refusals b) verdict.Passes → SheetOf b n m xs t → First (refusals-after-counts true xs t) (verdict.Refused r) → NoSkin b r
 
 -- the sheet b is that of a skin, with the coordinates xs and the table t: nothing stands against it
 pub record SkinOf (b : List ℕ) (xs : List ℤ) (t : List ℕ) : Type 0 where
@@ -32,11 +32,11 @@ pub record SkinOf (b : List ℕ) (xs : List ℤ) (t : List ℕ) : Type 0 where
   pub m : ℕ
   pub form : First (form-refusals b) verdict.Passes
   pub sheet : SheetOf b n m xs t
-  pub passes : First (lines-after-counts true xs t) verdict.Passes
+  pub passes : First (refusals-after-counts true xs t) verdict.Passes
   pub skin : Skin n (rows t) xs
 
 -- txt tells the run without limit from the table t over the coordinates xs
-pub record Tells (xs : List ℤ) (t txt : List ℕ) : Type 0 where
+pub record TellsRun (xs : List ℤ) (t txt : List ℕ) : Type 0 where
   pub log : List Record
   pub last : List Row
   pub run : Run (Allowed Free xs) (rows t) log last
@@ -45,7 +45,7 @@ pub record Tells (xs : List ℤ) (t txt : List ℕ) : Type 0 where
 -- what the desk has to say of the bytes b
 pub data Answers (b txt : List ℕ) : Type 0 where
   no : {r : Refusal} → NoSkin b r → txt ≡ no-text r → Answers b txt
-  ok : {xs : List ℤ} {t : List ℕ} → SkinOf b xs t → Tells xs t txt → Answers b txt
+  ok : {xs : List ℤ} {t : List ℕ} → SkinOf b xs t → TellsRun xs t txt → Answers b txt
 
 -- txt in front of the lent text, the rest as it was; "room is short exactly when what is to be written does not fit"
 pub data Put (txt text : List ℕ) (a : Answer) (text′ : List ℕ) : Type 0 where

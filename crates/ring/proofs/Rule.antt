@@ -12,7 +12,7 @@ use Rattle.ring.specs.declared.Trial.{Trial}
 use Rattle.ring.specs.declared.Trial.the-variants.{Number, Nothing}
 use Rattle.refusal.specs.Told.{done}
 use Rattle.ring.specs.Answer.{told}
-use Rattle.ring.specs.Ring.{corner, six, size, number-at, numbers-from, ring, Tells}
+use Rattle.ring.specs.Ring.{corner, six, size, number-at, numbers-from, ring, AnswerAt}
 
 numbers-at : (n k i : ℕ) → i < n → getD (numbers-from k n) i 0 ≡ number-at (k + i)
 unfolding numbers-from
@@ -58,13 +58,13 @@ row-second v d h =
     ∙ (λ i. row (six-at v 3 (3 * (2 * v + 1)) h (omega arith) (omega arith) i) (six-at v 4 (3 * (2 * v + 1) + 1) h (omega arith) (omega arith) i) (six-at v 5 (3 * (2 * v + 1) + 2) h (omega arith) (omega arith) i))
 
 -- no second answer satisfies the same words
-pub trial-one : (k : ℕ) (r s : Trial) → Tells k r → Tells k s → r ≡ s
+pub trial-one : (k : ℕ) (r s : Trial) → AnswerAt k r → AnswerAt k s → r ≡ s
 trial-one k (Number v) (Number w) p q = ap Number (p .1 ∙ sym (q .1))
 trial-one k (Number v) Nothing p q = let h = p .0 in absurd (omega arith)
 trial-one k Nothing (Number w) p q = let h = q .0 in absurd (omega arith)
 trial-one k Nothing Nothing p q = refl
 
 -- the answer tells the number, or past the end nothing
-pub trial-told : (k : ℕ) (r : Trial) → Tells k r → ((k < size) × (told r ≡ done (pos (number-at k) ∷ []))) ⊎ ((size ≤ k) × (told r ≡ done []))
+pub trial-told : (k : ℕ) (r : Trial) → AnswerAt k r → ((k < size) × (told r ≡ done (pos (number-at k) ∷ []))) ⊎ ((size ≤ k) × (told r ≡ done []))
 trial-told k (Number v) p = inl (p .0, ap (λ z. done (pos z ∷ [])) (p .1))
 trial-told k Nothing p = inr (p, refl)

@@ -1,7 +1,6 @@
 -- The trial ring as it is answered: one statement, over whatever answers as `trial_number`'s contract says.
 use mathlib.Core.Path.{_≡_, sym, _∙_, ap}
 use mathlib.Core.Logic.{_⊎_, inl, inr}
-use mathlib.Core.List.{List}
 use Prim.Native.Nat.{ℕ, _+_, _*_, _/_, _%_, _<_}
 use native.Mathlib.Decide.{ℕ-discrete}
 use native.Mathlib.Omega.{arith}
@@ -11,8 +10,8 @@ use Rattle.surface.specs.Rows.{Row, row, rows}
 use Rattle.surface.proofs.Flat.{place-of}
 use Rattle.ring.specs.declared.Trial.{Trial}
 use Rattle.ring.specs.declared.Trial.the-variants.{Number, Nothing}
-use Rattle.ring.specs.Ring.{corner, size, ring, Tells}
-use Rattle.ring.specs.Torus.{first-row, second-row, OnGrid, Torus, Answered}
+use Rattle.ring.specs.Ring.{corner, size, ring, AnswerAt}
+use Rattle.ring.specs.Torus.{first-row, second-row, OnGrid, Torus, TrialRing}
 use Rattle.ring.proofs.Rule.{ring-at, ring-length, ring-numbers, row-first, row-second, trial-one}
 use Rattle.ring.proofs.Closed.{ring-stage, ring-used, ring-euler}
 
@@ -61,9 +60,8 @@ ring-torus = record {
   euler = ring-euler;
 }
 
--- whatever answers each place as `trial_number` does answers the numbers of one table, and that is the torus of the rule
-pub trial-ring : (answers : ℕ → Trial) → ((k : ℕ) → Tells k (answers k)) → (l : List ℕ) × Answered answers l × Torus l
-trial-ring answers tells = (ring, record { inside = λ k h. inside k (omega (arith, ring-numbers, h)); past = λ k h. trial-one k (answers k) Nothing (tells k) (omega (arith, ring-numbers, h)) }, ring-torus)
+pub trial-ring : TrialRing
+trial-ring = record { answered = λ answers tells. (ring, record { inside = λ k h. there answers tells k (omega (arith, ring-numbers, h)); past = λ k h. trial-one k (answers k) Nothing (tells k) (omega (arith, ring-numbers, h)) }, ring-torus) }
   where
-    inside : (k : ℕ) → k < size → answers k ≡ Number (getD ring k 0)
-    inside k h = trial-one k (answers k) (Number (getD ring k 0)) (tells k) (h, ring-at k h)
+    there : (answers : ℕ → Trial) → ((k : ℕ) → AnswerAt k (answers k)) → (k : ℕ) → k < size → answers k ≡ Number (getD ring k 0)
+    there answers tells k h = trial-one k (answers k) (Number (getD ring k 0)) (tells k) (h, ring-at k h)

@@ -31,6 +31,6 @@ unfoldable pub ring : List ℕ
 ring = numbers-from 0 size
 
 -- the answer: the number at a place of the table, nothing past it
-abbrev pub Tells : ℕ → Trial → Type 0
-Tells k (Number v) = (k < size) × (v ≡ number-at k)
-Tells k Nothing = size ≤ k
+abbrev pub AnswerAt : ℕ → Trial → Type 0
+AnswerAt k (Number v) = (k < size) × (v ≡ number-at k)
+AnswerAt k Nothing = size ≤ k

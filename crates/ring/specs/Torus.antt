@@ -12,7 +12,7 @@ use Rattle.surface.specs.Stage.{Stage}
 use Rattle.surface.specs.Euler.{Euler}
 use Rattle.ring.specs.declared.Trial.{Trial}
 use Rattle.ring.specs.declared.Trial.the-variants.{Number, Nothing}
-use Rattle.ring.specs.Ring.{corner, size}
+use Rattle.ring.specs.Ring.{corner, size, AnswerAt}
 
 -- ((r,c), (r+1,c), (r+1,c+1)) and ((r,c), (r+1,c+1), (r,c+1))
 abbrev pub first-row : ℕ → ℕ → Row
@@ -25,7 +25,7 @@ second-row r c = row (corner r c) (corner (r + 1) (c + 1)) (corner r (c + 1))
 abbrev pub OnGrid : ℕ → ℕ → Type 0
 OnGrid r c = (r < 8) × (c < 8)
 
--- the table l follows the rule, is closed, and has the Euler number 64 - 192 + 128 = 0
+-- the table l follows the rule, is closed, and has the Euler number 0
 pub record Torus (l : List ℕ) : Type 0 where
   pub numbers : length l ≡ size
   -- in order of its number, each corner gives two rows
@@ -39,6 +39,10 @@ pub record Torus (l : List ℕ) : Type 0 where
   pub euler : Euler (rows l) (pos 0)
 
 -- the answers are the numbers of l, place by place, and nothing past them
-pub record Answered (answers : ℕ → Trial) (l : List ℕ) : Type 0 where
+pub record AnsweredBy (answers : ℕ → Trial) (l : List ℕ) : Type 0 where
   pub inside : (k : ℕ) → k < length l → answers k ≡ Number (getD l k 0)
   pub past : (k : ℕ) → length l ≤ k → answers k ≡ Nothing
+
+-- whatever answers each place as `trial_number`'s contract says answers the numbers of one table, and that is the torus of the rule
+pub record TrialRing : Type 0 where
+  pub answered : (answers : ℕ → Trial) → ((k : ℕ) → AnswerAt k (answers k)) → (l : List ℕ) × AnsweredBy answers l × Torus l

@@ -1,5 +1,5 @@
 // The trial ring: an 8 by 8 torus as a stored table of 384 numbers.
-ghost use Rattle.ring.specs.Ring.{Tells};
+ghost use Rattle.ring.specs.Ring.{AnswerAt};
 
 const RING: [u32; 384] = [
     0,
@@ -396,7 +396,7 @@ pub enum Trial {
 
 // The trial ring's number at a place of its table.
 pub fn trial_number(at: usize) -> Trial
-    ensures { λ r. ⌜ Tells at r ⌝ }
+    ensures { λ r. ⌜ AnswerAt at r ⌝ }
 {
     if 384 <= at {
         return Trial::Nothing;

@@ -20,7 +20,7 @@ use Rattle.slots.proofs.Slots.{follows-at, at-follows, at-edge, one-slot}
 use Rattle.slots.proofs.Marks.{mark-new, mark-old, mark-out}
 use Rattle.reverses.specs.Reverse.{onward-slot}
 use Rattle.reverses.proofs.Back.{onward-at, onward-follows}
-use Rattle.rings.specs.Walk.{Ready, begin, Sound, HandedOn, Walked, AllWalked}
+use Rattle.rings.specs.Walk.{CanWalk, begin, Sound, HandedOn, Walked, AllWalked}
 
 -- the walk round v stands at e
 pub record Walking (t last reverse m₀ m : List ℕ) (v e : ℕ) : Type 0 where
@@ -33,7 +33,7 @@ pub record Walking (t last reverse m₀ m : List ℕ) (v e : ℕ) : Type 0 where
   pub kept : (k : ℕ) → getD m₀ k 0 ≢ 0 → getD m k 0 ≢ 0
   pub begun : (e ≡ getD last v 0 - 1) ⊎ (getD m (getD last v 0 - 1) 0 ≢ 0)
 
-module _ (t last reverse : List ℕ) (r : Ready t last reverse) where
+module _ (t last reverse : List ℕ) (r : CanWalk t last reverse) where
   pub walk-start : (m : List ℕ) (v x : ℕ) → v < length last → x ≡ getD last v 0 → (x ≡ 0 → ⊥) → Sound t last m → HandedOn t reverse m →
       Walking t last reverse m m v (x - 1)
   unfolding begin

@@ -11,7 +11,7 @@ use Rattle.slots.specs.Chain.{Lasts}
 use Rattle.reverses.specs.Reverse.{Reverses, onward-slot}
 
 -- what a walk reads: the last slot of each corner, where it begins, and the reverses, by which it goes on
-pub record Ready (t last reverse : List ℕ) : Type 0 where
+pub record CanWalk (t last reverse : List ℕ) : Type 0 where
   pub whole : Whole t
   pub heads : Lasts t last
   pub back : Reverses t reverse

@@ -2,14 +2,14 @@
 ghost use Prim.Native.Nat.{_≤_, _<_};
 ghost use lib.ListN.{length};
 ghost use Rattle.surface.specs.Rows.{rows};
-ghost use Rattle.faults.specs.Tells.{Tells};
+ghost use Rattle.refusal.specs.Tells.{Tells};
 ghost use Rattle.faults.specs.Words.{Closed, ManyRings, OneRing};
 ghost use Rattle.slots.specs.Marks.{Blank};
-ghost use Rattle.rings.specs.Walk.{Ready, Sound, HandedOn, Walked, AllWalked};
+ghost use Rattle.rings.specs.Walk.{CanWalk, Sound, HandedOn, Walked, AllWalked};
 
 // The walk round v: marks its slots from the last one onward, up to one that is marked.
 fn walk(t: &[u32], last: &[usize], reverse: &[usize], m: &mut [u8], v: usize)
-    requires { ⌜ Ready (now t) (now last) (now reverse) ⌝ }
+    requires { ⌜ CanWalk (now t) (now last) (now reverse) ⌝ }
     requires { ⌜ Sound (now t) (now last) (now m) ⌝ }
     requires { ⌜ HandedOn (now t) (now reverse) (now m) ⌝ }
     requires { ⌜ v < length (now last) ⌝ }
@@ -28,7 +28,7 @@ fn walk(t: &[u32], last: &[usize], reverse: &[usize], m: &mut [u8], v: usize)
 
 // The walks round all corners.
 fn walk_all(t: &[u32], n: usize, last: &[usize], reverse: &[usize], m: &mut [u8])
-    requires { ⌜ Ready (now t) (now last) (now reverse) ⌝ }
+    requires { ⌜ CanWalk (now t) (now last) (now reverse) ⌝ }
     requires { ⌜ Blank (now m) ⌝ }
     requires { ⌜ length (now t) ≤ length (now m) ⌝ }
     requires { ⌜ n ≤ length (now last) ⌝ }
@@ -43,7 +43,7 @@ fn walk_all(t: &[u32], n: usize, last: &[usize], reverse: &[usize], m: &mut [u8]
 
 // Inner: 10, more than one ring round a corner.
 pub fn many_rings(t: &[u32], n: usize, last: &[usize], reverse: &[usize]) -> bool
-    requires { ⌜ Ready (now t) (now last) (now reverse) ⌝ }
+    requires { ⌜ CanWalk (now t) (now last) (now reverse) ⌝ }
     requires { ⌜ n ≤ length (now last) ⌝ }
     requires { ⌜ Closed n (rows (now t)) ⌝ }
     ensures { λ r. ⌜ Tells r (ManyRings (rows (now (t .entry)))) (OneRing (rows (now (t .entry)))) ⌝ }

@@ -13,7 +13,7 @@ use mir.Syntax.{w32, w64}
 use mir.Val.{Fits, SFits, toZ, ofZ}
 use Rattle.ints.proofs.Machine.{Is, var, kept, fits, unsigned-fits}
 use Rattle.text.specs.Decimal.{decimal}
-use Rattle.lines.specs.Lines.{Short}
+use Rattle.lines.specs.Lines.{FewDigits}
 use Rattle.lines.proofs.Turns.{sets-append}
 use Rattle.sheet.specs.Limits.{most-digits}
 use Rattle.sheet.specs.Body.{Naturals, NoNaturals}
@@ -41,12 +41,12 @@ map-more : (ns : List ℕ) (n : ℕ) → map pos (ns ++ (n ∷ [])) ≡ map pos 
 map-more [] n = refl
 map-more (x ∷ ns) n = ap (λ l. pos x ∷ l) (map-more ns n)
 
-short-at : (zs : List ℤ) (i : ℕ) → Short most-digits zs → i < length zs → length (decimal (natAbs (getD zs i (pos 0)))) ≤ most-digits
+short-at : (zs : List ℤ) (i : ℕ) → FewDigits most-digits zs → i < length zs → length (decimal (natAbs (getD zs i (pos 0)))) ≤ most-digits
 short-at [] i a h = absurd (omega arith)
 short-at (z ∷ zs) zero a h = a .0
 short-at (z ∷ zs) (suc i) a h = short-at zs i (a .1) (omega arith)
 
-module _ (zs : List ℤ) (count : ℕ) (short : Short most-digits (take count zs)) (room : count ≤ length zs) (i : ℕ) (h : i < count) where
+module _ (zs : List ℤ) (count : ℕ) (short : FewDigits most-digits (take count zs)) (room : count ≤ length zs) (i : ℕ) (h : i < count) where
   abbrev pub z : ℤ
   z = getD zs i (pos 0)
 

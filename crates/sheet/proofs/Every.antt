@@ -1,7 +1,7 @@
 -- Every skin within a sheet's limits has a sheet that reads, with its own table and corners.
 use mathlib.Core.Path.{_≡_, refl}
 use mathlib.Core.List.{List, [], _∷_, _++_, map}
-use Prim.Native.Nat.{ℕ, suc, _+_, _%_, _^_, _≤_, _<_}
+use Prim.Native.Nat.{ℕ, suc, _%_, _^_, _≤_, _<_}
 use native.Mathlib.Omega.{arith}
 use lib.IntN.{ℤ, pos, natAbs}
 use lib.ListN.{length, drop, getD}
@@ -14,7 +14,7 @@ use Rattle.surface.proofs.Flat.{at-place}
 use Rattle.slots.proofs.Slots.{whole-rows, at-follows}
 use Rattle.text.specs.Decimal.{decimal}
 use Rattle.text.proofs.Digits.{below-digits}
-use Rattle.lines.specs.Lines.{Short}
+use Rattle.lines.specs.Lines.{FewDigits}
 use Rattle.sheet.specs.declared.Sheet.{Sheet}
 use Rattle.sheet.specs.declared.Sheet.the-variants.{Read}
 use Rattle.sheet.specs.Limits.{most-digits, most-sheet-corners, most-sheet-rows}
@@ -28,11 +28,11 @@ use Rattle.sheet.proofs.Promises.{SameOutcome, one-outcome}
 six : (n : ℕ) → n < 10 ^ 6 → length (decimal n) ≤ most-digits
 six n h = below-digits n 6 (omega arith) h
 
-short-all : (zs : List ℤ) → ((i : ℕ) → i < length zs → natAbs (getD zs i (pos 0)) < 10 ^ 6) → Short most-digits zs
+short-all : (zs : List ℤ) → ((i : ℕ) → i < length zs → natAbs (getD zs i (pos 0)) < 10 ^ 6) → FewDigits most-digits zs
 short-all [] h = tt
 short-all (z ∷ zs) h = (six (natAbs z) (h 0 (omega arith)), short-all zs (λ i l. h (suc i) (omega arith)))
 
-short-numbers : (t : List ℕ) → ((i : ℕ) → i < length t → getD t i 0 < 10 ^ 6) → Short most-digits (map pos t)
+short-numbers : (t : List ℕ) → ((i : ℕ) → i < length t → getD t i 0 < 10 ^ 6) → FewDigits most-digits (map pos t)
 short-numbers [] h = tt
 short-numbers (n ∷ t) h = (six n (h 0 (omega arith)), short-numbers t (λ i l. h (suc i) (omega arith)))
 

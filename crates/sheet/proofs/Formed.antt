@@ -1,6 +1,5 @@
 -- A sheet's form, in order: why each answer is the first that holds.
 use mathlib.Core.Path.{_≡_, refl, sym, _∙_, ap, subst}
-use mathlib.Core.Logic.{inl, inr}
 use mathlib.Core.List.{List, [], _∷_, _++_}
 use Prim.Native.Nat.{ℕ, _≤_, _<_}
 use native.Mathlib.Omega.{arith}
@@ -9,6 +8,7 @@ use lib.ListN.{length}
 use Rattle.refusal.specs.First.{First}
 use Rattle.refusal.specs.declared.Refusal.the-variants.{SheetForm, CountsOutside}
 use Rattle.refusal.specs.declared.Verdict.the-variants.{Passes, Refused}
+use Rattle.refusal.proofs.Laws.{verdicts, given-first, passes-none, none-yet, _nor_}
 use Rattle.lines.specs.Lines.{LineAt}
 use Rattle.lines.proofs.Cut.{line-unique}
 use Rattle.sheet.specs.Limits.{most-sheet-bytes, most-digits}
@@ -17,13 +17,13 @@ use Rattle.sheet.specs.Body.{BodyAt, BodyRead, NoBody}
 use Rattle.sheet.specs.Outcome.{FormRead}
 
 pub too-long : (b : List ℕ) → most-sheet-bytes < length b → First (form-refusals b) (Refused SheetForm)
-unfolding First form-refusals
-too-long b h = inl (h, refl)
+unfolding form-refusals
+too-long b h = given-first verdicts none-yet h
 
 module _ (b : List ℕ) (size : length b ≤ most-sheet-bytes) where
   pub no-first-line : NoFirstLine b → First (form-refusals b) (Refused SheetForm)
-  unfolding First form-refusals
-  no-first-line h = inr (λ k. omega arith, inl (h, refl))
+  unfolding form-refusals
+  no-first-line h = given-first verdicts ((λ k. omega arith) nor none-yet) h
 
 -- two first lines are the same
 pub record SameFirst (n m n′ m′ : ℕ) (l r : List ℕ) : Type 0 where
@@ -46,8 +46,8 @@ module _ (b : List ℕ) (size : length b ≤ most-sheet-bytes) (n m : ℕ) (l : 
   begins = record { rest = l; line = f }
 
   pub refuse-counts : (¬ CountsIn n m) → First (form-refusals b) (Refused CountsOutside)
-  unfolding First form-refusals
-  refuse-counts h = inr (λ k. omega arith, inr (λ k. k n m begins, inl (record { n = n; m = m; begins = begins; out = h }, refl)))
+  unfolding form-refusals
+  refuse-counts h = given-first verdicts ((λ k. omega arith) nor (λ k. k n m begins) nor none-yet) (record { n = n; m = m; begins = begins; out = h })
 
   module _ (fit : CountsIn n m) where
     not-out : ¬ CountsOut b
@@ -56,8 +56,8 @@ module _ (b : List ℕ) (size : length b ≤ most-sheet-bytes) (n m : ℕ) (l : 
         o .out (subst (λ (k : ℕ). CountsIn k (o .m)) (u .corners) (subst (CountsIn n) (u .rows) fit))
 
     pub refuse-lines : NoBody l n m → First (form-refusals b) (Refused SheetForm)
-    unfolding First form-refusals
-    refuse-lines h = inr (λ k. omega arith, inr (λ k. k n m begins, inr (not-out, inl (no-sheet, refl))))
+    unfolding form-refusals
+    refuse-lines h = given-first verdicts ((λ k. omega arith) nor (λ k. k n m begins) nor not-out nor none-yet) no-sheet
       where
         no-sheet : NoSheet b
         no-sheet n′ m′ xs t s =
@@ -77,8 +77,8 @@ module _ (b : List ℕ) (size : length b ≤ most-sheet-bytes) (n m : ℕ) (l : 
 
     -- a sheet passes
     pub form-passes : {xs : List ℤ} {t : List ℕ} → SheetOf b n m xs t → First (form-refusals b) Passes
-    unfolding First form-refusals
-    form-passes {xs} {t} s = inr (λ k. omega arith, inr (λ k. k n m begins, inr (not-out, inr (λ k. k n m xs t s, refl))))
+    unfolding form-refusals
+    form-passes {xs} {t} s = passes-none verdicts _ .1 ((λ k. omega arith) nor (λ k. k n m begins) nor not-out nor (λ k. k n m xs t s) nor none-yet)
 
     pub form-read : (xroom xroom′ : List ℤ) (troom troom′ : List ℕ) → BodyRead l n m xroom xroom′ troom troom′ → FormRead b n m xroom xroom′ troom troom′
     form-read xroom xroom′ troom troom′ r = record {

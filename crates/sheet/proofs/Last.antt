@@ -1,6 +1,5 @@
 -- What a sheet holds is checked and put into the lent rooms; and the two halves of reading a sheet make the whole.
 use mathlib.Core.Path.{_≡_, refl, _∙_, subst}
-use mathlib.Core.Logic.{inl, inr}
 use mathlib.Core.Bool.{true}
 use mathlib.Core.List.{List}
 use Prim.Native.Nat.{ℕ, _*_, _≤_, _<_}
@@ -16,8 +15,9 @@ use Rattle.refusal.specs.declared.Refusal.{Refusal}
 use Rattle.refusal.specs.declared.Refusal.the-variants.{RoomShort}
 use Rattle.refusal.specs.declared.Verdict.{Verdict}
 use Rattle.refusal.specs.declared.Verdict.the-variants.{Passes, Refused}
+use Rattle.refusal.proofs.Laws.{verdicts, rest-decides, given-first, none-yet, _nor_}
 use Rattle.faults.specs.Counts.{CountsFitAt, corners}
-use Rattle.faults.specs.Order.{CheckedFirst, lines-at}
+use Rattle.faults.specs.Order.{CheckedFirst, refusals-at}
 use Rattle.faults.proofs.Order.{after-2-at}
 use Rattle.sheet.specs.declared.Sheet.{Sheet}
 use Rattle.sheet.specs.declared.Sheet.the-variants as sheet
@@ -38,21 +38,21 @@ module _ (n m : ℕ) (fit : CountsIn n m) (xs : List ℤ) (t : List ℕ) (cs : l
 
   module _ (troom : List ℕ) (croom : List ℤ) where
     pub no-table-room : length troom < m * 3 → Delivered n m xs t troom troom croom croom (sheet.Refused RoomShort)
-    unfolding First skin-refusals
-    no-table-room h = kept (inl (table-short (omega arith), refl)) refl refl refl
+    unfolding skin-refusals
+    no-table-room h = kept (given-first verdicts none-yet (table-short (omega arith))) refl refl refl
 
     pub no-corner-room : length croom < n * 3 → Delivered n m xs t troom troom croom croom (sheet.Refused RoomShort)
-    unfolding First skin-refusals
-    no-corner-room h = kept (inl (corners-short (omega arith), refl)) refl refl refl
+    unfolding skin-refusals
+    no-corner-room h = kept (given-first verdicts none-yet (corners-short (omega arith))) refl refl refl
 
     module _ (troom-fits : m * 3 ≤ length troom) (croom-fits : n * 3 ≤ length croom) where
       room-enough : ¬ NoRoom troom croom xs t
       room-enough (table-short h) = omega arith
       room-enough (corners-short h) = omega arith
 
-      pub after-room : (v : Verdict) → First (lines-at true xs t) v → First (skin-refusals troom croom xs t) v
-      unfolding First skin-refusals
-      after-room v k = inr (room-enough, after-2-at true xs t v library-fits k)
+      pub after-room : (v : Verdict) → First (refusals-at true xs t) v → First (skin-refusals troom croom xs t) v
+      unfolding skin-refusals
+      after-room v k = rest-decides verdicts (room-enough nor none-yet) v (after-2-at true xs t v library-fits k)
 
       pub refused-skin : (v : Verdict) (r : Refusal) → CheckedFirst xs t v → v ≡ Refused r → Delivered n m xs t troom troom croom croom (sheet.Refused r)
       refused-skin v r k e = kept (subst (First (skin-refusals troom croom xs t)) e (after-room v (k .holds))) refl refl refl

@@ -1,12 +1,12 @@
 -- The lines after the first one: why each way out of their reader is right.
 use mathlib.Core.Path.{_≡_, sym, _∙_, ap, subst}
 use mathlib.Core.List.{List, [], _++_, append-nil, map}
-use Prim.Native.Nat.{ℕ, _+_, _*_, _≤_, _<_}
+use Prim.Native.Nat.{ℕ, _*_, _≤_, _<_}
 use native.Mathlib.Omega.{arith}
 use lib.IntN.{ℤ, pos}
 use lib.ListN.{length, take, drop, length-drop, length-map, drop-of-length-le}
 use lib.Seq.{sets}
-use Rattle.lines.specs.Lines.{lines, Short, LinesAt, PutFrom}
+use Rattle.lines.specs.Lines.{lines, FewDigits, LinesAt, PutFrom}
 use Rattle.lines.proofs.Cut.{lines-unique}
 use Rattle.sheet.specs.Limits.{most-digits}
 use Rattle.sheet.specs.Form.{C, R, corner-lines, row-lines}
@@ -60,7 +60,7 @@ module _ (s : List ℕ) (at n m : ℕ) where
               corners = p .count;
               rows = sym (length-map (a .ns) pos) ∙ sym (ap length w) ∙ q .count;
               corners-short = p .here .short;
-              rows-short = subst (Short most-digits) w (q .here .short);
+              rows-short = subst (FewDigits most-digits) w (q .here .short);
             };
             put-corners = x ∙ ap (sets xroom 0) (corners-front h);
             put-rows = a .put;

@@ -2,7 +2,7 @@
 use mathlib.Core.Path.{_≡_, refl, sym, _∙_, ap, subst}
 use mathlib.Core.Logic.{_⊎_, inl, inr}
 use mathlib.Core.List.{List, [], _∷_, _++_, append-nil, map}
-use Prim.Native.Nat.{ℕ, _+_, _*_}
+use Prim.Native.Nat.{ℕ, _*_}
 use native.Mathlib.Omega.{arith}
 use lib.IntN.{ℤ, pos}
 use lib.ListN.{length, drop, length-map}
@@ -12,7 +12,7 @@ use Rattle.refusal.specs.Told as answers
 use Rattle.refusal.specs.declared.Refusal.{Refusal}
 use Rattle.refusal.specs.declared.Verdict.{Verdict}
 use Rattle.refusal.specs.declared.Verdict.the-variants.{Passes, Refused}
-use Rattle.refusal.proofs.Laws.{first-one, refused-one, refused-passes}
+use Rattle.refusal.proofs.Laws.{first-one, refused-one, refused-passes, verdicts}
 use Rattle.lines.proofs.Cut.{lines-unique}
 use Rattle.sheet.specs.declared.Sheet.{Sheet}
 use Rattle.sheet.specs.declared.Sheet.the-variants as sheet
@@ -68,14 +68,14 @@ module _ (b : List ℕ) (troom : List ℕ) (croom : List ℤ) where
   moved {xs′ = xs′} {t = t} v s f = subst (λ k. First (skin-refusals troom croom xs′ k) v) (s .numbers) (subst (λ k. First (skin-refusals troom croom k t) v) (s .coordinates) f)
 
   pub one-outcome : {a a′ : Sheet} {t₁ t₂ : List ℕ} {c₁ c₂ : List ℤ} → ReadSheet b troom t₁ croom c₁ a → ReadSheet b troom t₂ croom c₂ a′ → SameOutcome a a′ t₁ t₂ c₁ c₂
-  one-outcome (bad-form f e p q) (bad-form g d u v) = record { answer = e ∙ ap sheet.Refused (refused-one (first-one (form-refusals b) f g)) ∙ sym d; table = p ∙ sym u; corners = q ∙ sym v }
-  one-outcome (bad-form f e p q) (bad-skin g s k d u v) = refused-passes (first-one (form-refusals b) f g)
-  one-outcome (bad-form f e p q) (read g s k w d u v) = refused-passes (first-one (form-refusals b) f g)
-  one-outcome (bad-skin g s k d u v) (bad-form f e p q) = refused-passes (first-one (form-refusals b) f g)
-  one-outcome (bad-skin {r = r} f s k e p q) (bad-skin {xs = xs′} {t = t′} g s′ k′ d u v) = record { answer = e ∙ ap sheet.Refused (refused-one (first-one (skin-refusals troom croom xs′ t′) (moved (Refused r) (one-skin s s′) k) k′)) ∙ sym d; table = p ∙ sym u; corners = q ∙ sym v }
-  one-outcome (bad-skin {r = r} f s k e p q) (read {xs = xs′} {t = t′} g s′ k′ w d u v) = refused-passes (first-one (skin-refusals troom croom xs′ t′) (moved (Refused r) (one-skin s s′) k) k′)
-  one-outcome (read g s k w d u v) (bad-form f e p q) = refused-passes (first-one (form-refusals b) f g)
-  one-outcome (read f s k w d u v) (bad-skin {xs = xs′} {t = t′} g s′ k′ e p q) = refused-passes (first-one (skin-refusals troom croom xs′ t′) k′ (moved Passes (one-skin s s′) k))
+  one-outcome (bad-form f e p q) (bad-form g d u v) = record { answer = e ∙ ap sheet.Refused (refused-one (first-one verdicts (form-refusals b) f g)) ∙ sym d; table = p ∙ sym u; corners = q ∙ sym v }
+  one-outcome (bad-form f e p q) (bad-skin g s k d u v) = refused-passes (first-one verdicts (form-refusals b) f g)
+  one-outcome (bad-form f e p q) (read g s k w d u v) = refused-passes (first-one verdicts (form-refusals b) f g)
+  one-outcome (bad-skin g s k d u v) (bad-form f e p q) = refused-passes (first-one verdicts (form-refusals b) f g)
+  one-outcome (bad-skin {r = r} f s k e p q) (bad-skin {xs = xs′} {t = t′} g s′ k′ d u v) = record { answer = e ∙ ap sheet.Refused (refused-one (first-one verdicts (skin-refusals troom croom xs′ t′) (moved (Refused r) (one-skin s s′) k) k′)) ∙ sym d; table = p ∙ sym u; corners = q ∙ sym v }
+  one-outcome (bad-skin {r = r} f s k e p q) (read {xs = xs′} {t = t′} g s′ k′ w d u v) = refused-passes (first-one verdicts (skin-refusals troom croom xs′ t′) (moved (Refused r) (one-skin s s′) k) k′)
+  one-outcome (read g s k w d u v) (bad-form f e p q) = refused-passes (first-one verdicts (form-refusals b) f g)
+  one-outcome (read f s k w d u v) (bad-skin {xs = xs′} {t = t′} g s′ k′ e p q) = refused-passes (first-one verdicts (skin-refusals troom croom xs′ t′) k′ (moved Passes (one-skin s s′) k))
   one-outcome (read f s k w d u v) (read g s′ k′ w′ e p q) =
       let o = one-skin s s′ in
       record {

@@ -5,7 +5,7 @@ use Prim.Native.Nat.{ℕ, _*_}
 use lib.IntN.{ℤ, pos}
 use lib.ListN.{length}
 use lib.Seq.{sets}
-use Rattle.lines.specs.Lines.{Short}
+use Rattle.lines.specs.Lines.{FewDigits}
 use Rattle.sheet.specs.Limits.{most-digits}
 use Rattle.sheet.specs.Form.{corner-lines, row-lines}
 
@@ -23,8 +23,8 @@ pub record BodyAt (l : List ℕ) (n m : ℕ) (xs : List ℤ) (t : List ℕ) : Ty
   pub text : l ≡ corner-lines n xs ++ row-lines m t
   pub corners : length xs ≡ n * 3
   pub rows : length t ≡ m * 3
-  pub corners-short : Short most-digits xs
-  pub rows-short : Short most-digits (map pos t)
+  pub corners-short : FewDigits most-digits xs
+  pub rows-short : FewDigits most-digits (map pos t)
 
 -- those lines read, each into its room
 pub record BodyRead (l : List ℕ) (n m : ℕ) (xroom xroom′ : List ℤ) (troom troom′ : List ℕ) : Type 0 where

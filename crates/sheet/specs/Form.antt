@@ -6,9 +6,9 @@ use Prim.Native.Nat.{ℕ, _*_, _≤_, _<_}
 use lib.IntN.{ℤ, pos}
 use lib.ListN.{length, drop}
 use Rattle.surface.specs.Limits.{least-rows, least-corners}
-use Rattle.refusal.specs.First.{Clause, _when_}
+use Rattle.refusal.specs.First.{Refusals, _when_}
 use Rattle.refusal.specs.declared.Refusal.the-variants.{SheetForm, CountsOutside}
-use Rattle.lines.specs.Lines.{line, lines, Short, LineAt}
+use Rattle.lines.specs.Lines.{line, lines, FewDigits, LineAt}
 use Rattle.sheet.specs.Limits.{most-sheet-bytes, most-sheet-rows, most-sheet-corners, most-digits}
 use Rattle.sheet.specs.declared.FirstLine.{FirstLine}
 use Rattle.sheet.specs.declared.FirstLine.the-variants.{Read, Bad}
@@ -57,9 +57,9 @@ pub record SheetOf (b : List ℕ) (n m : ℕ) (xs : List ℤ) (t : List ℕ) : T
   pub corners : length xs ≡ n * 3
   pub rows : length t ≡ m * 3
   -- one to six digits
-  pub counts-short : Short most-digits (pos n ∷ pos m ∷ [])
-  pub corners-short : Short most-digits xs
-  pub rows-short : Short most-digits (map pos t)
+  pub counts-short : FewDigits most-digits (pos n ∷ pos m ∷ [])
+  pub corners-short : FewDigits most-digits xs
+  pub rows-short : FewDigits most-digits (map pos t)
 
 -- the first line is not in its form
 abbrev pub NoFirstLine : List ℕ → Type 0
@@ -77,7 +77,7 @@ abbrev pub NoSheet : List ℕ → Type 0
 NoSheet b = (n m : ℕ) (xs : List ℤ) (t : List ℕ) → ¬ SheetOf b n m xs t
 
 -- "For a sheet this order replaces the table's: size, first line (12), counts (2), other lines (12), the rest."
-unfoldable pub form-refusals : List ℕ → List Clause
+unfoldable pub form-refusals : List ℕ → Refusals
 form-refusals b =
     (SheetForm when (most-sheet-bytes < length b))
     ∷ (SheetForm when NoFirstLine b)

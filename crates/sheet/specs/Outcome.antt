@@ -8,11 +8,11 @@ use lib.ListN.{length, drop}
 use lib.Seq.{sets}
 use Rattle.surface.specs.Rows.{rows}
 use Rattle.surface.specs.Stage.{Skin}
-use Rattle.refusal.specs.First.{Clause, _when_, First}
+use Rattle.refusal.specs.First.{Refusals, _when_, First}
 use Rattle.refusal.specs.declared.Refusal.{Refusal}
 use Rattle.refusal.specs.declared.Refusal.the-variants.{RoomShort}
 use Rattle.refusal.specs.declared.Verdict.the-variants as verdict
-use Rattle.faults.specs.Order.{lines-after-counts}
+use Rattle.faults.specs.Order.{refusals-after-counts}
 use Rattle.sheet.specs.declared.Sheet.{Sheet}
 use Rattle.sheet.specs.declared.Sheet.the-variants.{Read, Refused}
 use Rattle.sheet.specs.Form.{CountsIn, SheetOf, form-refusals}
@@ -23,8 +23,8 @@ pub data NoRoom (troom : List ℕ) (croom : List ℤ) (xs : List ℤ) (t : List 
   corners-short : length croom < length xs → NoRoom troom croom xs t
 
 -- the rest, of the corners and rows that the sheet holds: 3, then 4 to 11, with 9
-unfoldable pub skin-refusals : List ℕ → List ℤ → List ℤ → List ℕ → List Clause
-skin-refusals troom croom xs t = (RoomShort when NoRoom troom croom xs t) ∷ lines-after-counts true xs t
+unfoldable pub skin-refusals : List ℕ → List ℤ → List ℤ → List ℕ → Refusals
+skin-refusals troom croom xs t = (RoomShort when NoRoom troom croom xs t) ∷ refusals-after-counts true xs t
 
 -- reading a sheet b with the lent rooms troom and croom leaves troom′ and croom′, and answers a
 pub data ReadSheet (b : List ℕ) (troom troom′ : List ℕ) (croom croom′ : List ℤ) (a : Sheet) : Type 0 where

@@ -3,10 +3,10 @@ ghost use mathlib.Core.Path.{_≡_};
 ghost use Prim.Native.Nat.{_*_, _≤_, _<_};
 ghost use lib.ListN.{length, take, drop};
 ghost use lib.Seq.{sets};
-ghost use Rattle.lines.specs.Lines.{Short};
+ghost use Rattle.lines.specs.Lines.{FewDigits};
 ghost use Rattle.sheet.specs.Limits.{most-digits, most-sheet-corners, most-sheet-rows};
 ghost use Rattle.sheet.specs.Body.{Naturals, NoNaturals, BodyRead, NoBody};
-ghost use Rattle.faults.specs.Tells.{Tells};
+ghost use Rattle.refusal.specs.Tells.{Tells};
 ghost use Rattle.sheet.specs.Form.{ReadFirst, CountsIn};
 ghost use Rattle.sheet.specs.Outcome.{ReadForm, Delivered, ReadSheet};
 use refusal::Refusal;
@@ -91,7 +91,7 @@ fn first_line(bytes: &[u8]) -> FirstLine
 
 // Numbers of at most six digits as coordinates.
 fn to_coordinates(zs: &[i64], xs: &mut [i32], count: usize)
-    requires { ⌜ (count ≤ length (now zs)) × (count ≤ length (now xs)) × Short most-digits (take count (now zs)) ⌝ }
+    requires { ⌜ (count ≤ length (now zs)) × (count ≤ length (now xs)) × FewDigits most-digits (take count (now zs)) ⌝ }
     ensures { λ _. ⌜ now (xs .exit) ≡ sets (now (xs .entry)) 0 (take count (now (zs .entry))) ⌝ }
 {
     let mut i: usize = 0;
@@ -104,7 +104,7 @@ fn to_coordinates(zs: &[i64], xs: &mut [i32], count: usize)
 
 // The same as corner numbers, unless one has a minus.
 fn to_numbers(zs: &[i64], t: &mut [u32], count: usize) -> bool
-    requires { ⌜ (count ≤ length (now zs)) × (count ≤ length (now t)) × Short most-digits (take count (now zs)) ⌝ }
+    requires { ⌜ (count ≤ length (now zs)) × (count ≤ length (now t)) × FewDigits most-digits (take count (now zs)) ⌝ }
     ensures { λ r. ⌜ Tells r (Naturals (take count (now (zs .entry))) (now (t .entry)) (now (t .exit))) (NoNaturals (take count (now (zs .entry)))) ⌝ }
 {
     let mut i: usize = 0;

@@ -1,7 +1,7 @@
 -- 5 of a log, record by record; and the refusals of a shift in order.
-use mathlib.Core.Path.{_≡_, refl, subst}
+use mathlib.Core.Path.{subst}
 use mathlib.Core.Logic.{inl, inr}
-use mathlib.Core.List.{List}
+use mathlib.Core.List.{List, _∷_}
 use Prim.Native.Nat.{ℕ, _*_, _/_, _≤_, _<_}
 use native.Mathlib.Omega.{arith}
 use lib.IntN.{ℤ}
@@ -11,12 +11,13 @@ use Rattle.surface.specs.Stage.{InRange}
 use Rattle.refusal.specs.declared.Refusal.{Refusal}
 use Rattle.refusal.specs.declared.Refusal.the-variants.{CountsOutside, CoordinateOutOfRange, NumberNotBelow}
 use Rattle.refusal.specs.declared.Verdict.the-variants.{Passes, Refused}
-use Rattle.refusal.specs.First.{First}
+use Rattle.refusal.specs.First.{Clause, Refusals}
+use Rattle.refusal.proofs.Laws.{verdicts, given-first, passes-none, refused-passes, NoneBefore, none-yet, _nor_}
 use Rattle.record.specs.Layout.{width, record-at, records}
 use Rattle.faults.specs.Counts.{corners}
 use Rattle.faults.specs.Words.{OutOfRange}
 use Rattle.faults.proofs.Opposites.{in-or-out}
-use Rattle.shift.specs.Order.{ShiftFits, PastIn, kept-past, removed-past, BelowIn, Past, shift-lines, CheckedShift}
+use Rattle.shift.specs.Order.{ShiftFits, PastIn, kept-past, removed-past, BelowIn, Past, shift-refusals, CheckedShift}
 use Rattle.record.proofs.Places.{in-records, records-in}
 
 -- ---- 5 of a log
@@ -41,32 +42,33 @@ module _ (log : List ℕ) (n : ℕ) where
 
 -- ---- 2, 4 and 5 in order
 
-past-or-below : {n v : ℕ} {l : List Record} → Past n l v → v < n → BelowIn n l → ⊥
-past-or-below (inl h) a b = omega arith
-past-or-below (inr (kept-past m h)) a b = let k = b .kept m in omega arith
-past-or-below (inr (removed-past m h)) a b = let k = b .removed m in omega arith
+past-or-below : {n v : ℕ} {l : List Record} → v < n → BelowIn n l → ¬ Past n l v
+past-or-below a b (inl h) = omega arith
+past-or-below a b (inr (kept-past m h)) = let k = b .kept m in omega arith
+past-or-below a b (inr (removed-past m h)) = let k = b .removed m in omega arith
 
 module _ (xs : List ℤ) (log : List ℕ) (v : ℕ) where
-  refused : (a : Refusal) → First (shift-lines xs log v) (Refused a) → CheckedShift xs log v (Refused a)
-  refused a f = record { holds = f; clear = λ e. let z : _≡_ {A = ℕ} 0 1 = cc in absurd (omega arith) }
+  -- by a line that is given, where none before it is
+  refuse : {c : Clause Refusal} {m : Refusals} → NoneBefore (c ∷ m) (shift-refusals xs log v) → c .given → CheckedShift xs log v (Refused (c .refusal))
+  refuse h g = record { holds = given-first verdicts h g; clear = λ e. refused-passes e }
 
   pub refuse-2 : (¬ ShiftFits xs log) → CheckedShift xs log v (Refused CountsOutside)
-  unfolding First shift-lines
-  refuse-2 p = refused _ (inl (p, refl))
+  unfolding shift-refusals
+  refuse-2 p = refuse none-yet p
 
   module _ (fit : ShiftFits xs log) where
     pub refuse-4 : OutOfRange xs → CheckedShift xs log v (Refused CoordinateOutOfRange)
-    unfolding First shift-lines
-    refuse-4 p = refused _ (inr (λ n. n fit, inl (p, refl)))
+    unfolding shift-refusals
+    refuse-4 p = refuse ((λ n. n fit) nor none-yet) p
 
     module _ (range : InRange xs) where
       pub refuse-5 : Past (corners xs) (records log) v → CheckedShift xs log v (Refused NumberNotBelow)
-      unfolding First shift-lines
-      refuse-5 p = refused _ (inr (λ n. n fit, inr (λ o. in-or-out o range, inl (p, refl))))
+      unfolding shift-refusals
+      refuse-5 p = refuse ((λ n. n fit) nor in-or-out range nor none-yet) p
 
       pub all-clear : v < corners xs → BelowIn (corners xs) (records log) → CheckedShift xs log v Passes
-      unfolding First shift-lines
+      unfolding shift-refusals
       all-clear a b = record {
-        holds = inr (λ n. n fit, inr (λ o. in-or-out o range, inr (λ p. past-or-below p a b, refl)));
+        holds = passes-none verdicts _ .1 ((λ n. n fit) nor in-or-out range nor past-or-below a b nor none-yet);
         clear = λ e. record { fits = fit; in-range = range; asked = a; below = b };
       }

@@ -9,8 +9,8 @@ use lib.ListN.{length, drop}
 use lib.Seq.{drop-length}
 use Rattle.surface.specs.Record.{Record}
 use Rattle.surface.proofs.Renumber.{replace-at, replace-off}
-use Rattle.record.specs.declared.Edge.{Edge}
-use Rattle.record.specs.Layout.{width, record-at, records, IsEdge}
+use Rattle.record.specs.declared.Contracted.{Contracted}
+use Rattle.record.specs.Layout.{width, record-at, records, IsContracted}
 use Rattle.shift.specs.StandIn.{counted, stand-in, moves}
 use Rattle.record.proofs.Places.{records-length, records-from}
 
@@ -57,7 +57,7 @@ module _ {log : List ℕ} {v : ℕ} where
 
   module _ {at moved j : ℕ} (f : Following log v at moved j) where
     -- one record more, which moves the stand-in or does not
-    pub follow-moved : j < length log / width → {e : Edge} → IsEdge (record-at log (width * j)) e → e .removed .0 ≡ at → Following log v (e .kept .0) (moved + 1) (j + 1)
+    pub follow-moved : j < length log / width → {e : Contracted} → IsContracted (record-at log (width * j)) e → e .removed .0 ≡ at → Following log v (e .kept .0) (moved + 1) (j + 1)
     follow-moved h {e} is here =
         let r = records-from log j h in
         let m = moved-on (record-at log (width * j)) (drop (j + 1) (records log)) (sym here ∙ is .removed) in
@@ -66,7 +66,7 @@ module _ {log : List ℕ} {v : ℕ} where
         let l = f .few in
         rw (is .kept) (record { inside = omega arith; few = omega arith; place = sym (m .0) ∙ p; count = let z = m .1 in omega arith })
 
-    pub follow-stayed : j < length log / width → {e : Edge} → IsEdge (record-at log (width * j)) e → e .removed .0 ≢ at → Following log v at moved (j + 1)
+    pub follow-stayed : j < length log / width → {e : Contracted} → IsContracted (record-at log (width * j)) e → e .removed .0 ≢ at → Following log v at moved (j + 1)
     follow-stayed h {e} is there =
         let r = records-from log j h in
         let m = stayed (record-at log (width * j)) (drop (j + 1) (records log)) (λ z. there (is .removed ∙ sym z)) in

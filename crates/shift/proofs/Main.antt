@@ -15,8 +15,8 @@ use Rattle.surface.specs.Record.{Record, Replayed}
 use Rattle.surface.proofs.Counted.{used-new}
 use Rattle.surface.proofs.Linked.{opposite}
 use Rattle.refusal.specs.Told.{Told}
-use Rattle.refusal.proofs.Laws.{first-one}
-use Rattle.answer.proofs.Laws.{refused-one, refused-done, outcome-one}
+use Rattle.refusal.proofs.Laws.{first-one, verdicts}
+use Rattle.refusal.proofs.Outcome.{tells-refusal, refused-done, outcome-one}
 use Rattle.record.specs.Layout.{log-of}
 use Rattle.record.proofs.Log.{log-length, records-log}
 use Rattle.faults.specs.Counts.{corners}
@@ -46,11 +46,11 @@ told-one (StandIn v k d) (StandIn w j e) h =
     λ i. StandIn (record { 0 = ev i }) (ek i) (ed i)
 told-one (StandIn v k d) (Refused s) h = absurd (refused-done s (sym h))
 told-one (Refused r) (StandIn w j e) h = absurd (refused-done r h)
-told-one (Refused r) (Refused s) h = ap Refused (refused-one h)
+told-one (Refused r) (Refused s) h = ap Refused (tells-refusal h)
 
 -- no second answer meets the words of `shift`
 pub shift-one : {xs : List ℤ} {log : List ℕ} {v : ℕ} (a b : Shifted) → ShiftReport xs log v (told a) → ShiftReport xs log v (told b) → a ≡ b
-shift-one a b p q = told-one a b (outcome-one _ (first-one _ (p .first) (q .first)) (p .tells) (q .tells))
+shift-one a b p q = told-one a b (outcome-one _ (first-one verdicts _ (p .first) (q .first)) (p .tells) (q .tells))
 
 -- ---- the shift bound
 
@@ -76,11 +76,6 @@ module _ {P : ℕ → ℕ → Type 0} (xs : List ℤ) (L : ℕ) (within : (a b :
       let c = onward-chain v l (chain-none refl) (λ k m. within (k .kept) (k .removed) (taken-allowed t m .0)) in
       let e : 0 + moves v l ≡ moves v l = omega arith in
       chain-bound (rw e at c)
-
--- and for any beginning of such a log
-pub shift-bound-begun : {P : ℕ → ℕ → Type 0} (xs : List ℤ) (L : ℕ) → ((a b : ℕ) → P a b → Short xs L a b) → {T T′ : List Row} (l m : List Record) → Taken P T (l ++ m) T′ →
-    (v : ℕ) → squared-distance xs v (stand-in v l) ≤ moves v l * moves v l * L * L
-shift-bound-begun xs L within l m t v = shift-bound xs L within (taken-cut l t .1) v
 
 -- ---- stand-ins in use
 

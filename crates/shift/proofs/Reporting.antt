@@ -10,7 +10,7 @@ use Rattle.refusal.specs.declared.Refusal.{Refusal}
 use Rattle.refusal.specs.declared.Verdict.{Verdict}
 use Rattle.refusal.specs.declared.Verdict.the-variants.{Passes, Refused}
 use Rattle.refusal.specs.Told.{done, refused}
-use Rattle.answer.proofs.Laws.{passing, refusing}
+use Rattle.refusal.proofs.Outcome.{passing, refusing}
 use Rattle.record.specs.Layout.{records}
 use Rattle.faults.specs.Counts.{corners}
 use Rattle.figure.specs.Corners.{Has, squared-distance}

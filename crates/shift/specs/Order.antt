@@ -10,7 +10,7 @@ use Rattle.surface.specs.Record.{Record}
 use Rattle.refusal.specs.declared.Verdict.{Verdict}
 use Rattle.refusal.specs.declared.Verdict.the-variants.{Passes}
 use Rattle.refusal.specs.declared.Refusal.the-variants.{CountsOutside, CoordinateOutOfRange, NumberNotBelow}
-use Rattle.refusal.specs.First.{Clause, _when_, First}
+use Rattle.refusal.specs.First.{Refusals, _when_, First}
 use Rattle.record.specs.Layout.{records, WholeRecords}
 use Rattle.faults.specs.Counts.{CoordinatesFit, corners}
 use Rattle.faults.specs.Words.{OutOfRange}
@@ -35,8 +35,8 @@ abbrev pub Past : ℕ → List Record → ℕ → Type 0
 Past n l v = (n ≤ v) ⊎ PastIn n l
 
 -- the shift report refuses by 2, 4 and 5 only
-unfoldable pub shift-lines : List ℤ → List ℕ → ℕ → List Clause
-shift-lines xs log v =
+unfoldable pub shift-refusals : List ℤ → List ℕ → ℕ → Refusals
+shift-refusals xs log v =
     (CountsOutside when (¬ ShiftFits xs log)) ∷ (CoordinateOutOfRange when OutOfRange xs) ∷ (NumberNotBelow when Past (corners xs) (records log) v) ∷ []
 
 -- none of them holds
@@ -48,5 +48,5 @@ pub record Clear (xs : List ℤ) (log : List ℕ) (v : ℕ) : Type 0 where
 
 -- the verdict: the first that holds, or that none does
 pub record CheckedShift (xs : List ℤ) (log : List ℕ) (v : ℕ) (a : Verdict) : Type 0 where
-  pub holds : First (shift-lines xs log v) a
+  pub holds : First (shift-refusals xs log v) a
   pub clear : a ≡ Passes → Clear xs log v

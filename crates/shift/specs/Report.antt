@@ -6,14 +6,14 @@ use lib.IntN.{ℤ, pos}
 use Rattle.refusal.specs.declared.Verdict.{Verdict}
 use Rattle.refusal.specs.First.{First}
 use Rattle.refusal.specs.Told.{Told}
-use Rattle.answer.specs.Outcome.{outcome}
+use Rattle.refusal.specs.Outcome.{outcome}
 use Rattle.record.specs.declared.Corner.{Corner}
 use Rattle.record.specs.Layout.{records}
 use Rattle.figure.specs.Corners.{squared-distance}
 use Rattle.shift.specs.declared.Shifted.{Shifted}
 use Rattle.shift.specs.declared.Shifted.the-variants.{StandIn}
 use Rattle.shift.specs.StandIn.{stand-in, moves}
-use Rattle.shift.specs.Order.{shift-lines}
+use Rattle.shift.specs.Order.{shift-refusals}
 
 -- the shift report gives stand-in, count and squared distance
 unfoldable pub shift-of : List ℤ → List ℕ → ℕ → List ℤ
@@ -22,7 +22,7 @@ shift-of xs log v = pos (stand-in v (records log)) ∷ pos (moves v (records log
 -- the first of 2, 4 and 5 that holds, and where none does, stand-in, count and squared distance
 pub record ShiftReport (xs : List ℤ) (log : List ℕ) (v : ℕ) (a : Told) : Type 0 where
   pub verdict : Verdict
-  pub first : First (shift-lines xs log v) verdict
+  pub first : First (shift-refusals xs log v) verdict
   pub tells : a ≡ outcome verdict (shift-of xs log v)
 
 -- the answer is a stand-in whose squared distance is at most k x k x L x L, k being the count

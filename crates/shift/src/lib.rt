@@ -1,7 +1,7 @@
 // The shift report: where a log has led a corner, in how many steps, and how far. Nothing is written.
 ghost use mathlib.Core.Path.{_≡_};
 ghost use Rattle.record.specs.Layout.{records};
-ghost use Rattle.faults.specs.Tells.{Tells};
+ghost use Rattle.refusal.specs.Tells.{Tells};
 ghost use Rattle.shift.specs.StandIn.{stand-in, moves};
 ghost use Rattle.shift.specs.Order.{ShiftFits, PastIn, BelowIn, CheckedShift};
 ghost use Rattle.shift.specs.Answer.{told};
@@ -39,7 +39,7 @@ fn past_in(log: &[u32], n: usize) -> bool
     let count = log.len() / record::WIDTH;
     let mut j: usize = 0;
     while j < count {
-        let e = record::read_edge(log, record::WIDTH * j);
+        let e = record::read_contracted(log, record::WIDTH * j);
         if n <= e.kept.0 as usize {
             return true;
         }
@@ -80,7 +80,7 @@ fn follow(log: &[u32], corner: u32) -> Followed
     let mut moved: usize = 0;
     let mut j: usize = 0;
     while j < count {
-        let e = record::read_edge(log, record::WIDTH * j);
+        let e = record::read_contracted(log, record::WIDTH * j);
         if e.removed.0 == at {
             at = e.kept.0;
             moved += 1;

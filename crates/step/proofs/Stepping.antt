@@ -19,14 +19,14 @@ use Rattle.record.specs.declared.Corner.{Corner}
 use Rattle.record.specs.declared.Leaving.{Leaving}
 use Rattle.record.specs.declared.Record.{Record}
 use Rattle.step.specs.Flat.{after}
-use Rattle.step.specs.Step.{Ready, row-at, SomeLeaves, NextLeaving, Recorded, Stepped}
+use Rattle.step.specs.Step.{MayStep, row-at, SomeLeaves, NextLeaving, Recorded, Stepped}
 use Rattle.step.proofs.Moving.{after-rows, after-threes}
 use Rattle.step.proofs.Leave.{leaving-two}
 
 pub table-most : {n : ℕ} {t : List ℕ} → StageTable n t → length t ≤ 3 * most-rows
 table-most w = let e = w .count in let h = w .stage .most in omega arith
 
-module _ (t : List ℕ) (a b : ℕ) (g : Ready t a b) where
+module _ (t : List ℕ) (a b : ℕ) (g : MayStep t a b) where
   abbrev T : List Row
   T = rows t
 

@@ -13,7 +13,7 @@ use Rattle.record.specs.declared.Record.{Record}
 use Rattle.record.specs.Layout.{meant}
 
 -- the flat table t is a stage, and the edge from a up to b may be contracted
-pub record Ready (t : List ℕ) (a b : ℕ) : Type 0 where
+pub record MayStep (t : List ℕ) (a b : ℕ) : Type 0 where
   pub corners : ℕ
   pub table : StageTable corners t
   pub rises : a < b

@@ -10,8 +10,8 @@ ghost use lib.ListN.{length, take, replicate};
 ghost use lib.Seq.{sets};
 ghost use Rattle.surface.specs.Limits.{most-rows};
 ghost use Rattle.step.specs.Flat.{has, swap, leaves, after, Moved};
-ghost use Rattle.step.specs.Step.{Ready, NextLeaving, SomeLeaves, Recorded, Stepped};
-ghost use Rattle.record.specs.Front.{front};
+ghost use Rattle.step.specs.Step.{MayStep, NextLeaving, SomeLeaves, Recorded, Stepped};
+ghost use Rattle.record.specs.Front.{front-rows};
 ghost use Rattle.step.specs.Front.{SteppedFront};
 
 // Whether a row holds a number.
@@ -116,7 +116,7 @@ fn next_leaving(t: &[u32], from: Place, a: u32, b: u32) -> Leaving
 
 // Inner: the record of contracting the edge; nothing is written.
 pub fn record_of(t: &[u32], kept: Corner, removed: Corner) -> Record
-    requires { ⌜ Ready (now t) (kept .0) (removed .0) ⌝ }
+    requires { ⌜ MayStep (now t) (kept .0) (removed .0) ⌝ }
     ensures { λ r. ⌜ Recorded (now (t .entry)) (kept .0) (removed .0) r ⌝ }
 {
     let earlier = next_leaving(t, Place(0), kept.0, removed.0);
@@ -131,7 +131,7 @@ pub fn record_of(t: &[u32], kept: Corner, removed: Corner) -> Record
 
 // Contracts the edge in place, and tells its record.
 fn contract(t: &mut [u32], kept: Corner, removed: Corner) -> Record
-    requires { ⌜ Ready (now t) (kept .0) (removed .0) ⌝ }
+    requires { ⌜ MayStep (now t) (kept .0) (removed .0) ⌝ }
     ensures { λ r. ⌜ Stepped (now (t .entry)) (kept .0) (removed .0) r (now (t .exit)) ⌝ }
 {
     let r = record_of(t, kept, removed);
@@ -143,7 +143,7 @@ fn contract(t: &mut [u32], kept: Corner, removed: Corner) -> Record
 // Inner: the step on the first rows of a lent table.
 pub fn contract_front(table: &mut [u32], rows: usize, kept: Corner, removed: Corner) -> Record
     requires { ⌜ 3 * rows ≤ length (now table) ⌝ }
-    requires { ⌜ Ready (front rows (now table)) (kept .0) (removed .0) ⌝ }
+    requires { ⌜ MayStep (front-rows rows (now table)) (kept .0) (removed .0) ⌝ }
     ensures { λ k. ⌜ SteppedFront (now (table .entry)) rows (kept .0) (removed .0) k (now (table .exit)) ⌝ }
 {
     let end = 3 * rows;

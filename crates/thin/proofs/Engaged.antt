@@ -28,13 +28,13 @@ use Rattle.length.proofs.Laws.{limit-most}
 use Rattle.least.specs.declared.Bound.{Bound}
 use Rattle.least.specs.declared.Bound.the-variants.{Free, Within}
 use Rattle.least.specs.Limited.{Allowed, Measurable}
-use Rattle.record.specs.Front.{front}
-use Rattle.engine.specs.Engine.{Ready, WentOn}
+use Rattle.record.specs.Front.{front-rows}
+use Rattle.engine.specs.Engine.{CanGoOn, WentOn}
 use Rattle.thin.specs.declared.Asked.{Asked}
 use Rattle.thin.specs.declared.Asked.the-variants.{Under}
 use Rattle.thin.specs.declared.Thinning.the-variants.{Done, Refused}
 use Rattle.thin.specs.Order.{asked-by}
-use Rattle.thin.specs.Thin.{Fair, Judged, ThinnedAs, refused, done}
+use Rattle.thin.specs.Thin.{Fair, JudgedThinning, ThinnedAs, refused, done}
 
 -- no more corners are used than there are
 used-most : {n v : ℕ} {T : List Row} → Stage n T → Exactly (Used T) v → v ≤ n
@@ -44,17 +44,17 @@ used-most {n} s c =
     let k = upto-length n in
     omega arith
 
-module _ (a : Asked) (xs : List ℤ) (t : List ℕ) (room : ℕ) (j : Judged a xs t room Passes) where
+module _ (a : Asked) (xs : List ℤ) (t : List ℕ) (room : ℕ) (j : JudgedThinning a xs t room Passes) where
   threes : length t % 3 ≡ 0
   threes = j .fits refl .table .threes
 
   whole : 3 * (length t / 3) ≡ length t
   whole = let h = threes in omega arith
 
-  all : front (length t / 3) t ≡ t
+  all : front-rows (length t / 3) t ≡ t
   all = take-all (3 * (length t / 3)) t (omega (arith, whole))
 
-  pub thin-ready : (l : List ℕ) → length l ≡ room → Ready (corners xs) t (length t / 3) l 0
+  pub thin-ready : (l : List ℕ) → length l ≡ room → CanGoOn (corners xs) t (length t / 3) l 0
   thin-ready l e = record {
     inside = omega (arith, whole);
     table = rw all (record { count = sym (whole-rows t threes); stage = j .skin refl .stage });
@@ -83,7 +83,7 @@ module _ (a : Asked) (xs : List ℤ) (t : List ℕ) (room : ℕ) (j : Judged a x
       rest : drop (3 * (length t / 3)) t ≡ []
       rest = ap (λ m. drop m t) whole ∙ drop-length t
 
-pub thin-refused : {a : Asked} {xs : List ℤ} {t l : List ℕ} {room : ℕ} {r : Refusal} → Judged a xs t room (verdict.Refused r) → length l ≡ room → ThinnedAs a xs t l (Refused r) t l
+pub thin-refused : {a : Asked} {xs : List ℤ} {t l : List ℕ} {room : ℕ} {r : Refusal} → JudgedThinning a xs t room (verdict.Refused r) → length l ≡ room → ThinnedAs a xs t l (Refused r) t l
 thin-refused {r = r} j e = refused {e = r} (rw e (j .holds)) refl refl refl
 
 -- the limit reader gives a fair bound

@@ -17,8 +17,7 @@ use Rattle.refusal.specs.declared.Verdict.the-variants.{Passes}
 use Rattle.refusal.specs.declared.Verdict.the-variants as verdict
 use Rattle.refusal.specs.First.{First}
 use Rattle.refusal.specs.Told as answers
-use Rattle.refusal.proofs.Laws.{first-one, refused-one, refused-passes}
-use Rattle.verdicts.proofs.Laws.{first-before, passed}
+use Rattle.refusal.proofs.Laws.{first-one, refused-one, refused-passes, verdicts, rest-decides, passed, none-yet, _nor_}
 use Rattle.faults.specs.Counts.{CountsFitAt, corners}
 use Rattle.faults.proofs.Opposites.{stage-rows, stage-corners}
 use Rattle.faults.proofs.Order.{after-2-at, skin-passes}
@@ -32,7 +31,7 @@ use Rattle.thin.specs.declared.Asked.the-variants.{Under, NoUse}
 use Rattle.thin.specs.declared.Thinning.{Thinning}
 use Rattle.thin.specs.declared.Thinning.the-variants.{Done, Refused}
 use Rattle.thin.specs.Answer.{told}
-use Rattle.thin.specs.Thin.{need, thin-lines, ThinnedAs, refused, done}
+use Rattle.thin.specs.Thin.{log-need, thin-refusals, ThinnedAs, refused, done}
 use Rattle.thin.specs.Run.{RunOf, KeptAfter}
 
 under-one : {b c : Bound} → Under b ≡ Under c → b ≡ c
@@ -40,9 +39,9 @@ under-one e = cc
 
 -- no second outcome satisfies the same words
 pub thinned-one : {k : Asked} {xs : List ℤ} {t l : List ℕ} {a a₂ : Thinning} {t′ t₂ l′ l₂ : List ℕ} → ThinnedAs k xs t l a t′ l′ → ThinnedAs k xs t l a₂ t₂ l₂ → (a ≡ a₂) × (t′ ≡ t₂) × (l′ ≡ l₂)
-thinned-one (refused f ea et el) (refused f₂ ea₂ et₂ el₂) = (ea ∙ ap Refused (refused-one (first-one _ f f₂)) ∙ sym ea₂, et ∙ sym et₂, el ∙ sym el₂)
-thinned-one (refused f ea et el) (done f₂ _ _ _ _ _ _) = refused-passes (first-one _ f f₂)
-thinned-one (done f _ _ _ _ _ _) (refused f₂ ea et el) = refused-passes (first-one _ f₂ f)
+thinned-one (refused f ea et el) (refused f₂ ea₂ et₂ el₂) = (ea ∙ ap Refused (refused-one (first-one verdicts _ f f₂)) ∙ sym ea₂, et ∙ sym et₂, el ∙ sym el₂)
+thinned-one (refused f ea et el) (done f₂ _ _ _ _ _ _) = refused-passes (first-one verdicts _ f f₂)
+thinned-one (done f _ _ _ _ _ _) (refused f₂ ea et el) = refused-passes (first-one verdicts _ f₂ f)
 thinned-one {xs = xs} {t = t} {l = l} (done {b = b} f s eb r ea et el) (done {b = c} f₂ s₂ ec r₂ ea₂ et₂ el₂) =
     let e = under-one (sym eb ∙ ec) in
     let k = run-one (rw e at r) r₂ in
@@ -58,9 +57,9 @@ pub done-refused : {X : Type 0} {k : ℕ} {r : Refusal} → Done k ≡ Refused r
 done-refused e = let z : _≡_ {A = ℕ} 0 1 = cc in absurd (omega arith)
 
 -- a skin with room and a usable limit or none passes
-pub thin-passes : {a : Asked} {xs : List ℤ} (t : List ℕ) {room : ℕ} → ¬ (a ≡ NoUse) → length t % 3 ≡ 0 → Skin (corners xs) (rows t) xs → need xs ≤ room → First (thin-lines a xs t room) Passes
-thin-passes {a} {xs} t {room} u threes s h = unfold thin-lines in
-    first-before _ _ _ u (first-before _ _ _ (λ k. k fits) (first-before _ _ _ (λ k. omega arith) (after-2-at true xs t Passes fits (skin-passes t threes (corners xs) xs s))))
+pub thin-passes : {a : Asked} {xs : List ℤ} (t : List ℕ) {room : ℕ} → ¬ (a ≡ NoUse) → length t % 3 ≡ 0 → Skin (corners xs) (rows t) xs → log-need xs ≤ room → First (thin-refusals a xs t room) Passes
+thin-passes {a} {xs} t {room} u threes s h = unfold thin-refusals in
+    rest-decides verdicts (u nor (λ k. k fits) nor (λ k. omega arith) nor none-yet) Passes (after-2-at true xs t Passes fits (skin-passes t threes (corners xs) xs s))
   where
     fits : CountsFitAt xs t
     fits = record {
@@ -69,15 +68,15 @@ thin-passes {a} {xs} t {room} u threes s h = unfold thin-lines in
     }
 
 -- with room and a usable limit or none, every skin is accepted
-pub accepted : {a : Asked} {xs : List ℤ} {t l : List ℕ} {r : Thinning} {t′ l′ : List ℕ} → ¬ (a ≡ NoUse) → length t % 3 ≡ 0 → Skin (corners xs) (rows t) xs → need xs ≤ length l →
+pub accepted : {a : Asked} {xs : List ℤ} {t l : List ℕ} {r : Thinning} {t′ l′ : List ℕ} → ¬ (a ≡ NoUse) → length t % 3 ≡ 0 → Skin (corners xs) (rows t) xs → log-need xs ≤ length l →
     ThinnedAs a xs t l r t′ l′ → (k : ℕ) × (r ≡ Done k)
-accepted u threes s room (refused f er et el) = refused-passes (first-one _ f (thin-passes _ u threes s room))
+accepted u threes s room (refused f er et el) = refused-passes (first-one verdicts _ f (thin-passes _ u threes s room))
 accepted u threes s room (done {log = log} f z eb r er et el) = (length log, er)
 
 -- what passes is made of whole rows
-passes-whole : (a : Asked) (xs : List ℤ) (t : List ℕ) (room : ℕ) → First (thin-lines a xs t room) Passes → length t % 3 ≡ 0
-unfolding thin-lines
-passes-whole a xs t room f = go (passed _ _ (passed _ _ f .1) .0) (ℕ-discrete (length t % 3) 0)
+passes-whole : (a : Asked) (xs : List ℤ) (t : List ℕ) (room : ℕ) → First (thin-refusals a xs t room) Passes → length t % 3 ≡ 0
+unfolding thin-refusals
+passes-whole a xs t room f = go (passed verdicts _ _ (passed verdicts _ _ f .1) .0) (ℕ-discrete (length t % 3) 0)
   where
     go : ¬ ¬ CountsFitAt xs t → Dec (length t % 3 ≡ 0) → length t % 3 ≡ 0
     go c (yes e) = e
@@ -118,8 +117,8 @@ thinned-kept w p q e = let c = taken-cut p (rw e at (w .run .taken)) in (c .0, c
 
 -- the answer tells the first refusal that holds, and else 0 and how many records were written
 pub thin-told : {a : Asked} {xs : List ℤ} {t l : List ℕ} {r : Thinning} {t′ l′ : List ℕ} → ThinnedAs a xs t l r t′ l′ →
-    ((e : Refusal) × First (thin-lines a xs t (length l)) (verdict.Refused e) × (told r ≡ answers.refused e))
-    ⊎ (First (thin-lines a xs t (length l)) Passes × (k : ℕ) × (r ≡ Done k) × (told r ≡ answers.done (pos k ∷ [])))
+    ((e : Refusal) × First (thin-refusals a xs t (length l)) (verdict.Refused e) × (told r ≡ answers.refused e))
+    ⊎ (First (thin-refusals a xs t (length l)) Passes × (k : ℕ) × (r ≡ Done k) × (told r ≡ answers.done (pos k ∷ [])))
 thin-told (refused {e = e} f er et el) = inl (e, f, ap told er)
 thin-told (done {log = log} f s eb r er et el) = inr (f, length log, er, ap told er)
 

@@ -1,4 +1,4 @@
--- What a thinning that is done comes to.
+-- The run that a thinning which is done comes to, and what its steps keep.
 use mathlib.Core.Path.{_≡_}
 use mathlib.Core.List.{List, _++_}
 use Prim.Native.Nat.{ℕ, _+_, _*_, _%_}
@@ -33,7 +33,7 @@ pub record RunOf (a : Asked) (xs : List ℤ) (t l : List ℕ) (k : ℕ) (t′ l�
   pub table : t′ ≡ zeroed last t
   pub logged : l′ ≡ log-of log ++ drop (room-for (length log)) l
 
--- after each beginning of the log a stage stands, of the same Euler number, with 2 k fewer rows and k fewer corners used
+-- what k steps from T, with the records l, leave: a stage of the same Euler number, with 2 k fewer rows and k fewer corners used
 pub record KeptAfter (n : ℕ) (T : List Row) (l : List Record) (T₁ : List Row) : Type 0 where
   pub stage : Stage n T₁
   -- the Euler number is there, and the same

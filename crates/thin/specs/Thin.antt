@@ -14,9 +14,9 @@ use Rattle.refusal.specs.declared.Refusal.the-variants.{LimitUnusable, CountsOu
 use Rattle.refusal.specs.declared.Verdict.{Verdict}
 use Rattle.refusal.specs.declared.Verdict.the-variants.{Passes}
 use Rattle.refusal.specs.declared.Verdict.the-variants as verdict
-use Rattle.refusal.specs.First.{Clause, _when_, First}
+use Rattle.refusal.specs.First.{Refusals, _when_, First}
 use Rattle.faults.specs.Counts.{CountsFitAt, corners}
-use Rattle.faults.specs.Order.{lines-after-counts}
+use Rattle.faults.specs.Order.{refusals-after-counts}
 use Rattle.run.specs.Run.{Run}
 use Rattle.record.specs.Layout.{log-of, room-for}
 use Rattle.record.specs.Front.{zeroed}
@@ -32,16 +32,16 @@ use Rattle.thin.specs.declared.Thinning.the-variants.{Done, Refused}
 use Rattle.thin.specs.Order.{asked}
 
 -- thinning needs 10 x (corners - 4) log numbers
-abbrev pub need : List ℤ → ℕ
-need xs = room-for (corners xs - least-corners)
+abbrev pub log-need : List ℤ → ℕ
+log-need xs = room-for (corners xs - least-corners)
 
 -- 1, 2, 3, then 4 to 11 of a first table
-unfoldable pub thin-lines : Asked → List ℤ → List ℕ → ℕ → List Clause
-thin-lines a xs t room =
+unfoldable pub thin-refusals : Asked → List ℤ → List ℕ → ℕ → Refusals
+thin-refusals a xs t room =
     (LimitUnusable when (a ≡ NoUse))
     ∷ (CountsOutside when (¬ CountsFitAt xs t))
-    ∷ (RoomShort when (room < need xs))
-    ∷ lines-after-counts true xs t
+    ∷ (RoomShort when (room < log-need xs))
+    ∷ refusals-after-counts true xs t
 
 -- a bound within the most that a limit may be, as the limit reader gives it
 abbrev pub Fair : Asked → Type 0
@@ -50,19 +50,19 @@ Fair (Under (Within c)) = c ≤ most-limit
 Fair NoUse = Unit
 
 -- the verdict on a thinning: the first that holds; and where none does, a skin
-pub record Judged (a : Asked) (xs : List ℤ) (t : List ℕ) (room : ℕ) (v : Verdict) : Type 0 where
-  pub holds : First (thin-lines a xs t room) v
+pub record JudgedThinning (a : Asked) (xs : List ℤ) (t : List ℕ) (room : ℕ) (v : Verdict) : Type 0 where
+  pub holds : First (thin-refusals a xs t room) v
   pub fits : v ≡ Passes → CountsFitAt xs t
   pub skin : v ≡ Passes → Skin (corners xs) (rows t) xs
   pub usable : v ≡ Passes → ¬ (a ≡ NoUse)
-  pub room-enough : v ≡ Passes → need xs ≤ room
+  pub room-enough : v ≡ Passes → log-need xs ≤ room
 
 -- the answer r to thinning the table t of the corners xs as a asks, with the log l, and what then stands in table and log
 pub data ThinnedAs (a : Asked) (xs : List ℤ) (t l : List ℕ) (r : Thinning) (t′ l′ : List ℕ) : Type 0 where
   -- thinning refused leaves table and log untouched
-  refused : {e : Refusal} → First (thin-lines a xs t (length l)) (verdict.Refused e) → r ≡ Refused e → t′ ≡ t → l′ ≡ l → ThinnedAs a xs t l r t′ l′
+  refused : {e : Refusal} → First (thin-refusals a xs t (length l)) (verdict.Refused e) → r ≡ Refused e → t′ ≡ t → l′ ≡ l → ThinnedAs a xs t l r t′ l′
   -- done, the table was a skin, and it leaves the last stage in front, zeros in the rest of the first table's length, and the log past its records untouched
-  done : {b : Bound} {log : List Record} {last : List Row} → First (thin-lines a xs t (length l)) Passes → Skin (corners xs) (rows t) xs → a ≡ Under b →
+  done : {b : Bound} {log : List Record} {last : List Row} → First (thin-refusals a xs t (length l)) Passes → Skin (corners xs) (rows t) xs → a ≡ Under b →
       Run (Allowed b xs) (rows t) log last → r ≡ Done (length log) → t′ ≡ zeroed last t →
       l′ ≡ log-of log ++ drop (room-for (length log)) l → ThinnedAs a xs t l r t′ l′
 

@@ -6,10 +6,10 @@ use length::Reading;
 use refusal::Refusal;
 use refusal::Verdict;
 ghost use mathlib.Core.Path.{_≡_};
-ghost use Rattle.faults.specs.Tells.{Tells};
+ghost use Rattle.refusal.specs.Tells.{Tells};
 ghost use Rattle.thin.specs.declared.Asked.the-variants.{NoUse};
 ghost use Rattle.thin.specs.Order.{asked-by};
-ghost use Rattle.thin.specs.Thin.{Fair, Judged, ThinnedAs, Thinned};
+ghost use Rattle.thin.specs.Thin.{Fair, JudgedThinning, ThinnedAs, Thinned};
 
 // What an order asks: a bound on the edges, or nothing that can be used.
 pub enum Asked {
@@ -45,7 +45,7 @@ fn no_use(a: Asked) -> bool
 
 // Inner: the first of a thinning's refusals, 1 to 11, that holds; room is the log's length.
 pub fn judge(table: &[u32], corners: &[i32], a: Asked, room: usize) -> Verdict
-    ensures { λ v. ⌜ Judged a (now (corners .entry)) (now (table .entry)) room v ⌝ }
+    ensures { λ v. ⌜ JudgedThinning a (now (corners .entry)) (now (table .entry)) room v ⌝ }
 {
     if no_use(a) {
         return Verdict::Refused(Refusal::LimitUnusable);

@@ -8,10 +8,10 @@ use Rattle.refusal.specs.declared.Refusal.{Refusal}
 use Rattle.refusal.specs.declared.Verdict.{Verdict}
 use Rattle.refusal.specs.declared.Verdict.the-variants.{Passes, Refused}
 use Rattle.refusal.specs.Told.{Told, done, refused}
-use Rattle.verdicts.specs.Lesser.{lesser-of}
-use Rattle.verdicts.proofs.Laws.{lesser-passes}
-use Rattle.answer.specs.Outcome.{outcome}
-use Rattle.answer.proofs.Laws.{passing, refusing}
+use Rattle.refusal.specs.Lesser.{lesser-of}
+use Rattle.refusal.proofs.Either.{lesser-passes}
+use Rattle.refusal.specs.Outcome.{outcome}
+use Rattle.refusal.proofs.Outcome.{passing, refusing}
 use Rattle.faults.specs.Order.{CheckedStageAt}
 use Rattle.faults.proofs.Opposites.{coordinates-length}
 use Rattle.faults.proofs.Order.{either-stage}

@@ -11,9 +11,9 @@ use Rattle.surface.specs.Record.{Record, Replayed}
 use Rattle.surface.proofs.Flat.{rows-flat, flat-length}
 use Rattle.refusal.specs.declared.Verdict.the-variants.{Passes}
 use Rattle.refusal.specs.Told.{Told}
-use Rattle.refusal.proofs.Laws.{first-one}
-use Rattle.verdicts.specs.Lesser.{lesser-of}
-use Rattle.answer.proofs.Laws.{refused-one, refused-done, outcome-one}
+use Rattle.refusal.proofs.Laws.{first-one, verdicts}
+use Rattle.refusal.specs.Lesser.{lesser-of}
+use Rattle.refusal.proofs.Outcome.{tells-refusal, refused-done, outcome-one}
 use Rattle.faults.specs.Counts.{corners}
 use Rattle.faults.specs.Order.{CheckedStageAt}
 use Rattle.faults.proofs.Opposites.{stage-rows, stage-corners}
@@ -33,7 +33,7 @@ pub told-one : (a b : Measured) → told a ≡ told b → a ≡ b
 told-one (Figure f) (Figure g) e = let v = ap (λ (t : Told). t .values) e in let h : f ≡ g = cc in ap Figure h
 told-one (Figure f) (Refused s) e = absurd (refused-done s (sym e))
 told-one (Refused r) (Figure g) e = absurd (refused-done r e)
-told-one (Refused r) (Refused s) e = ap Refused (refused-one e)
+told-one (Refused r) (Refused s) e = ap Refused (tells-refusal e)
 
 -- no second answer meets the words of `volume`
 pub volume-one : {xs : List ℤ} {t : List ℕ} (a b : Measured) → VolumeReport xs t (told a) → VolumeReport xs t (told b) → a ≡ b
@@ -41,7 +41,7 @@ volume-one a b p q = told-one a b (outcome-one _ (one-stage-at (p .checked) (q .
 
 -- nor those of `change`
 pub change-one : {xs : List ℤ} {t s : List ℕ} (a b : Measured) → ChangeReport xs t s (told a) → ChangeReport xs t s (told b) → a ≡ b
-change-one a b p q = told-one a b (outcome-one _ (first-one _ (p .first) (q .first)) (p .tells) (q .tells))
+change-one a b p q = told-one a b (outcome-one _ (first-one verdicts _ (p .first) (q .first)) (p .tells) (q .tells))
 
 -- stages over the coordinates of n corners, all in range
 module _ {n : ℕ} {xs : List ℤ} (e : length xs ≡ 3 * n) (r : InRange xs) where

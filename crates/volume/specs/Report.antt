@@ -10,10 +10,10 @@ use Rattle.refusal.specs.declared.Verdict.{Verdict}
 use Rattle.refusal.specs.declared.Verdict.the-variants.{Passes}
 use Rattle.refusal.specs.First.{First}
 use Rattle.refusal.specs.Told.{Told}
-use Rattle.verdicts.specs.Lesser.{either}
-use Rattle.answer.specs.Outcome.{outcome}
+use Rattle.refusal.specs.Lesser.{either}
+use Rattle.refusal.specs.Outcome.{outcome}
 use Rattle.faults.specs.Counts.{corners}
-use Rattle.faults.specs.Order.{lines-at, CheckedStageAt}
+use Rattle.faults.specs.Order.{refusals-at, CheckedStageAt}
 use Rattle.figure.specs.Sum.{sixfold}
 use Rattle.figure.specs.Rounding.{figure, change, WithinHalf}
 use Rattle.volume.specs.declared.Measured.{Measured}
@@ -30,7 +30,7 @@ pub record VolumeReport (xs : List ℤ) (t : List ℕ) (a : Told) : Type 0 where
 -- does, both are stages and the answer is the later exact sum less the earlier, rounded once
 pub record ChangeReport (xs : List ℤ) (earlier later : List ℕ) (a : Told) : Type 0 where
   pub verdict : Verdict
-  pub first : First (either (lines-at false xs earlier) (lines-at false xs later)) verdict
+  pub first : First (either (refusals-at false xs earlier) (refusals-at false xs later)) verdict
   pub earlier-stage : verdict ≡ Passes → Stage (corners xs) (rows earlier)
   pub later-stage : verdict ≡ Passes → Stage (corners xs) (rows later)
   pub in-range : verdict ≡ Passes → InRange xs

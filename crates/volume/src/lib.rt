@@ -27,7 +27,7 @@ pub fn change(earlier: &[u32], later: &[u32], corners: &[i32]) -> Measured
 {
     let of_earlier = skin::check_stage_at(earlier, corners);
     let of_later = skin::check_stage_at(later, corners);
-    let verdict = verdicts::lesser(of_earlier, of_later);
+    let verdict = refusal::lesser(of_earlier, of_later);
     match verdict {
         Verdict::Passes => Measured::Figure(figure::change_between(earlier, later, corners)),
         Verdict::Refused(least) => Measured::Refused(least),

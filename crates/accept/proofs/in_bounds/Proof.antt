@@ -1,5 +1,5 @@
 -- `in_bounds` meets its contract.
-use Rattle.faults.proofs.Tells.{tells-true, tells-false}
+use Rattle.refusal.proofs.Tells.{tells-true, tells-false}
 use native.Mathlib.Omega.{arith}
 use borrow.Author.Needs.{needs}
 use Rattle.accept.proofs.in_bounds.Statement.{statement}

@@ -1,6 +1,6 @@
 -- `two_near` meets its contract.
 use borrow.Author.Tests.{not-true, not-false}
-use Rattle.faults.proofs.Tells.{tells-true, tells-false}
+use Rattle.refusal.proofs.Tells.{tells-true, tells-false}
 use borrow.Author.Needs.{needs}
 use Rattle.accept.proofs.two_near.Statement.{statement}
 use Rattle.accept.proofs.two_near.Tie as tie

@@ -1,7 +1,7 @@
 -- `far` meets its contract.
 use mir.Syntax.{w32}
 use mir.ValLaws.{toZ-ofZ}
-use Rattle.faults.proofs.Tells.{tells-true}
+use Rattle.refusal.proofs.Tells.{tells-true}
 use Rattle.coordinates.proofs.Range.{far-below, above-or-in}
 use borrow.Author.Needs.{needs}
 use Rattle.coordinates.proofs.far.Statement.{statement}

@@ -8,7 +8,7 @@ use lib.IntN.{pos, natAbs}
 use lib.ListN.{length, getD}
 use borrow.Author.Count.{below-more}
 use Rattle.surface.specs.Limits.{most-coordinate}
-use Rattle.faults.proofs.Tells.{tells-true, tells-false}
+use Rattle.refusal.proofs.Tells.{tells-true, tells-false}
 use Rattle.coordinates.proofs.Range.{out-at, all-in}
 use native.Mathlib.Omega.{arith}
 use borrow.Author.Needs.{needs}

@@ -1,5 +1,5 @@
 -- `coordinates_fit` meets its contract.
-use Rattle.faults.proofs.Tells.{tells-false}
+use Rattle.refusal.proofs.Tells.{tells-false}
 use borrow.Author.Needs.{needs}
 use Rattle.counts.proofs.coordinates_fit.Statement.{statement}
 use Rattle.counts.proofs.coordinates_fit.Tie as tie

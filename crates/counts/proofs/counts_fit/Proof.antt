@@ -1,6 +1,6 @@
 -- `counts_fit` meets its contract.
 use borrow.Author.Tests.{not-true, not-false}
-use Rattle.faults.proofs.Tells.{tells-false}
+use Rattle.refusal.proofs.Tells.{tells-false}
 use borrow.Author.Needs.{needs}
 use Rattle.counts.proofs.counts_fit.Statement.{statement}
 use Rattle.counts.proofs.counts_fit.Tie as tie

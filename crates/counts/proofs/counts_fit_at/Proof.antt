@@ -1,6 +1,6 @@
 -- `counts_fit_at` meets its contract.
 use borrow.Author.Tests.{not-true, not-false}
-use Rattle.faults.proofs.Tells.{tells-false}
+use Rattle.refusal.proofs.Tells.{tells-false}
 use borrow.Author.Needs.{needs}
 use Rattle.counts.proofs.counts_fit_at.Statement.{statement}
 use Rattle.counts.proofs.counts_fit_at.Tie as tie

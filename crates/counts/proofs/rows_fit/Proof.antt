@@ -1,5 +1,5 @@
 -- `rows_fit` meets its contract.
-use Rattle.faults.proofs.Tells.{tells-true, tells-false}
+use Rattle.refusal.proofs.Tells.{tells-true, tells-false}
 use native.Mathlib.Omega.{arith}
 use Rattle.counts.proofs.rows_fit.Statement.{statement}
 use Rattle.counts.proofs.rows_fit.Tie as tie

@@ -4,7 +4,7 @@ use Prim.Native.Nat.{_/_}
 use lib.ListN.{length}
 use Rattle.surface.specs.Rows.{rows}
 use Rattle.surface.proofs.Flat.{rows-length}
-use Rattle.faults.proofs.Tells.{tells-false}
+use Rattle.refusal.proofs.Tells.{tells-false}
 use native.Mathlib.Omega.{arith}
 use borrow.Author.Needs.{needs}
 use Rattle.counts.proofs.table_fits.Statement.{statement}

@@ -5,7 +5,7 @@ use lib.ListN.{length}
 use Rattle.surface.specs.Limits.{most-corners}
 use Rattle.slots.proofs.Marks.{no-mark}
 use Rattle.slots.proofs.Slots.{under-more}
-use Rattle.faults.proofs.Tells.{tells-true, tells-false}
+use Rattle.refusal.proofs.Tells.{tells-true, tells-false}
 use Rattle.edges.proofs.Sweep.{Sweeping, sweep-none, sweep-more, sweep-once}
 use native.Mathlib.Omega.{arith}
 use borrow.Author.Needs.{needs}

@@ -4,7 +4,7 @@ use Prim.Native.Nat.{_-_}
 use lib.ListN.{length, length-set}
 use Rattle.slots.specs.Slot.{next-slot}
 use Rattle.slots.proofs.Slots.{next-inside}
-use Rattle.faults.proofs.Tells.{tells-true, tells-false}
+use Rattle.refusal.proofs.Tells.{tells-true, tells-false}
 use Rattle.edges.proofs.Sweep.{Entering, enter-start, enter-twice, enter-more, enter-end}
 use native.Mathlib.Omega.{arith}
 use borrow.Author.Needs.{needs}

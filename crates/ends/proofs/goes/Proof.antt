@@ -1,5 +1,5 @@
 -- `goes` meets its contract.
-use Rattle.faults.proofs.Tells.{tells-true, tells-false}
+use Rattle.refusal.proofs.Tells.{tells-true, tells-false}
 use Rattle.ends.proofs.goes.Statement.{statement}
 use Rattle.ends.proofs.goes.Tie as tie
 

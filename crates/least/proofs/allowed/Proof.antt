@@ -1,5 +1,5 @@
 -- `allowed` meets its contract.
-use Rattle.faults.proofs.Tells.{tells-true}
+use Rattle.refusal.proofs.Tells.{tells-true}
 use Rattle.least.proofs.Limiting.{free-allowed, within-at, limit-tells, square-small}
 use native.Mathlib.Omega.{arith}
 use borrow.Author.Needs.{needs}

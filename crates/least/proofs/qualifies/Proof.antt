@@ -1,5 +1,5 @@
 -- `qualifies` meets its contract.
-use Rattle.faults.proofs.Tells.{tells-false}
+use Rattle.refusal.proofs.Tells.{tells-false}
 use Rattle.link.proofs.Marking.{edge-below}
 use Rattle.least.proofs.Limiting.{measured-at}
 use native.Mathlib.Omega.{arith}

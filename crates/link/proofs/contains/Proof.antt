@@ -3,7 +3,7 @@ use mathlib.Core.Path.{_≡_}
 use Prim.Native.Nat.{ℕ, _-_, _≤_, _<_}
 use borrow.Author.Count.{below-more}
 use lib.ListN.{length, getD}
-use Rattle.faults.proofs.Tells.{tells-true, tells-false}
+use Rattle.refusal.proofs.Tells.{tells-true, tells-false}
 use Rattle.link.proofs.Tally.{stands-at, stands-nowhere}
 use native.Mathlib.Omega.{arith}
 use borrow.Author.Needs.{needs}

@@ -1,5 +1,5 @@
 -- `in_both` meets its contract.
-use Rattle.faults.proofs.Tells.{tells-false}
+use Rattle.refusal.proofs.Tells.{tells-false}
 use borrow.Author.Tests.{eqb-true, eqb-false, not-true, not-false}
 use borrow.Author.Needs.{needs}
 use Rattle.link.proofs.in_both.Statement.{statement}

@@ -2,7 +2,7 @@
 use mathlib.Core.Path.{sym}
 use borrow.Author.Tests.{not-true, not-false}
 use lib.Seq.{length-take-le}
-use Rattle.faults.proofs.Tells.{tells-false}
+use Rattle.refusal.proofs.Tells.{tells-false}
 use Rattle.link.proofs.Condition.{not-beside}
 use Rattle.link.proofs.Marking.{neighbours-corners}
 use borrow.Author.Needs.{needs}

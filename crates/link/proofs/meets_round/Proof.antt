@@ -1,7 +1,7 @@
 -- `meets_round` meets its contract.
 use mathlib.Core.Path.{sym}
 use lib.Seq.{length-take-le}
-use Rattle.faults.proofs.Tells.{tells-false}
+use Rattle.refusal.proofs.Tells.{tells-false}
 use Rattle.link.proofs.Condition.{four-rows, two-common}
 use Rattle.link.proofs.Marking.{neighbours-corners}
 use native.Mathlib.Omega.{arith}

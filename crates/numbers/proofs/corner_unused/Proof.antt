@@ -4,7 +4,7 @@ use borrow.Author.Count.{below-more}
 use Rattle.surface.specs.Rows.{rows}
 use Rattle.surface.specs.Table.{Used}
 use Rattle.slots.proofs.Chain.{no-last-unused, last-used}
-use Rattle.faults.proofs.Tells.{tells-true, tells-false}
+use Rattle.refusal.proofs.Tells.{tells-true, tells-false}
 use native.Mathlib.Omega.{arith}
 use borrow.Author.Needs.{needs}
 use Rattle.numbers.proofs.corner_unused.Statement.{statement}

@@ -2,7 +2,7 @@
 use Prim.Native.Nat.{ℕ, _-_, _≤_, _<_}
 use borrow.Author.Count.{below-more}
 use lib.ListN.{length, getD}
-use Rattle.faults.proofs.Tells.{tells-true, tells-false}
+use Rattle.refusal.proofs.Tells.{tells-true, tells-false}
 use Rattle.numbers.proofs.Tests.{not-below-at, below-all}
 use native.Mathlib.Omega.{arith}
 use borrow.Author.Needs.{needs}

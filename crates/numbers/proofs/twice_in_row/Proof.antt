@@ -6,7 +6,7 @@ use borrow.Author.Count.{below-more}
 use lib.ListN.{length, getD}
 use Rattle.slots.specs.Slot.{next-slot}
 use Rattle.slots.proofs.Slots.{next-inside}
-use Rattle.faults.proofs.Tells.{tells-true, tells-false}
+use Rattle.refusal.proofs.Tells.{tells-true, tells-false}
 use Rattle.numbers.proofs.Tests.{twice-at, apart-all}
 use native.Mathlib.Omega.{arith}
 use borrow.Author.Needs.{needs}

@@ -1,7 +1,7 @@
 -- `not_connected` meets its contract.
 use Rattle.surface.specs.Limits.{most-corners}
 use Rattle.slots.proofs.Marks.{no-mark}
-use Rattle.faults.proofs.Tells.{tells-true, tells-false}
+use Rattle.refusal.proofs.Tells.{tells-true, tells-false}
 use Rattle.reach.specs.Reaching.{AllReached}
 use Rattle.reach.proofs.Growing.{parted-at, connected-all}
 use mathlib.Core.Logic.{_≢_}

@@ -1,6 +1,6 @@
 -- `accepts` meets its contract, test by test.
 use borrow.Author.Tests.{not-true, not-false}
-use Rattle.faults.proofs.Tells.{tells-false}
+use Rattle.refusal.proofs.Tells.{tells-false}
 use Rattle.redo.proofs.Accepting.{not-lower, not-below, accepted, same-earlier, same-later}
 use native.Mathlib.Omega.{arith}
 use borrow.Author.Needs.{needs}

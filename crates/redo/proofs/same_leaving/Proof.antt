@@ -2,7 +2,7 @@
 use borrow.Author.Tests.{eqb-true, eqb-false}
 use Rattle.surface.specs.Rows.{row}
 use Rattle.surface.specs.Record.{at}
-use Rattle.faults.proofs.Tells.{tells-false}
+use Rattle.refusal.proofs.Tells.{tells-false}
 use Rattle.redo.proofs.same_leaving.Statement.{statement}
 use Rattle.redo.proofs.same_leaving.Tie as tie
 

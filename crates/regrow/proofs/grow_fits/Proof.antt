@@ -1,6 +1,6 @@
 -- `grow_fits` meets its contract.
 use borrow.Author.Tests.{not-true, not-false}
-use Rattle.faults.proofs.Tells.{tells-true, tells-false}
+use Rattle.refusal.proofs.Tells.{tells-true, tells-false}
 use native.Mathlib.Omega.{arith}
 use borrow.Author.Needs.{needs}
 use Rattle.regrow.proofs.grow_fits.Statement.{statement}

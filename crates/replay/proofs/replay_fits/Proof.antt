@@ -1,7 +1,7 @@
 -- `replay_fits` meets its contract.
 use borrow.Author.Tests.{not-true, not-false}
 use Rattle.slots.proofs.Slots.{whole-rows}
-use Rattle.faults.proofs.Tells.{tells-true, tells-false}
+use Rattle.refusal.proofs.Tells.{tells-true, tells-false}
 use native.Mathlib.Omega.{arith}
 use borrow.Author.Needs.{needs}
 use Rattle.replay.proofs.replay_fits.Statement.{statement}

@@ -2,7 +2,7 @@
 use mathlib.Core.Path.{_≡_, refl}
 use Prim.Native.Nat.{_-_, _≤_}
 use lib.ListN.{length, getD, length-set}
-use Rattle.faults.proofs.Tells.{tells-true, tells-false}
+use Rattle.refusal.proofs.Tells.{tells-true, tells-false}
 use Rattle.reverses.proofs.Back.{Settling, settle-none, settle-more, no-reverse-at, both-ways}
 use native.Mathlib.Omega.{arith}
 use borrow.Author.Needs.{needs}

@@ -5,7 +5,7 @@ use lib.ListN.{length, getD}
 use borrow.Author.Count.{below-more}
 use Rattle.slots.specs.Slot.{most-slots}
 use Rattle.slots.proofs.Marks.{no-mark}
-use Rattle.faults.proofs.Tells.{tells-true, tells-false}
+use Rattle.refusal.proofs.Tells.{tells-true, tells-false}
 use Rattle.rings.specs.Walk.{AllWalked}
 use Rattle.rings.proofs.Walking.{many-at, one-all}
 use native.Mathlib.Omega.{arith}

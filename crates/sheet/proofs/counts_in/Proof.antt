@@ -1,5 +1,5 @@
 -- `counts_in` meets its contract.
-use Rattle.faults.proofs.Tells.{tells-true, tells-false}
+use Rattle.refusal.proofs.Tells.{tells-true, tells-false}
 use native.Mathlib.Omega.{arith}
 use Rattle.sheet.proofs.counts_in.Statement.{statement}
 use Rattle.sheet.proofs.counts_in.Tie as tie

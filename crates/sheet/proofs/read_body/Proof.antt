@@ -3,8 +3,8 @@ use mathlib.Core.Path.{sym, subst}
 use Prim.Native.Nat.{_*_, _≤_}
 use lib.IntN.{pos}
 use lib.ListN.{drop, replicate}
-use Rattle.lines.specs.Lines.{Short, LinesAt, ReadInto}
-use Rattle.faults.proofs.Tells.{tells-false}
+use Rattle.lines.specs.Lines.{FewDigits, LinesAt, ReadInto}
+use Rattle.refusal.proofs.Tells.{tells-false}
 use Rattle.sheet.specs.Limits.{most-digits}
 use Rattle.sheet.specs.Form.{C, R}
 use Rattle.sheet.proofs.Lower.{no-corners, no-rows, corners-front, rows-front, more-follows, minus-in-row, body-read}
@@ -85,7 +85,7 @@ to-coordinates-requires c κs =
     let a = pre .0 .many in
     let p = (subst (ReadInto (LinesAt most-digits C 3 (args .n) (drop (args .from .at) (args .bytes .now))) (args .n * 3) (args .bytes .now) (replicate 1542 (pos 0)) 0 (read-lines .last .1 .1 .1 .1 .0)) (corners .given .1) (read-lines .ensures)) in
     let h : args .n * 3 ≤ 1542 = omega arith in
-    (search needs, search needs, subst (Short most-digits) (sym (corners-front (args .bytes .now) (args .from .at) (args .n) (args .m) (replicate 1542 (pos 0)) (read-lines .last .1 .1 .1 .1 .0) (corners .given .0 .0 .at) (subst (ReadInto (LinesAt most-digits C 3 (args .n) (drop (args .from .at) (args .bytes .now))) (args .n * 3) (args .bytes .now) (replicate 1542 (pos 0)) 0 (read-lines .last .1 .1 .1 .1 .0)) (corners .given .1) (read-lines .ensures)) h)) (p .here .short))
+    (search needs, search needs, subst (FewDigits most-digits) (sym (corners-front (args .bytes .now) (args .from .at) (args .n) (args .m) (replicate 1542 (pos 0)) (read-lines .last .1 .1 .1 .1 .0) (corners .given .0 .0 .at) (subst (ReadInto (LinesAt most-digits C 3 (args .n) (drop (args .from .at) (args .bytes .now))) (args .n * 3) (args .bytes .now) (replicate 1542 (pos 0)) 0 (read-lines .last .1 .1 .1 .1 .0)) (corners .given .1) (read-lines .ensures)) h)) (p .here .short))
 
 slice-aggregate-to-numbers : tie.Need-slice-aggregate-to-numbers
 slice-aggregate-to-numbers c = search needs
@@ -105,7 +105,7 @@ to-numbers-requires c κs =
     let a = pre .0 .most in
     let q = (subst (ReadInto (LinesAt most-digits R 3 (args .m) (drop (corners .given .0 .0 .at) (args .bytes .now))) (args .m * 3) (args .bytes .now) (replicate 3072 (pos 0)) 0 (read-lines2 .last .1 .1 .1 .1 .0)) (rows .given .1) (read-lines2 .ensures)) in
     let h : args .m * 3 ≤ 3072 = omega arith in
-    (search needs, search needs, subst (Short most-digits) (sym (rows-front (args .bytes .now) (args .from .at) (args .n) (args .m) (replicate 1542 (pos 0)) (read-lines .last .1 .1 .1 .1 .0) (corners .given .0 .0 .at) (subst (ReadInto (LinesAt most-digits C 3 (args .n) (drop (args .from .at) (args .bytes .now))) (args .n * 3) (args .bytes .now) (replicate 1542 (pos 0)) 0 (read-lines .last .1 .1 .1 .1 .0)) (corners .given .1) (read-lines .ensures)) (replicate 3072 (pos 0)) (read-lines2 .last .1 .1 .1 .1 .0) (rows .given .0 .0 .at) (subst (ReadInto (LinesAt most-digits R 3 (args .m) (drop (corners .given .0 .0 .at) (args .bytes .now))) (args .m * 3) (args .bytes .now) (replicate 3072 (pos 0)) 0 (read-lines2 .last .1 .1 .1 .1 .0)) (rows .given .1) (read-lines2 .ensures)) h)) (q .here .short))
+    (search needs, search needs, subst (FewDigits most-digits) (sym (rows-front (args .bytes .now) (args .from .at) (args .n) (args .m) (replicate 1542 (pos 0)) (read-lines .last .1 .1 .1 .1 .0) (corners .given .0 .0 .at) (subst (ReadInto (LinesAt most-digits C 3 (args .n) (drop (args .from .at) (args .bytes .now))) (args .n * 3) (args .bytes .now) (replicate 1542 (pos 0)) 0 (read-lines .last .1 .1 .1 .1 .0)) (corners .given .1) (read-lines .ensures)) (replicate 3072 (pos 0)) (read-lines2 .last .1 .1 .1 .1 .0) (rows .given .0 .0 .at) (subst (ReadInto (LinesAt most-digits R 3 (args .m) (drop (corners .given .0 .0 .at) (args .bytes .now))) (args .m * 3) (args .bytes .now) (replicate 3072 (pos 0)) 0 (read-lines2 .last .1 .1 .1 .1 .0)) (rows .given .1) (read-lines2 .ensures)) h)) (q .here .short))
 
 same-length : tie.Need-same-length
 same-length c = search needs

@@ -16,11 +16,11 @@ abbrev μ-loop : tie.MeasureT-loop
 loop-holds : tie.Need-loop-holds Inv-loop μ-loop
 loop-holds c = follow-start
 
-mul-read-edge : tie.Need-mul-read-edge Inv-loop μ-loop
-mul-read-edge c = search needs
+mul-read-contracted : tie.Need-mul-read-contracted Inv-loop μ-loop
+mul-read-contracted c = search needs
 
-read-edge-requires : tie.Need-read-edge-requires Inv-loop μ-loop
-read-edge-requires c κs = search needs
+read-contracted-requires : tie.Need-read-contracted-requires Inv-loop μ-loop
+read-contracted-requires c κs = search needs
 
 add-moved : tie.Need-add-moved Inv-loop μ-loop
 add-moved c = search needs
@@ -35,13 +35,13 @@ loop-again : tie.Need-loop-again Inv-loop μ-loop
 loop-again c =
     let loop = c .before .before .before .before .loop in
     let loop-test = c .before .before .before .loop-test in
-    let read-edge = c .before .before .read-edge in
+    let read-contracted = c .before .before .read-contracted in
     let loop = loop in
     let loop-test = loop-test in
-    let read-edge = read-edge in
+    let read-contracted = read-contracted in
     let f = loop .inv in
     let h = loop-test .taken in
-    let is = read-edge .ensures in
+    let is = read-contracted .ensures in
     ⊎-elim (λ w. rw (w .1, w .2) (follow-moved f h is (w .0 .taken))) (λ w. rw (w .1, w .2) (follow-stayed f h is (w .0 .left))) (c .if1 .came)
 
 returns : tie.Need-returns Inv-loop μ-loop
@@ -54,8 +54,8 @@ follow-spec =
     Inv-loop
     μ-loop
     loop-holds
-    mul-read-edge
-    read-edge-requires
+    mul-read-contracted
+    read-contracted-requires
     add-moved
     add-j
     loop-less

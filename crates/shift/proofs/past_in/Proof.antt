@@ -1,7 +1,7 @@
 -- `past_in` meets its contract: every record below place j has both its numbers below the count.
 use Prim.Native.Nat.{ℕ, _-_, _≤_, _<_}
 use borrow.Author.Count.{below-more}
-use Rattle.faults.proofs.Tells.{tells-true, tells-false}
+use Rattle.refusal.proofs.Tells.{tells-true, tells-false}
 use Rattle.shift.proofs.Checking.{Both, past-kept, past-removed, all-below}
 use native.Mathlib.Omega.{arith}
 use borrow.Author.Needs.{needs}
@@ -17,22 +17,22 @@ abbrev μ-loop : tie.MeasureT-loop
 loop-holds : tie.Need-loop-holds Inv-loop μ-loop
 loop-holds c = search needs
 
-mul-read-edge : tie.Need-mul-read-edge Inv-loop μ-loop
-mul-read-edge c = search needs
+mul-read-contracted : tie.Need-mul-read-contracted Inv-loop μ-loop
+mul-read-contracted c = search needs
 
-read-edge-requires : tie.Need-read-edge-requires Inv-loop μ-loop
-read-edge-requires c κs = search needs
+read-contracted-requires : tie.Need-read-contracted-requires Inv-loop μ-loop
+read-contracted-requires c κs = search needs
 
 cast-if1 : tie.Need-cast-if1 Inv-loop μ-loop
 cast-if1 c = search needs
 
 returns : tie.Need-returns Inv-loop μ-loop
 returns c =
-    let read-edge = c .before .before .read-edge in
+    let read-contracted = c .before .before .read-contracted in
     let args = c .before .before .before .before .before .before .args in
     let loop = c .before .before .before .before .loop in
     let loop-test = c .before .before .before .loop-test in
-    let e = read-edge .ensures in
+    let e = read-contracted .ensures in
     let h = c .if1 .taken in
     tells-true (past-kept (args .log .now) (args .n) (loop .j) (loop-test .taken) (omega arith))
 
@@ -41,11 +41,11 @@ cast-if2 c = search needs
 
 returns-2 : tie.Need-returns-2 Inv-loop μ-loop
 returns-2 c =
-    let read-edge = c .before .before .before .before .read-edge in
+    let read-contracted = c .before .before .before .before .read-contracted in
     let args = c .before .before .before .before .before .before .before .before .args in
     let loop = c .before .before .before .before .before .before .loop in
     let loop-test = c .before .before .before .before .before .loop-test in
-    let e = read-edge .ensures in
+    let e = read-contracted .ensures in
     let h = c .if2 .taken in
     tells-true (past-removed (args .log .now) (args .n) (loop .j) (loop-test .taken) (omega arith))
 
@@ -57,11 +57,11 @@ loop-less c = search needs
 
 loop-again : tie.Need-loop-again Inv-loop μ-loop
 loop-again c =
-    let read-edge = c .before .before .before .before .read-edge in
+    let read-contracted = c .before .before .before .before .read-contracted in
     let if1 = c .before .before .if1 in
     let loop-test = c .before .before .before .before .before .loop-test in
     let loop = c .before .before .before .before .before .before .loop in
-    let e = read-edge .ensures in
+    let e = read-contracted .ensures in
     let h = if1 .left in
     let k = c .if2 .left in
     let l = loop-test .taken in
@@ -80,8 +80,8 @@ past-in-spec =
     Inv-loop
     μ-loop
     loop-holds
-    mul-read-edge
-    read-edge-requires
+    mul-read-contracted
+    read-contracted-requires
     cast-if1
     returns
     cast-if2

@@ -1,5 +1,5 @@
 -- `shift_fits` meets its contract.
-use Rattle.faults.proofs.Tells.{tells-false}
+use Rattle.refusal.proofs.Tells.{tells-false}
 use native.Mathlib.Omega.{arith}
 use borrow.Author.Needs.{needs}
 use Rattle.shift.proofs.shift_fits.Statement.{statement}

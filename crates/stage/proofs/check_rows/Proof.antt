@@ -7,7 +7,10 @@ use Rattle.slots.specs.Slot.{Whole, Under}
 use Rattle.slots.proofs.Marks.{no-mark}
 use Rattle.numbers.proofs.Tests.{below-under}
 use Rattle.faults.specs.Words.{Below, Apart, EdgesOnce, Closed, AllUsed}
-use Rattle.faults.proofs.Order.{refuse-5, refuse-6, refuse-7, refuse-8, refuse-9, refuse-10, refuse-11, passed}
+use Rattle.faults.specs.Order.{row-refusals}
+use Rattle.faults.proofs.Opposites.{below-or-not, twice-or-apart, twice-or-once, many-or-one-ring}
+use Rattle.faults.proofs.Order.{refuse, refuse-9, past-9, pass}
+use Rattle.refusal.proofs.Laws.{none-yet, _nor_}
 use Rattle.stage.proofs.Fits.{table-whole, table-some, under-most}
 use native.Mathlib.Omega.{arith}
 use borrow.Author.Needs.{needs}
@@ -46,9 +49,10 @@ not-below-requires : tie.Need-not-below-requires
 not-below-requires c κs = whole (c .before)
 
 returns : tie.Need-returns
+unfolding row-refusals
 returns c =
     let args = c .before .before .before .args in
-    refuse-5 (args .first) (args .n) (rows (args .t .now)) (c .before .not-below .ensures .when-true (c .if1 .taken))
+    refuse (args .first) (args .n) (rows (args .t .now)) none-yet (c .before .not-below .ensures .when-true (c .if1 .taken))
 
 twice-in-row-requires : tie.Need-twice-in-row-requires
 twice-in-row-requires c κs =
@@ -56,10 +60,11 @@ twice-in-row-requires c κs =
     whole start
 
 returns-2 : tie.Need-returns-2
+unfolding row-refusals
 returns-2 c =
     let else1 = c .before .before in
     let args = else1 .before .before .before .args in
-    refuse-6 (args .first) (args .n) (rows (args .t .now)) (below else1) (c .before .twice-in-row .ensures .when-true (c .if2 .taken))
+    refuse (args .first) (args .n) (rows (args .t .now)) (below-or-not (below else1) nor none-yet) (c .before .twice-in-row .ensures .when-true (c .if2 .taken))
 
 slice-aggregate-chains : tie.Need-slice-aggregate-chains
 slice-aggregate-chains c = search needs
@@ -93,12 +98,13 @@ edge-twice-requires c κs =
     ((whole start), (chains .ensures, (under else1, (pre .count .many, (omega (arith, last2 .given, pre .count .many), whole start .most)))))
 
 returns-3 : tie.Need-returns-3
+unfolding row-refusals
 returns-3 c =
     let edge-twice = c .before .before .edge-twice in
     let else2 = c .before .before .before .before .before .before .before .before .before .before .before in
     let else1 = else2 .before .before in
     let args = else1 .before .before .before .args in
-    refuse-7 (args .first) (args .n) (rows (args .t .now)) (below else1) (apart else2) (edge-twice .ensures .when-true (c .if3 .taken))
+    refuse (args .first) (args .n) (rows (args .t .now)) (below-or-not (below else1) nor twice-or-apart (apart else2) nor none-yet) (edge-twice .ensures .when-true (c .if3 .taken))
 
 slice-aggregate-reverse-missing : tie.Need-slice-aggregate-reverse-missing
 slice-aggregate-reverse-missing c = search needs
@@ -111,13 +117,14 @@ reverse-missing-requires c κs =
     ((whole start), (under else1, edge-twice .ensures .when-false (c .before .if3 .left) .1))
 
 returns-4 : tie.Need-returns-4
+unfolding row-refusals
 returns-4 c =
     let reverse-missing = c .before .before .reverse-missing in
     let else3 = c .before .before .before .before in
     let else2 = else3 .before .before .before .before .before .before .before .before .before .before .before in
     let else1 = else2 .before .before in
     let args = else1 .before .before .before .args in
-    refuse-8 (args .first) (args .n) (rows (args .t .now)) (below else1) (apart else2) (once else3) (reverse-missing .ensures .when-true (c .if4 .taken))
+    refuse (args .first) (args .n) (rows (args .t .now)) (below-or-not (below else1) nor twice-or-apart (apart else2) nor twice-or-once (once else3) nor none-yet) (reverse-missing .ensures .when-true (c .if4 .taken))
 
 slice-aggregate-first-unused : tie.Need-slice-aggregate-first-unused
 slice-aggregate-first-unused c = search needs
@@ -161,7 +168,7 @@ returns-6 c =
     let else5 = c .before .before .before .before in
     let else4 = else5 .before .before .before in
     let args = else4 .before .before .before .before .before .before .before .before .before .before .before .before .before .before .before .before .before .before .before .before .args in
-    refuse-10 (args .first) (args .n) (rows (args .t .now)) (closed else4) (used else5) (c .before .many-rings .ensures .when-true (c .if6 .taken))
+    refuse (args .first) (args .n) (rows (args .t .now)) (past-9 (args .first) (args .n) (rows (args .t .now)) (closed else4) (used else5) none-yet) (c .before .many-rings .ensures .when-true (c .if6 .taken))
 
 slice-aggregate-not-connected : tie.Need-slice-aggregate-not-connected
 slice-aggregate-not-connected c = search needs
@@ -186,7 +193,9 @@ returns-7 c =
     let else5 = c .before .before .before .before .before .before .before .before in
     let else4 = else5 .before .before .before in
     let args = else4 .before .before .before .before .before .before .before .before .before .before .before .before .before .before .before .before .before .before .before .before .args in
-    refuse-11 (args .first) (args .n) (rows (args .t .now)) (closed else4) (used else5) (many-rings .ensures .when-false (if6 .left)) (c .before .not-connected .ensures .when-true (c .if7 .taken))
+    refuse (args .first) (args .n) (rows (args .t .now))
+    (past-9 (args .first) (args .n) (rows (args .t .now)) (closed else4) (used else5) (many-or-one-ring (many-rings .ensures .when-false (if6 .left)) nor none-yet))
+    (c .before .not-connected .ensures .when-true (c .if7 .taken))
 
 returns-8 : tie.Need-returns-8
 returns-8 c =
@@ -196,7 +205,7 @@ returns-8 c =
     let else4 = else5 .before .before .before in
     let args = else4 .before .before .before .before .before .before .before .before .before .before .before .before .before .before .before .before .before .before .before .before .args in
     let pre = else4 .before .before .before .before .before .before .before .before .before .before .before .before .before .before .before .before .before .before .before .before .pre in
-    passed (args .first) (args .n) (rows (args .t .now)) (closed else4) (used else5) (pre .table .count) (pre .count)
+    pass (args .first) (args .n) (rows (args .t .now)) (closed else4) (used else5) (pre .table .count) (pre .count)
     (many-rings .ensures .when-false (if6 .left)) (c .before .not-connected .ensures .when-false (c .if7 .left))
 
 pub check-rows-spec : {M : Type 1} → statement M

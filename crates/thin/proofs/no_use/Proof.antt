@@ -1,5 +1,5 @@
 -- By what is asked.
-use Rattle.faults.proofs.Tells.{tells-true, tells-false}
+use Rattle.refusal.proofs.Tells.{tells-true, tells-false}
 use Rattle.thin.proofs.Judging.{under-usable}
 use borrow.Author.Needs.{needs}
 use Rattle.thin.proofs.no_use.Statement.{statement}

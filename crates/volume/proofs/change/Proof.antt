@@ -2,7 +2,7 @@
 use mathlib.Core.Path.{sym, _∙_}
 use mir.Syntax.{w64}
 use mir.ValLaws.{toZ-ofZ}
-use Rattle.verdicts.proofs.Laws.{lesser-passes}
+use Rattle.refusal.proofs.Either.{lesser-passes}
 use Rattle.volume.proofs.Laws.{checked-coordinates, change-done, change-refused}
 use borrow.Author.Needs.{needs}
 use Rattle.volume.proofs.change.Statement.{statement}

@@ -1,35 +1,18 @@
--- The lesser of two verdicts is the first that holds of either; and lists of refusals with a line that does not hold in front.
+-- The lesser of two verdicts is the first that holds of either.
 use mathlib.Core.Path.{_≡_, refl, sym, _∙_, ap}
 use mathlib.Core.Logic.{_⊎_, inl, inr}
-use mathlib.Core.List.{List, [], _∷_}
+use mathlib.Core.List.{[], _∷_}
 use Prim.Native.Nat.{ℕ, _<_, _≤_}
 use native.Mathlib.Decide.{decLt}
 use native.Mathlib.Omega.{arith}
 use borrow.Author.Tests.{lt-ltb, le-ltb}
 use Rattle.refusal.specs.declared.Refusal.{Refusal}
 use Rattle.refusal.specs.declared.Verdict.{Verdict}
 use Rattle.refusal.specs.declared.Verdict.the-variants.{Passes, Refused}
 use Rattle.refusal.specs.Number.{number}
-use Rattle.refusal.specs.First.{Clause, First}
+use Rattle.refusal.specs.First.{FirstOf, Refusals, First}
 use Rattle.refusal.proofs.Laws.{refused-passes}
-use Rattle.verdicts.specs.Lesser.{lesser-of, either, Rising}
-
--- a line that does not hold may go from the front
-pub first-after : (c : Clause) (l : List Clause) (v : Verdict) → (¬ (c .given)) → First (c ∷ l) v → First l v
-unfolding First
-first-after c l v n (inl p) = absurd (n (p .0))
-first-after c l v n (inr p) = p .1
-
--- and may be put there
-pub first-before : (c : Clause) (l : List Clause) (v : Verdict) → (¬ (c .given)) → First l v → First (c ∷ l) v
-unfolding First
-first-before c l v n f = inr (n, f)
-
--- what passes has no line that holds
-pub passed : (c : Clause) (l : List Clause) → First (c ∷ l) Passes → (¬ (c .given)) × First l Passes
-unfolding First
-passed c l (inl p) = refused-passes (sym (p .1))
-passed c l (inr p) = p
+use Rattle.refusal.specs.Lesser.{lesser-of, either, Rising}
 
 pub lesser-left : (a b : Refusal) → number a ≤ number b → lesser-of (Refused a) (Refused b) ≡ Refused a
 unfolding lesser-of
@@ -69,15 +52,15 @@ unfolding lesser-of
 above-right e (passes f) = rw (e, f)
 above-right {a} e (later {b = b} f l) = rw (e, f) (lesser-right b a l)
 
-first-above : (k : ℕ) (l m : List Clause) {v : Verdict} → Rising k l m → First l v → Above k v
-unfolding First Rising
+first-above : (k : ℕ) (l m : Refusals) {v : Verdict} → Rising k l m → First l v → Above k v
+unfolding FirstOf Rising
 first-above k [] [] r f = passes f
 first-above k [] (d ∷ m) r f = absurd r
 first-above k (c ∷ l) [] r f = absurd r
 first-above k (c ∷ l) (d ∷ m) r (inl p) = later (p .1) (r .0)
 first-above k (c ∷ l) (d ∷ m) r (inr p) = above-less (r .0) (first-above (number (c .refusal)) l m (r .2) (p .1))
 
-rising-back : (k : ℕ) (l m : List Clause) → Rising k l m → Rising k m l
+rising-back : (k : ℕ) (l m : Refusals) → Rising k l m → Rising k m l
 unfolding Rising
 rising-back k [] [] r = r
 rising-back k [] (d ∷ m) r = r
@@ -85,8 +68,8 @@ rising-back k (c ∷ l) [] r = r
 rising-back k (c ∷ l) (d ∷ m) r = (rw (sym (r .1)) (r .0), sym (r .1), rw (sym (r .1)) (rising-back (number (c .refusal)) l m (r .2)))
 
 -- of two verdicts the one with the lesser number is the first that holds of either
-pub lesser-first : (k : ℕ) (l m : List Clause) → Rising k l m → (v w : Verdict) → First l v → First m w → First (either l m) (lesser-of v w)
-unfolding First Rising either lesser-of
+pub lesser-first : (k : ℕ) (l m : Refusals) → Rising k l m → (v w : Verdict) → First l v → First m w → First (either l m) (lesser-of v w)
+unfolding FirstOf Rising either lesser-of
 lesser-first k [] [] r v w f g = rw (f, g)
 lesser-first k [] (d ∷ m) r v w f g = absurd r
 lesser-first k (c ∷ l) [] r v w f g = absurd r

@@ -1,13 +1,13 @@
 -- `lesser` meets its contract.
 use mathlib.Core.Path.{sym}
 use Prim.Native.Nat.{_≤_, _<_}
 use Rattle.refusal.specs.Number.{number}
-use Rattle.verdicts.specs.Lesser.{lesser-of}
-use Rattle.verdicts.proofs.Laws.{lesser-left, lesser-right}
+use Rattle.refusal.specs.Lesser.{lesser-of}
+use Rattle.refusal.proofs.Either.{lesser-left, lesser-right}
 use native.Mathlib.Omega.{arith}
 use borrow.Author.Needs.{needs}
-use Rattle.verdicts.proofs.lesser.Statement.{statement}
-use Rattle.verdicts.proofs.lesser.Tie as tie
+use Rattle.refusal.proofs.lesser.Statement.{statement}
+use Rattle.refusal.proofs.lesser.Tie as tie
 
 enum-told : tie.Need-enum-told
 enum-told c = search needs

@@ -5,13 +5,13 @@ use Prim.Native.Nat.{ℕ, _-_, _<_}
 use native.Mathlib.Omega.{arith}
 use lib.IntN.{ℤ}
 use lib.ListN.{getD}
 use Rattle.refusal.specs.declared.Refusal.{Refusal}
 use Rattle.refusal.specs.declared.Refusal.the-variants.{LimitUnusable, CountsOutside, RoomShort, CoordinateOutOfRange, NumberNotBelow, NumberTwice, EdgeTwice, ReverseMissing, CornerUnused, RingsMany, NotConnected, SheetForm, RecordFails}
 use Rattle.refusal.specs.declared.Verdict.{Verdict}
 use Rattle.refusal.specs.declared.Verdict.the-variants.{Passes, Refused}
 use Rattle.refusal.specs.Number.{number}
 use Rattle.refusal.specs.Told.{Told, done, refused}
-use Rattle.answer.specs.Outcome.{outcome}
+use Rattle.refusal.specs.Outcome.{outcome}
 
 -- the refusals in the order of their numbers, from 1 on
 in-order : List Refusal
@@ -52,8 +52,8 @@ numbered RecordFails = (omega arith, refl)
 pub number-one : {r s : Refusal} → number r ≡ number s → r ≡ s
 number-one {r} {s} e = sym (numbered r .1) ∙ ap (λ (n : ℕ). getD in-order (n - 1) LimitUnusable) e ∙ numbered s .1
 
-pub refused-one : {r s : Refusal} → refused r ≡ refused s → r ≡ s
-refused-one e = number-one (ap (λ (t : Told). t .number) e)
+pub tells-refusal : {r s : Refusal} → refused r ≡ refused s → r ≡ s
+tells-refusal e = number-one (ap (λ (t : Told). t .number) e)
 
 -- what is refused is not done
 pub refused-done : (r : Refusal) {vs : List ℤ} → refused r ≡ done vs → ⊥
