@@ -8,7 +8,7 @@ ghost use Rattle.surface.specs.Limits.{most-rows};
 ghost use Rattle.surface.specs.Rows.{rows};
 ghost use Rattle.surface.specs.Table.{Used};
 ghost use Rattle.surface.specs.Stage.{StageTable};
-ghost use Rattle.record.specs.Layout.{meant};
+ghost use Rattle.record.specs.Inner.{meant};
 ghost use Rattle.slots.specs.Slot.{Whole, Under};
 ghost use Rattle.slots.specs.Marks.{Blank};
 ghost use Rattle.refusal.specs.Tells.{Tells};

@@ -11,7 +11,8 @@ use lib.ListN.{length, take, drop, getD, length-append, drop-of-length-le}
 use lib.Seq.{drop-cons, drop-at, take-all}
 use borrow.Author.Tests.{eq-eqb, ne-eqb}
 use denote.Ref.{RefT}
-use Rattle.catchup.specs.CatchUp.{Beginning, begins, PartOf, CaughtUp, second-longer, first-longer, equal, neither}
+use Rattle.catchup.specs.CatchUp.{Beginning, PartOf, CaughtUp, second-longer, first-longer, equal, neither}
+use Rattle.catchup.specs.Inner.{begins}
 
 true-false : _≡_ {A = Bool} true false → ⊥
 true-false e = let u : _≡_ {A = ℕ} 0 1 = cc in omega arith

@@ -1,23 +1,15 @@
 -- What the catch-up part hands back of two lent logs.
 use mathlib.Core.Path.{_≡_}
 use mathlib.Core.Logic.{_≢_}
-use mathlib.Core.Bool.{Bool, true, false, _&&_}
-use mathlib.Core.List.{List, [], _∷_, _++_}
+use mathlib.Core.List.{List, [], _++_}
 use Prim.Native.Nat.{ℕ, _+_, _*_}
 use lib.ListN.{length}
-use lib.Dec.{eqb}
 use denote.Ref.{RefT}
 
 -- l is a beginning of m: m is l and then a rest
 pub record Beginning (l m : List ℕ) : Type 0 where
   pub rest : List ℕ
   pub is : m ≡ l ++ rest
-
--- the same as a test that computes
-unfoldable pub begins : List ℕ → List ℕ → Bool
-begins [] m = true
-begins (a ∷ l) [] = false
-begins (a ∷ l) (b ∷ m) = eqb a b && begins l m
 
 -- a number of a log is four bytes
 abbrev pub number-bytes : ℕ

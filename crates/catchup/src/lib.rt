@@ -1,6 +1,7 @@
 // The catch-up part: of two lent logs, what the longer has more.
 ghost use mathlib.Core.Path.{_≡_};
-ghost use Rattle.catchup.specs.CatchUp.{begins, CaughtUp};
+ghost use Rattle.catchup.specs.CatchUp.{CaughtUp};
+ghost use Rattle.catchup.specs.Inner.{begins};
 
 // Whether l is a beginning of m.
 fn is_beginning(l: &[u32], m: &[u32]) -> bool

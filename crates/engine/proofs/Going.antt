@@ -16,7 +16,8 @@ use Rattle.surface.proofs.Main.{contraction, four-used, corners-there, one-fewe
 use Rattle.run.specs.Run.{Least, Taken, none-yet, Over}
 use Rattle.run.proofs.Main.{taken-more, step-corners}
 use Rattle.record.specs.declared.Record.{Record}
-use Rattle.record.specs.Layout.{width, log-of, numbers, meant}
+use Rattle.record.specs.Layout.{width, log-of, numbers}
+use Rattle.record.specs.Inner.{meant}
 use Rattle.record.proofs.Log.{numbers-length, log-length, log-append}
 use Rattle.record.specs.Front.{front-rows}
 use Rattle.step.specs.Front.{SteppedFront, Fallen}

@@ -11,7 +11,8 @@ use Rattle.surface.specs.Stage.{StageTable}
 use Rattle.surface.specs.Record as surface
 use Rattle.run.specs.Run.{Run}
 use Rattle.record.specs.Layout.{log-of, room-for}
-use Rattle.record.specs.Front.{front-rows, lowered}
+use Rattle.record.specs.Front.{front-rows}
+use Rattle.record.specs.Inner.{lowered}
 
 -- the front of t is a stage over n corners, and the log l, which has d records, has room for as many as may follow: one for each used
 -- corner but four

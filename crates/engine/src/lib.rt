@@ -7,7 +7,8 @@ ghost use Rattle.surface.specs.Limits.{most-corners};
 ghost use Rattle.surface.specs.Rows.{rows};
 ghost use Rattle.surface.specs.Stage.{StageTable};
 ghost use Rattle.link.specs.Around.{Unmarked};
-ghost use Rattle.least.specs.Limited.{Allowed, Measurable};
+ghost use Rattle.least.specs.Limited.{Allowed};
+ghost use Rattle.least.specs.Inner.{Measurable};
 ghost use Rattle.least.specs.Search.{FoundLeast};
 ghost use Rattle.engine.specs.Engine.{CanGoOn, WentOn};
 

@@ -14,13 +14,15 @@ use Rattle.refusal.specs.declared.Refusal.the-variants.{CountsOutside, CornerUn
 use Rattle.refusal.specs.declared.Verdict.{Verdict}
 use Rattle.refusal.specs.declared.Verdict.the-variants.{Passes, Refused}
 use Rattle.refusal.specs.First.{Clause, _when_, Refusals, First}
-use Rattle.refusal.specs.Lesser.{lesser-of, either, Rising}
+use Rattle.refusal.specs.Lesser.{either}
+use Rattle.refusal.specs.Inner.{lesser-of, Rising}
 use Rattle.refusal.proofs.Laws.{NoneBefore, NoneGiven, none-yet, _nor_, all-nor, verdicts, first-one, rest-decides, rest-decided, given-first, passes-none, refused-before, refused-passes}
 use Rattle.refusal.proofs.Either.{lesser-first}
 use Rattle.refusal.proofs.Tells.{true-false}
 use Rattle.faults.specs.Counts.{RowsFit, CornersFit, TableFits, CountsFit, CountsFitAt, corners}
 use Rattle.faults.specs.Words.{Unused, AllUsed, OneRing, Connected, Closed}
-use Rattle.faults.specs.Order.{only, ring-refusals, row-refusals, refusals-after-counts, refusals-at, stage-refusals, CheckedRows, CheckedAt, CheckedFirst, CheckedStageAt, CheckedStage}
+use Rattle.faults.specs.Order.{only, ring-refusals, row-refusals, refusals-after-counts, refusals-at, CheckedStageAt}
+use Rattle.faults.specs.Inner.{stage-refusals, CheckedRows, CheckedAt, CheckedFirst, CheckedStage}
 use Rattle.faults.proofs.Opposites.{in-or-out, below-or-not, twice-or-apart, twice-or-once, one-or-both-ways, unused-or-all, many-or-one-ring, parted-or-connected, stage-of, stage-rows, stage-corners, stage-closed, stage-ring, stage-connected, skin-corners, coordinates-length}
 
 -- a line asked of first tables only: it is not given, or it is

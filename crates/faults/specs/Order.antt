@@ -5,14 +5,14 @@ use mathlib.Core.List.{List, [], _∷_, _++_}
 use Prim.Native.Nat.{ℕ}
 use lib.IntN.{ℤ}
 use Rattle.surface.specs.Rows.{Row, rows}
-use Rattle.surface.specs.Stage.{Stage, InRange, Skin}
+use Rattle.surface.specs.Stage.{Stage, InRange}
 use Rattle.refusal.specs.declared.Verdict.{Verdict}
 use Rattle.refusal.specs.declared.Verdict.the-variants.{Passes}
 use Rattle.refusal.specs.declared.Refusal.{Refusal}
 use Rattle.refusal.specs.declared.Refusal.the-variants.{CountsOutside, CoordinateOutOfRange, NumberNotBelow, NumberTwice, EdgeTwice, ReverseMissing, CornerUnused, RingsMany, NotConnected}
 use Rattle.refusal.specs.First.{Clause, _when_, First, Refusals}
-use Rattle.faults.specs.Counts.{CountsFit, CountsFitAt, corners}
-use Rattle.faults.specs.Words.{OutOfRange, NotBelow, TwiceInRow, EdgeRepeats, NoReverse, Unused, AllUsed, ManyRings, Parted}
+use Rattle.faults.specs.Counts.{CountsFitAt, corners}
+use Rattle.faults.specs.Words.{OutOfRange, NotBelow, TwiceInRow, EdgeRepeats, NoReverse, Unused, ManyRings, Parted}
 
 -- a line that is asked of first tables only
 abbrev pub only : Bool → Clause Refusal → Refusals
@@ -41,39 +41,9 @@ refusals-after-counts first xs t = (CoordinateOutOfRange when OutOfRange xs) ∷
 unfoldable pub refusals-at : Bool → List ℤ → List ℕ → Refusals
 refusals-at first xs t = (CountsOutside when (¬ CountsFitAt xs t)) ∷ refusals-after-counts first xs t
 
--- 2 and 5 to 11, of a stage's table with a told corner count
-unfoldable pub stage-refusals : ℕ → List ℕ → Refusals
-stage-refusals n t = (CountsOutside when (¬ CountsFit n t)) ∷ row-refusals false n (rows t)
-
--- the verdict on rows over n corners: the first that holds, and where none does, a stage, that uses every corner if it is a first table
-pub record CheckedRows (first : Bool) (n : ℕ) (T : List Row) (v : Verdict) : Type 0 where
-  pub holds : First (row-refusals first n T) v
-  pub stage : v ≡ Passes → Stage n T
-  pub used : v ≡ Passes → first ≡ true → AllUsed n T
-
--- the same of a table with its coordinates
-pub record CheckedAt (first : Bool) (xs : List ℤ) (t : List ℕ) (v : Verdict) : Type 0 where
-  pub holds : First (refusals-at first xs t) v
-  pub fits : v ≡ Passes → CountsFitAt xs t
-  pub stage : v ≡ Passes → Stage (corners xs) (rows t)
-  pub in-range : v ≡ Passes → InRange xs
-  pub used : v ≡ Passes → first ≡ true → AllUsed (corners xs) (rows t)
-
--- the verdict on a first table with its coordinates: the first that holds, and where none does, a skin
-pub record CheckedFirst (xs : List ℤ) (t : List ℕ) (v : Verdict) : Type 0 where
-  pub holds : First (refusals-at true xs t) v
-  pub fits : v ≡ Passes → CountsFitAt xs t
-  pub skin : v ≡ Passes → Skin (corners xs) (rows t) xs
-
 -- the verdict on a stage's table with its coordinates: the first that holds, and where none does, a stage, with coordinates in range
 pub record CheckedStageAt (xs : List ℤ) (t : List ℕ) (v : Verdict) : Type 0 where
   pub holds : First (refusals-at false xs t) v
   pub fits : v ≡ Passes → CountsFitAt xs t
   pub stage : v ≡ Passes → Stage (corners xs) (rows t)
   pub in-range : v ≡ Passes → InRange xs
-
--- the verdict on a stage's table of a told corner count: the first that holds, and where none does, a stage
-pub record CheckedStage (n : ℕ) (t : List ℕ) (v : Verdict) : Type 0 where
-  pub holds : First (stage-refusals n t) v
-  pub fits : v ≡ Passes → CountsFit n t
-  pub stage : v ≡ Passes → Stage n (rows t)

@@ -13,7 +13,8 @@ use Rattle.surface.specs.Stage.{Stage, InRange}
 use Rattle.ints.proofs.Ints.{abs-add, abs-minus}
 use Rattle.ints.proofs.Machine.{Is, var, fits, kept, times, plus, less, sfits-abs}
 use Rattle.figure.specs.Corners.{coordinate}
-use Rattle.figure.specs.Sum.{minor, determinant, sixfold, WithCoordinates, minor-bound, row-bound, sum-bound}
+use Rattle.figure.specs.Sum.{minor, determinant, sixfold}
+use Rattle.figure.specs.Inner.{WithCoordinates, minor-bound, row-bound, sum-bound}
 
 -- a checked stage with its coordinates
 pub stage-coordinates : {n : ℕ} {T : List Row} {xs : List ℤ} → Stage n T → length xs ≡ 3 * n → InRange xs → WithCoordinates T xs

@@ -2,24 +2,15 @@
 use mathlib.Core.List.{List}
 use Prim.Native.Nat.{ℕ, _+_, _*_, _≤_}
 use lib.IntN.{ℤ, pos, _-ℤ_, natAbs}
-use lib.ListN.{length, getD}
-use Rattle.surface.specs.Limits.{most-coordinate}
+use lib.ListN.{getD}
 
 -- a corner has three signed whole coordinates: coordinate j of the corner v, j being 0, 1 or 2
 abbrev pub coordinate : List ℤ → ℕ → ℕ → ℤ
 coordinate xs v j = getD xs (3 * v + j) (pos 0)
 
--- the table has the corner v
-abbrev pub Has : List ℤ → ℕ → Type 0
-Has xs v = 3 * v + 3 ≤ length xs
-
 -- how far a and b lie apart in coordinate j
 abbrev pub gap : List ℤ → ℕ → ℕ → ℕ → ℕ
 gap xs a b j = natAbs (coordinate xs a j -ℤ coordinate xs b j)
-
--- at most twice the largest coordinate
-abbrev pub gap-bound : ℕ
-gap-bound = 2 * most-coordinate
 
 -- the squared distance of two corners
 unfoldable pub squared-distance : List ℤ → ℕ → ℕ → ℕ

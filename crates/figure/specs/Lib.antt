@@ -2,3 +2,4 @@ pub mod Corners
 pub mod Sum
 pub mod Rounding
 pub mod Chain
+pub mod Inner

@@ -6,8 +6,9 @@ ghost use lib.IntN.{natAbs};
 ghost use Rattle.surface.specs.Limits.{most-coordinate};
 ghost use Rattle.surface.specs.Rows.{rows};
 ghost use Rattle.surface.specs.Stage.{InRange};
-ghost use Rattle.figure.specs.Corners.{coordinate, Has, gap, gap-bound, squared-distance};
-ghost use Rattle.figure.specs.Sum.{minor, determinant, sixfold, WithCoordinates, minor-bound, row-bound, sum-bound};
+ghost use Rattle.figure.specs.Corners.{coordinate, gap, squared-distance};
+ghost use Rattle.figure.specs.Inner.{Has, gap-bound, WithCoordinates, minor-bound, row-bound, sum-bound};
+ghost use Rattle.figure.specs.Sum.{minor, determinant, sixfold};
 ghost use Rattle.figure.specs.Rounding.{figure, change};
 
 // Six times the cubic centimetres of a cubic metre.

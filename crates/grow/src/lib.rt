@@ -9,7 +9,7 @@ ghost use lib.ListN.{length, take};
 ghost use Rattle.surface.specs.Stage.{StageTable};
 ghost use Rattle.surface.specs.Grow.{put, put-back};
 ghost use Rattle.surface.specs.Record.{placed};
-ghost use Rattle.record.specs.Layout.{meant};
+ghost use Rattle.record.specs.Inner.{meant};
 ghost use Rattle.ends.specs.Rows.{row-of};
 ghost use Rattle.grow.specs.Walk.{Walkable, Renamed};
 ghost use Rattle.record.specs.Front.{standing, filled};

@@ -9,11 +9,13 @@ use lib.Dec.{leb}
 use lib.IntN.{ℤ}
 use Rattle.surface.specs.Stage.{InRange}
 use Rattle.length.specs.Limit.{most-limit}
-use Rattle.figure.specs.Corners.{Has, squared-distance}
+use Rattle.figure.specs.Corners.{squared-distance}
+use Rattle.figure.specs.Inner.{Has}
 use Rattle.refusal.specs.Tells.{Tells}
 use Rattle.least.specs.declared.Bound.{Bound}
 use Rattle.least.specs.declared.Bound.the-variants.{Free, Within}
-use Rattle.least.specs.Limited.{Allowed, Measurable, MeasurableAt}
+use Rattle.least.specs.Limited.{Allowed}
+use Rattle.least.specs.Inner.{Measurable, MeasurableAt}
 
 pub free-allowed : (bound : Bound) (xs : List ℤ) (a b : ℕ) → bound ≡ Free → Allowed bound xs a b
 free-allowed bound xs a b e = rw e tt

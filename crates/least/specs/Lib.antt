@@ -1,2 +1,3 @@
 pub mod Limited
 pub mod Search
+pub mod Inner

@@ -14,7 +14,7 @@ use Rattle.slots.specs.Chain.{Chained}
 use Rattle.least.specs.declared.Bound.{Bound}
 use Rattle.least.specs.declared.Found.{Found}
 use Rattle.least.specs.declared.Found.the-variants.{Nothing, Edge}
-use Rattle.least.specs.Limited.{Measurable}
+use Rattle.least.specs.Inner.{Measurable}
 
 -- the flat table t is a stage over n corners, last and prev are the chains of its slots, and its corners are measured as the limit asks
 pub record Searchable (n : ℕ) (t last prev : List ℕ) (bound : Bound) (xs : List ℤ) : Type 0 where

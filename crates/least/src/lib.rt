@@ -8,7 +8,8 @@ ghost use Rattle.surface.specs.Rows.{rows};
 ghost use Rattle.run.specs.Run.{Qualifies};
 ghost use Rattle.refusal.specs.Tells.{Tells};
 ghost use Rattle.link.specs.Around.{Neighbours, Marked, Unmarked};
-ghost use Rattle.least.specs.Limited.{Allowed, MeasurableAt};
+ghost use Rattle.least.specs.Limited.{Allowed};
+ghost use Rattle.least.specs.Inner.{MeasurableAt};
 ghost use Rattle.least.specs.Search.{Searchable, SearchableAt, Above, Better, NextAbove, NextMarked, FoundAt, FoundLeast};
 
 // The limit of an order, as steps use it: none, or whole centimetres.

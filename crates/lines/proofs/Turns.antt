@@ -17,7 +17,8 @@ use Rattle.text.specs.declared.Signed.the-variants as whole
 use Rattle.text.specs.declared.Passed.{Passed}
 use Rattle.text.specs.declared.Passed.the-variants.{To, Bad}
 use Rattle.text.proofs.Digits.{digits-below}
-use Rattle.lines.specs.Lines.{tab, newline, fields, line, lines, FewDigits, FieldAt, FieldsAt, LineAt, LinesAt, ReadField, PutFrom, ReadInto}
+use Rattle.lines.specs.Lines.{tab, newline, fields, line, lines, FewDigits, LineAt}
+use Rattle.lines.specs.Inner.{FieldAt, FieldsAt, LinesAt, ReadField, PutFrom, ReadInto}
 use Rattle.lines.proofs.Cut.{short-append, short-left, short-right, fields-append, after-field, newline-no-digit, cut, fields-unique, line-after, lines-more, cut-lines}
 
 -- ---- one field

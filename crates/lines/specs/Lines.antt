@@ -1,14 +1,10 @@
 -- Lines of numbers: "Lines end in one newline; fields are parted by single tabs."
 use mathlib.Core.Path.{_≡_}
 use mathlib.Core.List.{List, [], _∷_, _++_}
-use Prim.Native.Nat.{ℕ, zero, suc, _≤_, _<_}
+use Prim.Native.Nat.{ℕ, zero, suc, _≤_}
 use lib.IntN.{ℤ, natAbs}
 use lib.ListN.{length, take, drop}
-use lib.Seq.{sets}
-use Rattle.text.specs.Decimal.{decimal, signed, NoDigit}
-use Rattle.text.specs.declared.Passed.{Passed}
-use Rattle.text.specs.declared.Passed.the-variants.{To, Bad}
-use Rattle.text.specs.declared.Signed.{Signed}
+use Rattle.text.specs.Decimal.{decimal, signed}
 use Rattle.text.specs.declared.Signed.the-variants as whole
 
 abbrev pub tab : ℕ
@@ -36,41 +32,7 @@ abbrev pub FewDigits : ℕ → List ℤ → Type 0
 FewDigits most [] = Unit
 FewDigits most (z ∷ zs) = (length (decimal (natAbs z)) ≤ most) × FewDigits most zs
 
--- one field stands in front of l, and r, which begins with no digit, follows
-pub record FieldAt (most : ℕ) (l : List ℕ) (z : ℤ) (r : List ℕ) : Type 0 where
-  pub bytes : l ≡ tab ∷ (signed z ++ r)
-  pub short : length (decimal (natAbs z)) ≤ most
-  pub ends : NoDigit r
-
--- fields stand in front of l, and r follows
-pub record FieldsAt (most : ℕ) (l : List ℕ) (zs : List ℤ) (r : List ℕ) : Type 0 where
-  pub bytes : l ≡ fields zs ++ r
-  pub short : FewDigits most zs
-  pub ends : 0 < length zs → NoDigit r
-
 -- a line of the word w stands in front of l, and r follows
 pub record LineAt (most : ℕ) (w : List ℕ) (l : List ℕ) (zs : List ℤ) (r : List ℕ) : Type 0 where
   pub bytes : l ≡ line w zs ++ r
   pub short : FewDigits most zs
-
--- k lines of the word w stand in front of l, and r follows
-pub record LinesAt (most : ℕ) (w : List ℕ) (width k : ℕ) (l : List ℕ) (zs : List ℤ) (r : List ℕ) : Type 0 where
-  pub bytes : l ≡ lines w width k zs ++ r
-  pub short : FewDigits most zs
-
--- one field read from a place, and the place after it; or none stands there
-unfoldable pub ReadField : ℕ → List ℕ → ℕ → Signed → Type 0
-ReadField most s at (whole.Read z c) = FieldAt most (drop at s) z (drop (c .at) s)
-ReadField most s at whole.Bad = (z : ℤ) (r : List ℕ) → ¬ FieldAt most (drop at s) z r
-
--- n numbers that stand somewhere, with r after them, put into a room from its place start on
-pub record PutFrom (Stand : List ℤ → List ℕ → Type 0) (n : ℕ) (room : List ℤ) (start : ℕ) (room′ : List ℤ) (r : List ℕ) : Type 0 where
-  pub zs : List ℤ
-  pub count : length zs ≡ n
-  pub here : Stand zs r
-  pub put : room′ ≡ sets room start zs
-
--- n numbers read into a room, and the place after them; or no such n numbers stand there
-unfoldable pub ReadInto : (List ℤ → List ℕ → Type 0) → ℕ → List ℕ → List ℤ → ℕ → List ℤ → Passed → Type 0
-ReadInto Stand n s room start room′ (To c) = PutFrom Stand n room start room′ (drop (c .at) s)
-ReadInto Stand n s room start room′ Bad = (zs : List ℤ) (r : List ℕ) → length zs ≡ n → ¬ Stand zs r

@@ -1,7 +1,8 @@
 // Lines of numbers: a word, fields parted by single tabs, one newline. What is read goes into a lent room.
 ghost use Prim.Native.Nat.{_+_, _*_, _≤_, _<_};
 ghost use lib.ListN.{length, drop};
-ghost use Rattle.lines.specs.Lines.{FieldsAt, LineAt, LinesAt, ReadField, ReadInto};
+ghost use Rattle.lines.specs.Lines.{LineAt};
+ghost use Rattle.lines.specs.Inner.{FieldsAt, LinesAt, ReadField, ReadInto};
 use text::Cursor;
 use text::Passed;
 use text::Signed;

@@ -7,7 +7,8 @@ use lib.ListN.{length, take, drop, replicate, length-append, length-drop, take-a
 use lib.Seq.{take-at, drop-at, drop-drop, length-take-le, drop-append-add}
 use Rattle.surface.specs.Rows.{Row, rows, flat}
 use Rattle.surface.proofs.Flat.{rows-flat, flat-length, flat-rows, rows-length}
-use Rattle.record.specs.Front.{standing, filled, lowered, zeroed}
+use Rattle.record.specs.Front.{standing, filled, zeroed}
+use Rattle.record.specs.Inner.{lowered}
 
 -- as many rows stand in front as are told
 pub standing-length : (m : ℕ) (room : List ℕ) → 3 * m ≤ length room → length (standing m room) ≡ m

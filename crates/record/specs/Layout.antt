@@ -6,7 +6,6 @@ use lib.ListN.{length, drop, getD}
 use Rattle.surface.specs.Rows.{Row, row}
 use Rattle.surface.specs.Record as surface
 use Rattle.record.specs.declared.Record.{Record}
-use Rattle.record.specs.declared.Contracted.{Contracted}
 
 -- a record is ten numbers
 abbrev pub width : ℕ
@@ -24,17 +23,6 @@ unfoldable pub log-of : List surface.Record → List ℕ
 log-of [] = []
 log-of (k ∷ l) = numbers k ++ log-of l
 
--- what the code's record means
-abbrev pub meant : Record → surface.Record
-meant r = record {
-  kept = r .kept .0;
-  removed = r .removed .0;
-  place-1 = r .earlier .place .0;
-  row-1 = row (r .earlier .a .0) (r .earlier .b .0) (r .earlier .c .0);
-  place-2 = r .later .place .0;
-  row-2 = row (r .later .a .0) (r .later .b .0) (r .later .c .0);
-}
-
 -- the record whose numbers stand in a log from place i on
 abbrev pub record-at : List ℕ → ℕ → surface.Record
 record-at l i = record {
@@ -45,11 +33,6 @@ record-at l i = record {
   place-2 = getD l (i + 6) 0;
   row-2 = row (getD l (i + 7) 0) (getD l (i + 8) 0) (getD l (i + 9) 0);
 }
-
--- e has kept and removed of the record k
-pub record IsContracted (k : surface.Record) (e : Contracted) : Type 0 where
-  pub kept : e .kept .0 ≡ k .kept
-  pub removed : e .removed .0 ≡ k .removed
 
 -- the first k records of a log
 unfoldable pub first-records : ℕ → List ℕ → List surface.Record

@@ -4,7 +4,8 @@ ghost use mathlib.Core.List.{_∷_, []};
 ghost use Prim.Native.Nat.{_+_, _≤_};
 ghost use lib.ListN.{length};
 ghost use lib.Seq.{sets};
-ghost use Rattle.record.specs.Layout.{width, numbers, meant, record-at, IsContracted};
+ghost use Rattle.record.specs.Layout.{width, numbers, record-at};
+ghost use Rattle.record.specs.Inner.{meant, IsContracted};
 
 // A corner number.
 pub struct Corner(pub u32);

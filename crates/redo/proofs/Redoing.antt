@@ -7,7 +7,7 @@ use lib.ListN.{length}
 use Rattle.surface.specs.Stage.{StageTable}
 use Rattle.run.proofs.Main.{step-one}
 use Rattle.record.specs.declared.Record.{Record}
-use Rattle.record.specs.Layout.{meant}
+use Rattle.record.specs.Inner.{meant}
 use Rattle.record.specs.Front.{front-rows, standing}
 use Rattle.step.specs.Front.{SteppedFront}
 use Rattle.step.proofs.Front.{fallen-none, front-replays, fallen-on, fallen-left}

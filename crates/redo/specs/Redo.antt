@@ -6,7 +6,8 @@ use Prim.Native.Nat.{ℕ}
 use Rattle.surface.specs.Rows.{Row, row}
 use Rattle.surface.specs.Record.{Placed, at, Record, Replays}
 use Rattle.record.specs.declared.Leaving.{Leaving}
-use Rattle.record.specs.Front.{standing, lowered}
+use Rattle.record.specs.Front.{standing}
+use Rattle.record.specs.Inner.{lowered}
 
 -- a leaving row with its place
 abbrev pub placed-as : Leaving → Placed

@@ -9,7 +9,7 @@ ghost use Rattle.surface.specs.Rows.{rows};
 ghost use Rattle.surface.specs.Stage.{StageTable};
 ghost use Rattle.surface.specs.Link.{Meets};
 ghost use Rattle.refusal.specs.Tells.{Tells};
-ghost use Rattle.record.specs.Layout.{meant};
+ghost use Rattle.record.specs.Inner.{meant};
 ghost use Rattle.record.specs.Front.{front-rows};
 ghost use Rattle.redo.specs.Redo.{placed-as, Accepts, Redid};
 

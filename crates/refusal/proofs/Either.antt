@@ -12,7 +12,8 @@ use Rattle.refusal.specs.declared.Verdict.the-variants.{Passes, Refused}
 use Rattle.refusal.specs.Number.{number}
 use Rattle.refusal.specs.First.{FirstOf, Refusals, First}
 use Rattle.refusal.proofs.Laws.{refused-passes}
-use Rattle.refusal.specs.Lesser.{lesser-of, either, Rising}
+use Rattle.refusal.specs.Lesser.{either}
+use Rattle.refusal.specs.Inner.{lesser-of, Rising}
 
 pub lesser-left : (a b : Refusal) → number a ≤ number b → lesser-of (Refused a) (Refused b) ≡ Refused a
 unfolding lesser-of

@@ -5,3 +5,4 @@ pub mod Refuses
 pub mod Lesser
 pub mod Outcome
 pub mod Tells
+pub mod Inner

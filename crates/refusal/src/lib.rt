@@ -1,7 +1,7 @@
 // The refusals: one case for each number that 01 lists, the answer of a check, and the lesser of two.
 ghost use mathlib.Core.Path.{_≡_};
 ghost use Rattle.refusal.specs.Number.{number};
-ghost use Rattle.refusal.specs.Lesser.{lesser-of};
+ghost use Rattle.refusal.specs.Inner.{lesser-of};
 
 pub enum Refusal {
     LimitUnusable,

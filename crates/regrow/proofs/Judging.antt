@@ -13,7 +13,7 @@ use Rattle.refusal.specs.declared.Verdict.the-variants as verdict
 use Rattle.refusal.specs.First.{First}
 use Rattle.refusal.proofs.Laws.{verdicts, rest-decides, given-first, refused-passes, none-yet, _nor_}
 use Rattle.faults.specs.Counts.{CountsFit}
-use Rattle.faults.specs.Order.{CheckedStage}
+use Rattle.faults.specs.Inner.{CheckedStage}
 use Rattle.faults.proofs.Order.{after-2}
 use Rattle.record.proofs.Front.{standing-length}
 use Rattle.regrow.specs.Outcome.{GrowFits, room-need, grow-refusals}

@@ -6,7 +6,7 @@ use Rattle.refusal.specs.declared.Refusal.the-variants.{CountsOutside}
 use Rattle.refusal.specs.declared.Verdict.{Verdict}
 use Rattle.refusal.specs.declared.Verdict.the-variants.{Refused}
 use Rattle.refusal.proofs.Laws.{verdicts, rest-decides, given-first, refused-passes, none-yet, _nor_}
-use Rattle.faults.specs.Order.{CheckedStage}
+use Rattle.faults.specs.Inner.{CheckedStage}
 use Rattle.faults.proofs.Order.{after-2}
 use Rattle.slots.proofs.Slots.{whole-rows}
 use Rattle.replay.specs.Outcome.{ReplayFits, replay-refusals}

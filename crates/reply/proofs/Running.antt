@@ -15,7 +15,8 @@ use Rattle.run.specs.Run.{Run}
 use Rattle.run.proofs.Main.{taken-replayed, replayed-rows}
 use Rattle.record.specs.Layout.{width, log-of}
 use Rattle.record.proofs.Log.{log-length}
-use Rattle.figure.specs.Sum.{sixfold, WithCoordinates}
+use Rattle.figure.specs.Sum.{sixfold}
+use Rattle.figure.specs.Inner.{WithCoordinates}
 use Rattle.figure.specs.Rounding.{figure}
 use Rattle.figure.proofs.Sizes.{stage-coordinates}
 use Rattle.least.specs.declared.Bound.{Bound}

@@ -12,7 +12,8 @@ use Rattle.ring.specs.declared.Trial.{Trial}
 use Rattle.ring.specs.declared.Trial.the-variants.{Number, Nothing}
 use Rattle.refusal.specs.Told.{done}
 use Rattle.ring.specs.Answer.{told}
-use Rattle.ring.specs.Ring.{corner, six, size, number-at, numbers-from, ring, AnswerAt}
+use Rattle.ring.specs.Ring.{corner, six, size, number-at, AnswerAt}
+use Rattle.ring.specs.Inner.{numbers-from, ring}
 
 numbers-at : (n k i : ℕ) → i < n → getD (numbers-from k n) i 0 ≡ number-at (k + i)
 unfolding numbers-from

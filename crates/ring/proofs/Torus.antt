@@ -10,7 +10,8 @@ use Rattle.surface.specs.Rows.{Row, row, rows}
 use Rattle.surface.proofs.Flat.{place-of}
 use Rattle.ring.specs.declared.Trial.{Trial}
 use Rattle.ring.specs.declared.Trial.the-variants.{Number, Nothing}
-use Rattle.ring.specs.Ring.{corner, size, ring, AnswerAt}
+use Rattle.ring.specs.Ring.{corner, size, AnswerAt}
+use Rattle.ring.specs.Inner.{ring}
 use Rattle.ring.specs.Torus.{first-row, second-row, OnGrid, Torus, TrialRing}
 use Rattle.ring.proofs.Rule.{ring-at, ring-length, ring-numbers, row-first, row-second, trial-one}
 use Rattle.ring.proofs.Closed.{ring-stage, ring-used, ring-euler}

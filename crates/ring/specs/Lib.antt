@@ -1,3 +1,4 @@
 pub mod Ring
 pub mod Answer
 pub mod Torus
+pub mod Inner

@@ -1,7 +1,7 @@
 -- The trial ring's grid rule.
 use mathlib.Core.Path.{_≡_}
 use mathlib.Core.List.{List, [], _∷_}
-use Prim.Native.Nat.{ℕ, zero, suc, _+_, _*_, _/_, _%_, _≤_, _<_}
+use Prim.Native.Nat.{ℕ, _+_, _*_, _/_, _%_, _≤_, _<_}
 use lib.ListN.{getD}
 use Rattle.ring.specs.declared.Trial.{Trial}
 use Rattle.ring.specs.declared.Trial.the-variants.{Number, Nothing}
@@ -21,14 +21,6 @@ size = 384
 -- in order of the corners' numbers, the number at place k
 unfoldable pub number-at : ℕ → ℕ
 number-at k = getD (six (k / 6 / 8) (k / 6 % 8)) (k % 6) 0
-
--- the table that follows the rule: its numbers from place k on, n of them
-unfoldable pub numbers-from : ℕ → ℕ → List ℕ
-numbers-from k zero = []
-numbers-from k (suc n) = number-at k ∷ numbers-from (suc k) n
-
-unfoldable pub ring : List ℕ
-ring = numbers-from 0 size
 
 -- the answer: the number at a place of the table, nothing past it
 abbrev pub AnswerAt : ℕ → Trial → Type 0

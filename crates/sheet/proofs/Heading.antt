@@ -16,7 +16,8 @@ use Rattle.ints.proofs.Machine.{Is, sfits-abs, unsigned-fits}
 use Rattle.ints.proofs.Short.{below, not-below}
 use Rattle.text.specs.Decimal.{decimal}
 use Rattle.text.proofs.Digits.{digits-below}
-use Rattle.lines.specs.Lines.{LineAt, PutFrom}
+use Rattle.lines.specs.Lines.{LineAt}
+use Rattle.lines.specs.Inner.{PutFrom}
 use Rattle.lines.proofs.Cut.{line-unique}
 use Rattle.sheet.specs.Limits.{most-digits}
 use Rattle.sheet.specs.Form.{SKIN, Begins, NoFirstLine}

@@ -17,12 +17,14 @@ use Rattle.refusal.specs.declared.Verdict.{Verdict}
 use Rattle.refusal.specs.declared.Verdict.the-variants.{Passes, Refused}
 use Rattle.refusal.proofs.Laws.{verdicts, rest-decides, given-first, none-yet, _nor_}
 use Rattle.faults.specs.Counts.{CountsFitAt, corners}
-use Rattle.faults.specs.Order.{CheckedFirst, refusals-at}
+use Rattle.faults.specs.Order.{refusals-at}
+use Rattle.faults.specs.Inner.{CheckedFirst}
 use Rattle.faults.proofs.Order.{after-2-at}
 use Rattle.sheet.specs.declared.Sheet.{Sheet}
 use Rattle.sheet.specs.declared.Sheet.the-variants as sheet
 use Rattle.sheet.specs.Form.{CountsIn, SheetOf, form-refusals}
-use Rattle.sheet.specs.Outcome.{NoRoom, table-short, corners-short, skin-refusals, FormRead, Delivered, kept, put, ReadSheet, bad-skin, read}
+use Rattle.sheet.specs.Outcome.{NoRoom, table-short, corners-short, skin-refusals, ReadSheet, bad-skin, read}
+use Rattle.sheet.specs.Inner.{FormRead, Delivered, kept, put}
 use Rattle.sheet.proofs.Casts.{front, in-front}
 
 module _ (n m : ℕ) (fit : CountsIn n m) (xs : List ℤ) (t : List ℕ) (cs : length xs ≡ n * 3) (rs : length t ≡ m * 3) where

@@ -6,7 +6,8 @@ use native.Mathlib.Omega.{arith}
 use lib.IntN.{ℤ, pos}
 use lib.ListN.{length, take, drop, length-drop, length-map, drop-of-length-le}
 use lib.Seq.{sets}
-use Rattle.lines.specs.Lines.{lines, FewDigits, LinesAt, PutFrom}
+use Rattle.lines.specs.Lines.{lines, FewDigits}
+use Rattle.lines.specs.Inner.{LinesAt, PutFrom}
 use Rattle.lines.proofs.Cut.{lines-unique}
 use Rattle.sheet.specs.Limits.{most-digits}
 use Rattle.sheet.specs.Form.{C, R, corner-lines, row-lines}

@@ -4,14 +4,12 @@ use mathlib.Core.Path.{_≡_}
 use mathlib.Core.List.{List, [], _∷_, _++_, map}
 use Prim.Native.Nat.{ℕ, _*_, _≤_, _<_}
 use lib.IntN.{ℤ, pos}
-use lib.ListN.{length, drop}
+use lib.ListN.{length}
 use Rattle.surface.specs.Limits.{least-rows, least-corners}
 use Rattle.refusal.specs.First.{Refusals, _when_}
 use Rattle.refusal.specs.declared.Refusal.the-variants.{SheetForm, CountsOutside}
 use Rattle.lines.specs.Lines.{line, lines, FewDigits, LineAt}
 use Rattle.sheet.specs.Limits.{most-sheet-bytes, most-sheet-rows, most-sheet-corners, most-digits}
-use Rattle.sheet.specs.declared.FirstLine.{FirstLine}
-use Rattle.sheet.specs.declared.FirstLine.the-variants.{Read, Bad}
 
 -- the words of the lines: SKIN, C, R
 abbrev pub SKIN : List ℕ
@@ -84,8 +82,3 @@ form-refusals b =
     ∷ (CountsOutside when CountsOut b)
     ∷ (SheetForm when NoSheet b)
     ∷ []
-
--- what the reader of the first line answers
-unfoldable pub ReadFirst : List ℕ → FirstLine → Type 0
-ReadFirst b (Read n m c) = LineAt most-digits SKIN b (pos n ∷ pos m ∷ []) (drop (c .at) b)
-ReadFirst b Bad = NoFirstLine b

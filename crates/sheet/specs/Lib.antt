@@ -3,3 +3,4 @@ pub mod Form
 pub mod Body
 pub mod Outcome
 pub mod Answer
+pub mod Inner

@@ -5,7 +5,6 @@ use mathlib.Core.List.{List, _∷_, _++_}
 use Prim.Native.Nat.{ℕ, _<_}
 use lib.IntN.{ℤ}
 use lib.ListN.{length, drop}
-use lib.Seq.{sets}
 use Rattle.surface.specs.Rows.{rows}
 use Rattle.surface.specs.Stage.{Skin}
 use Rattle.refusal.specs.First.{Refusals, _when_, First}
@@ -15,7 +14,7 @@ use Rattle.refusal.specs.declared.Verdict.the-variants as verdict
 use Rattle.faults.specs.Order.{refusals-after-counts}
 use Rattle.sheet.specs.declared.Sheet.{Sheet}
 use Rattle.sheet.specs.declared.Sheet.the-variants.{Read, Refused}
-use Rattle.sheet.specs.Form.{CountsIn, SheetOf, form-refusals}
+use Rattle.sheet.specs.Form.{SheetOf, form-refusals}
 
 -- table or corners do not fit their lent rooms
 pub data NoRoom (troom : List ℕ) (croom : List ℤ) (xs : List ℤ) (t : List ℕ) : Type 0 where
@@ -36,21 +35,3 @@ pub data ReadSheet (b : List ℕ) (troom troom′ : List ℕ) (croom croom′ : 
   read : {n m : ℕ} {xs : List ℤ} {t : List ℕ} → First (form-refusals b) verdict.Passes → SheetOf b n m xs t → First (skin-refusals troom croom xs t) verdict.Passes → Skin n (rows t) xs → a ≡ Read n m → troom′ ≡ t ++ drop (length t) troom → croom′ ≡ xs ++ drop (length xs) croom → ReadSheet b troom troom′ croom croom′ a
 
 -- ---- its two halves, for the inner functions
-
--- in the form, with its corners and rows put into two rooms
-pub record FormRead (b : List ℕ) (n m : ℕ) (xroom xroom′ : List ℤ) (troom troom′ : List ℕ) : Type 0 where
-  pub passes : First (form-refusals b) verdict.Passes
-  pub counts : CountsIn n m
-  pub xs : List ℤ
-  pub t : List ℕ
-  pub here : SheetOf b n m xs t
-  pub put-corners : xroom′ ≡ sets xroom 0 xs
-  pub put-rows : troom′ ≡ sets troom 0 t
-
-unfoldable pub ReadForm : List ℕ → List ℤ → List ℤ → List ℕ → List ℕ → Sheet → Type 0
-ReadForm b xroom xroom′ troom troom′ (Read n m) = FormRead b n m xroom xroom′ troom troom′
-ReadForm b xroom xroom′ troom troom′ (Refused r) = First (form-refusals b) (verdict.Refused r)
-
-pub data Delivered (n m : ℕ) (xs : List ℤ) (t : List ℕ) (troom troom′ : List ℕ) (croom croom′ : List ℤ) (a : Sheet) : Type 0 where
-  kept : {r : Refusal} → First (skin-refusals troom croom xs t) (verdict.Refused r) → a ≡ Refused r → troom′ ≡ troom → croom′ ≡ croom → Delivered n m xs t troom troom′ croom croom′ a
-  put : First (skin-refusals troom croom xs t) verdict.Passes → Skin n (rows t) xs → a ≡ Read n m → troom′ ≡ t ++ drop (length t) troom → croom′ ≡ xs ++ drop (length xs) croom → Delivered n m xs t troom troom′ croom croom′ a

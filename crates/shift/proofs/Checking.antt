@@ -17,7 +17,8 @@ use Rattle.record.specs.Layout.{width, record-at, records}
 use Rattle.faults.specs.Counts.{corners}
 use Rattle.faults.specs.Words.{OutOfRange}
 use Rattle.faults.proofs.Opposites.{in-or-out}
-use Rattle.shift.specs.Order.{ShiftFits, PastIn, kept-past, removed-past, BelowIn, Past, shift-refusals, CheckedShift}
+use Rattle.shift.specs.Order.{ShiftFits, PastIn, kept-past, removed-past, Past, shift-refusals}
+use Rattle.shift.specs.Inner.{BelowIn, CheckedShift}
 use Rattle.record.proofs.Places.{in-records, records-in}
 
 -- ---- 5 of a log

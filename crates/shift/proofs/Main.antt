@@ -29,7 +29,8 @@ use Rattle.run.proofs.Main.{step-stage, taken-allowed, taken-cut, taken-replaye
 use Rattle.shift.specs.declared.Shifted.{Shifted}
 use Rattle.shift.specs.declared.Shifted.the-variants.{StandIn, Refused}
 use Rattle.shift.specs.StandIn.{stand-in, moves}
-use Rattle.shift.specs.Order.{ShiftFits, BelowIn}
+use Rattle.shift.specs.Order.{ShiftFits}
+use Rattle.shift.specs.Inner.{BelowIn}
 use Rattle.shift.specs.Answer.{told}
 use Rattle.shift.specs.Report.{ShiftReport, Bounded}
 use Rattle.shift.proofs.Following.{moved-on, stayed}

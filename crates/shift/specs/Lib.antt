@@ -2,3 +2,4 @@ pub mod StandIn
 pub mod Order
 pub mod Answer
 pub mod Report
+pub mod Inner

@@ -1,5 +1,6 @@
 // The check of a table: the first refusal that holds, in 01's order, and what passing gives.
-ghost use Rattle.faults.specs.Order.{CheckedAt, CheckedFirst, CheckedStageAt, CheckedStage};
+ghost use Rattle.faults.specs.Order.{CheckedStageAt};
+ghost use Rattle.faults.specs.Inner.{CheckedAt, CheckedFirst, CheckedStage};
 use refusal::Refusal;
 use refusal::Verdict;
 

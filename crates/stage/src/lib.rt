@@ -7,7 +7,7 @@ ghost use Rattle.surface.specs.Rows.{rows};
 ghost use Rattle.faults.specs.Counts.{CountsFit};
 ghost use Rattle.refusal.specs.Tells.{Tells};
 ghost use Rattle.faults.specs.Words.{Unused, AllUsed};
-ghost use Rattle.faults.specs.Order.{CheckedRows};
+ghost use Rattle.faults.specs.Inner.{CheckedRows};
 ghost use Rattle.slots.specs.Slot.{Whole};
 ghost use Rattle.slots.specs.Chain.{Lasts};
 use refusal::Refusal;

@@ -4,7 +4,8 @@ use mathlib.Core.List.{List, [], _∷_, _++_}
 use Prim.Native.Nat.{ℕ, zero, suc, _+_, _-_, _*_, _/_, _%_, _^_, _≤_, _<_}
 use native.Mathlib.Omega.{arith}
 use lib.ListN.{length, length-append}
-use Rattle.text.specs.Decimal.{digit, front, digits, decimal, Digit, NoDigit}
+use Rattle.text.specs.Decimal.{digit, front, digits, decimal}
+use Rattle.text.specs.Inner.{Digit, NoDigit}
 
 -- ---- the two equations
 

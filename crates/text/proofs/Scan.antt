@@ -5,7 +5,8 @@ use Prim.Native.Nat.{ℕ, suc, _+_, _-_, _*_, _^_, _≤_, _<_}
 use native.Mathlib.Omega.{arith}
 use lib.ListN.{length, length-append, drop, getD, drop-of-length-le}
 use lib.Seq.{drop-cons}
-use Rattle.text.specs.Decimal.{digit, decimal, Digit, NoDigit}
+use Rattle.text.specs.Decimal.{digit, decimal}
+use Rattle.text.specs.Inner.{Digit, NoDigit}
 use Rattle.text.specs.Reading.{NumberAt, DigitAt}
 use Rattle.text.proofs.Digits.{decimal-one, decimal-more, AllDigits, is-digit, one-more, all-digits, head, digits-below, Left, left, same-digits}
 

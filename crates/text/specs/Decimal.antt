@@ -1,6 +1,6 @@
 -- Numbers as text: decimal digits with no needless zero in front, and a minus only before a nonzero number.
 use mathlib.Core.List.{List, [], _∷_, _++_}
-use Prim.Native.Nat.{ℕ, zero, suc, _+_, _/_, _%_, _≤_}
+use Prim.Native.Nat.{ℕ, zero, suc, _+_, _/_, _%_}
 use lib.IntN.{ℤ, pos, negsuc}
 
 -- the byte of a digit
@@ -29,13 +29,3 @@ decimal n = digits (suc n) n
 abbrev pub signed : ℤ → List ℕ
 signed (pos n) = decimal n
 signed (negsuc n) = minus ∷ decimal (suc n)
-
--- the bytes 0 to 9
-pub record Digit (b : ℕ) : Type 0 where
-  pub least : digit 0 ≤ b
-  pub most : b ≤ digit 9
-
--- a number ends where no digit follows: another byte, or the end
-abbrev pub NoDigit : List ℕ → Type 0
-NoDigit [] = Unit
-NoDigit (b ∷ l) = ¬ Digit b

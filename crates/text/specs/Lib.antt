@@ -1,2 +1,3 @@
 pub mod Decimal
 pub mod Reading
+pub mod Inner

@@ -5,7 +5,8 @@ use Prim.Native.Nat.{ℕ, zero, suc, _+_, _^_, _≤_, _<_}
 use lib.IntN.{ℤ, pos, negsuc, natAbs}
 use lib.ListN.{length, drop}
 use lib.Seq.{sets}
-use Rattle.text.specs.Decimal.{digit, decimal, signed, NoDigit}
+use Rattle.text.specs.Decimal.{digit, decimal, signed}
+use Rattle.text.specs.Inner.{NoDigit}
 use Rattle.text.specs.declared.Number.{Number}
 use Rattle.text.specs.declared.Number.the-variants as number
 use Rattle.text.specs.declared.Signed.{Signed}

@@ -27,14 +27,16 @@ use Rattle.length.specs.Limit.{limit-of}
 use Rattle.length.proofs.Laws.{limit-most}
 use Rattle.least.specs.declared.Bound.{Bound}
 use Rattle.least.specs.declared.Bound.the-variants.{Free, Within}
-use Rattle.least.specs.Limited.{Allowed, Measurable}
+use Rattle.least.specs.Limited.{Allowed}
+use Rattle.least.specs.Inner.{Measurable}
 use Rattle.record.specs.Front.{front-rows}
 use Rattle.engine.specs.Engine.{CanGoOn, WentOn}
 use Rattle.thin.specs.declared.Asked.{Asked}
 use Rattle.thin.specs.declared.Asked.the-variants.{Under}
 use Rattle.thin.specs.declared.Thinning.the-variants.{Done, Refused}
 use Rattle.thin.specs.Order.{asked-by}
-use Rattle.thin.specs.Thin.{Fair, JudgedThinning, ThinnedAs, refused, done}
+use Rattle.thin.specs.Thin.{ThinnedAs, refused, done}
+use Rattle.thin.specs.Inner.{Fair, JudgedThinning}
 
 -- no more corners are used than there are
 used-most : {n v : ℕ} {T : List Row} → Stage n T → Exactly (Used T) v → v ≤ n

@@ -13,11 +13,12 @@ use Rattle.refusal.specs.First.{First}
 use Rattle.refusal.proofs.Laws.{verdicts, rest-decides, given-first, refused-passes, none-yet, _nor_}
 use Rattle.least.specs.declared.Bound.{Bound}
 use Rattle.faults.specs.Counts.{CountsFitAt}
-use Rattle.faults.specs.Order.{CheckedFirst}
+use Rattle.faults.specs.Inner.{CheckedFirst}
 use Rattle.faults.proofs.Order.{after-2-at}
 use Rattle.thin.specs.declared.Asked.{Asked}
 use Rattle.thin.specs.declared.Asked.the-variants.{Under, NoUse}
-use Rattle.thin.specs.Thin.{log-need, thin-refusals, JudgedThinning}
+use Rattle.thin.specs.Thin.{log-need, thin-refusals}
+use Rattle.thin.specs.Inner.{JudgedThinning}
 
 refused : {a : Asked} {xs : List ℤ} {t : List ℕ} {room : ℕ} {r : Refusal} → First (thin-refusals a xs t room) (Refused r) → JudgedThinning a xs t room (Refused r)
 refused f = record { holds = f; fits = λ e. refused-passes e; skin = λ e. refused-passes e; usable = λ e. refused-passes e; room-enough = λ e. refused-passes e }

@@ -2,7 +2,7 @@
 use mathlib.Core.Path.{_≡_}
 use mathlib.Core.Bool.{true}
 use mathlib.Core.List.{List, _∷_, _++_}
-use Prim.Native.Nat.{ℕ, _-_, _≤_, _<_}
+use Prim.Native.Nat.{ℕ, _-_, _<_}
 use lib.IntN.{ℤ}
 use lib.ListN.{length, drop}
 use Rattle.surface.specs.Limits.{least-corners}
@@ -11,7 +11,6 @@ use Rattle.surface.specs.Stage.{Skin}
 use Rattle.surface.specs.Record.{Record}
 use Rattle.refusal.specs.declared.Refusal.{Refusal}
 use Rattle.refusal.specs.declared.Refusal.the-variants.{LimitUnusable, CountsOutside, RoomShort}
-use Rattle.refusal.specs.declared.Verdict.{Verdict}
 use Rattle.refusal.specs.declared.Verdict.the-variants.{Passes}
 use Rattle.refusal.specs.declared.Verdict.the-variants as verdict
 use Rattle.refusal.specs.First.{Refusals, _when_, First}
@@ -21,9 +20,7 @@ use Rattle.run.specs.Run.{Run}
 use Rattle.record.specs.Layout.{log-of, room-for}
 use Rattle.record.specs.Front.{zeroed}
 use Rattle.length.specs.declared.Order.{Order}
-use Rattle.length.specs.Limit.{most-limit}
 use Rattle.least.specs.declared.Bound.{Bound}
-use Rattle.least.specs.declared.Bound.the-variants.{Free, Within}
 use Rattle.least.specs.Limited.{Allowed}
 use Rattle.thin.specs.declared.Asked.{Asked}
 use Rattle.thin.specs.declared.Asked.the-variants.{Under, NoUse}
@@ -42,20 +39,6 @@ thin-refusals a xs t room =
     ∷ (CountsOutside when (¬ CountsFitAt xs t))
     ∷ (RoomShort when (room < log-need xs))
     ∷ refusals-after-counts true xs t
-
--- a bound within the most that a limit may be, as the limit reader gives it
-abbrev pub Fair : Asked → Type 0
-Fair (Under Free) = Unit
-Fair (Under (Within c)) = c ≤ most-limit
-Fair NoUse = Unit
-
--- the verdict on a thinning: the first that holds; and where none does, a skin
-pub record JudgedThinning (a : Asked) (xs : List ℤ) (t : List ℕ) (room : ℕ) (v : Verdict) : Type 0 where
-  pub holds : First (thin-refusals a xs t room) v
-  pub fits : v ≡ Passes → CountsFitAt xs t
-  pub skin : v ≡ Passes → Skin (corners xs) (rows t) xs
-  pub usable : v ≡ Passes → ¬ (a ≡ NoUse)
-  pub room-enough : v ≡ Passes → log-need xs ≤ room
 
 -- the answer r to thinning the table t of the corners xs as a asks, with the log l, and what then stands in table and log
 pub data ThinnedAs (a : Asked) (xs : List ℤ) (t l : List ℕ) (r : Thinning) (t′ l′ : List ℕ) : Type 0 where

@@ -9,7 +9,8 @@ ghost use mathlib.Core.Path.{_≡_};
 ghost use Rattle.refusal.specs.Tells.{Tells};
 ghost use Rattle.thin.specs.declared.Asked.the-variants.{NoUse};
 ghost use Rattle.thin.specs.Order.{asked-by};
-ghost use Rattle.thin.specs.Thin.{Fair, JudgedThinning, ThinnedAs, Thinned};
+ghost use Rattle.thin.specs.Thin.{ThinnedAs, Thinned};
+ghost use Rattle.thin.specs.Inner.{Fair, JudgedThinning};
 
 // What an order asks: a bound on the edges, or nothing that can be used.
 pub enum Asked {

@@ -8,14 +8,15 @@ use Rattle.refusal.specs.declared.Refusal.{Refusal}
 use Rattle.refusal.specs.declared.Verdict.{Verdict}
 use Rattle.refusal.specs.declared.Verdict.the-variants.{Passes, Refused}
 use Rattle.refusal.specs.Told.{Told, done, refused}
-use Rattle.refusal.specs.Lesser.{lesser-of}
+use Rattle.refusal.specs.Inner.{lesser-of}
 use Rattle.refusal.proofs.Either.{lesser-passes}
 use Rattle.refusal.specs.Outcome.{outcome}
 use Rattle.refusal.proofs.Outcome.{passing, refusing}
 use Rattle.faults.specs.Order.{CheckedStageAt}
 use Rattle.faults.proofs.Opposites.{coordinates-length}
 use Rattle.faults.proofs.Order.{either-stage}
-use Rattle.figure.specs.Sum.{sixfold, WithCoordinates}
+use Rattle.figure.specs.Sum.{sixfold}
+use Rattle.figure.specs.Inner.{WithCoordinates}
 use Rattle.figure.specs.Rounding.{figure, change}
 use Rattle.figure.proofs.Sizes.{stage-coordinates}
 use Rattle.volume.specs.Report.{VolumeReport, ChangeReport}

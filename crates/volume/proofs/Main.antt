@@ -12,7 +12,7 @@ use Rattle.surface.proofs.Flat.{rows-flat, flat-length}
 use Rattle.refusal.specs.declared.Verdict.the-variants.{Passes}
 use Rattle.refusal.specs.Told.{Told}
 use Rattle.refusal.proofs.Laws.{first-one, verdicts}
-use Rattle.refusal.specs.Lesser.{lesser-of}
+use Rattle.refusal.specs.Inner.{lesser-of}
 use Rattle.refusal.proofs.Outcome.{tells-refusal, refused-done, outcome-one}
 use Rattle.faults.specs.Counts.{corners}
 use Rattle.faults.specs.Order.{CheckedStageAt}

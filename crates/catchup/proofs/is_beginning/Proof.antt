@@ -2,7 +2,7 @@
 use mathlib.Core.Path.{_≡_, sym, _∙_}
 use Prim.Native.Nat.{_≤_, _-_}
 use lib.ListN.{length, drop}
-use Rattle.catchup.specs.CatchUp.{begins}
+use Rattle.catchup.specs.Inner.{begins}
 use Rattle.catchup.proofs.Beginnings.{stop, differ, go-on, at-end}
 use native.Mathlib.Omega.{arith}
 use borrow.Author.Needs.{needs}

@@ -6,7 +6,7 @@ use borrow.Author.Needs.{needs}
 use mir.Syntax.{w64}
 use mir.ValLaws.{toZ-ofZ}
 use Rattle.ints.proofs.Machine.{Known, known, var, fits, kept, less}
-use Rattle.figure.specs.Sum.{sum-bound}
+use Rattle.figure.specs.Inner.{sum-bound}
 use Rattle.figure.specs.Rounding.{figure}
 use Rattle.figure.proofs.Sizes.{difference-fits}
 use Rattle.figure.proofs.change_of.Statement.{statement}

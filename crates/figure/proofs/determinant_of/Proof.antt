@@ -3,7 +3,8 @@ use Prim.Native.Nat.{_*_}
 use mir.Syntax.{w64}
 use Rattle.surface.specs.Limits.{most-coordinate}
 use Rattle.ints.proofs.Machine.{Known, known, told, tells, fits, kept, times, plus}
-use Rattle.figure.specs.Sum.{determinant, minor-bound, row-bound}
+use Rattle.figure.specs.Sum.{determinant}
+use Rattle.figure.specs.Inner.{minor-bound, row-bound}
 use native.Mathlib.Omega.{arith}
 use borrow.Author.Needs.{needs}
 use Rattle.figure.proofs.determinant_of.Statement.{statement}

@@ -5,7 +5,8 @@ use borrow.Author.Needs.{needs}
 use mir.Syntax.{w64}
 use Rattle.surface.specs.Limits.{most-coordinate}
 use Rattle.ints.proofs.Machine.{Known, known, told, tells, fits, kept, times, less}
-use Rattle.figure.specs.Sum.{minor, minor-bound}
+use Rattle.figure.specs.Sum.{minor}
+use Rattle.figure.specs.Inner.{minor-bound}
 use Rattle.figure.proofs.minor_of.Statement.{statement}
 use Rattle.figure.proofs.minor_of.Tie as tie
 

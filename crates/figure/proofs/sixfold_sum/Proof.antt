@@ -7,7 +7,7 @@ use lib.ListN.{length}
 use mir.Syntax.{w64}
 use mir.Val.{toZ}
 use Rattle.ints.proofs.Machine.{Known, known, told, fits, kept, plus}
-use Rattle.figure.specs.Sum.{row-bound, sum-bound}
+use Rattle.figure.specs.Inner.{row-bound, sum-bound}
 use Rattle.figure.proofs.Turn.{Summing, sum-start, sum-corners, sum-more, sum-end}
 use Rattle.figure.proofs.sixfold_sum.Statement.{statement}
 use Rattle.figure.proofs.sixfold_sum.Tie as tie

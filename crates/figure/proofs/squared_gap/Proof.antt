@@ -4,7 +4,7 @@ use native.Mathlib.Omega.{arith}
 use borrow.Author.Needs.{needs}
 use mir.Syntax.{w64}
 use Rattle.ints.proofs.Machine.{Known, known, told, fits, kept, less, squared, unsigned, unsigned-fits, within}
-use Rattle.figure.specs.Corners.{gap-bound}
+use Rattle.figure.specs.Inner.{gap-bound}
 use Rattle.figure.proofs.squared_gap.Statement.{statement}
 use Rattle.figure.proofs.squared_gap.Tie as tie
 

@@ -1,5 +1,5 @@
 -- `put_rows` meets its contract.
-use Rattle.record.specs.Layout.{meant}
+use Rattle.record.specs.Inner.{meant}
 use Rattle.grow.proofs.Growing.{both-put}
 use native.Mathlib.Omega.{arith}
 use borrow.Author.Needs.{needs}

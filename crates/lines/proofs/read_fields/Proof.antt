@@ -4,7 +4,7 @@ use Prim.Native.Nat.{_-_}
 use mir.Syntax.{w64}
 use mir.Val.{toZ, ofZ}
 use mir.ValLaws.{toZ-ofZ}
-use Rattle.lines.specs.Lines.{ReadField, ReadInto}
+use Rattle.lines.specs.Inner.{ReadField, ReadInto}
 use Rattle.lines.proofs.Turns.{Fielded, fields-start, field-small, fields-stored, fields-stop, fields-end, put-length}
 use native.Mathlib.Omega.{arith}
 use borrow.Author.Needs.{needs}

@@ -2,7 +2,7 @@
 use mathlib.Core.Path.{subst}
 use lib.ListN.{drop}
 use Rattle.text.specs.Reading.{Expected}
-use Rattle.lines.specs.Lines.{FieldsAt, ReadInto}
+use Rattle.lines.specs.Inner.{FieldsAt, ReadInto}
 use Rattle.lines.proofs.Turns.{no-word, no-fields, line-end}
 use borrow.Author.Needs.{needs}
 use Rattle.lines.proofs.read_line.Statement.{statement}

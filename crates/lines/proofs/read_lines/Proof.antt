@@ -2,7 +2,8 @@
 use mathlib.Core.Path.{subst, _∙_}
 use Prim.Native.Nat.{_-_}
 use lib.ListN.{drop}
-use Rattle.lines.specs.Lines.{LineAt, ReadInto}
+use Rattle.lines.specs.Lines.{LineAt}
+use Rattle.lines.specs.Inner.{ReadInto}
 use Rattle.lines.proofs.Turns.{Lined, lines-start, line-room, lines-next, lines-stop, lines-end, put-length}
 use native.Mathlib.Omega.{arith}
 use borrow.Author.Needs.{needs}

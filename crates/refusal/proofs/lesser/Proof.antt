@@ -2,7 +2,7 @@
 use mathlib.Core.Path.{sym}
 use Prim.Native.Nat.{_≤_, _<_}
 use Rattle.refusal.specs.Number.{number}
-use Rattle.refusal.specs.Lesser.{lesser-of}
+use Rattle.refusal.specs.Inner.{lesser-of}
 use Rattle.refusal.proofs.Either.{lesser-left, lesser-right}
 use native.Mathlib.Omega.{arith}
 use borrow.Author.Needs.{needs}

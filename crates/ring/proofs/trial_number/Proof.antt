@@ -1,5 +1,6 @@
 -- The stored table computes to the one that follows the rule: one test over the whole.
-use Rattle.ring.specs.Ring.{number-at, numbers-from, ring}
+use Rattle.ring.specs.Ring.{number-at}
+use Rattle.ring.specs.Inner.{numbers-from, ring}
 use Rattle.ring.proofs.Rule.{ring-at}
 use borrow.Author.Needs.{needs}
 use Rattle.ring.proofs.trial_number.Statement.{statement}

@@ -3,9 +3,11 @@ use mathlib.Core.Path.{subst}
 use mathlib.Core.List.{[], _∷_}
 use lib.IntN.{pos}
 use lib.ListN.{drop}
-use Rattle.lines.specs.Lines.{LineAt, ReadInto}
+use Rattle.lines.specs.Lines.{LineAt}
+use Rattle.lines.specs.Inner.{ReadInto}
 use Rattle.sheet.specs.Limits.{most-digits}
-use Rattle.sheet.specs.Form.{SKIN, ReadFirst}
+use Rattle.sheet.specs.Form.{SKIN}
+use Rattle.sheet.specs.Inner.{ReadFirst}
 use Rattle.sheet.proofs.Heading.{no-two, x-fits, y-fits, count-fits, corners-below, rows-below, both-counts, x, y}
 use borrow.Author.Needs.{needs}
 use Rattle.sheet.proofs.first_line.Statement.{statement}

@@ -3,7 +3,8 @@ use mathlib.Core.Path.{sym, subst}
 use Prim.Native.Nat.{_*_, _≤_}
 use lib.IntN.{pos}
 use lib.ListN.{drop, replicate}
-use Rattle.lines.specs.Lines.{FewDigits, LinesAt, ReadInto}
+use Rattle.lines.specs.Lines.{FewDigits}
+use Rattle.lines.specs.Inner.{LinesAt, ReadInto}
 use Rattle.refusal.proofs.Tells.{tells-false}
 use Rattle.sheet.specs.Limits.{most-digits}
 use Rattle.sheet.specs.Form.{C, R}

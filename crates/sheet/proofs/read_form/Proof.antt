@@ -2,8 +2,7 @@
 use mathlib.Core.Path.{subst}
 use lib.ListN.{drop}
 use borrow.Author.Tests.{not-true, not-false}
-use Rattle.sheet.specs.Form.{ReadFirst}
-use Rattle.sheet.specs.Outcome.{ReadForm}
+use Rattle.sheet.specs.Inner.{ReadFirst, ReadForm}
 use Rattle.sheet.proofs.Formed.{too-long, no-first-line, refuse-counts, refuse-lines, form-read}
 use native.Mathlib.Omega.{arith}
 use borrow.Author.Needs.{needs}

@@ -3,7 +3,8 @@ use mathlib.Core.Path.{refl, subst}
 use Prim.Native.Nat.{_*_, _≤_}
 use lib.IntN.{pos}
 use lib.ListN.{replicate}
-use Rattle.sheet.specs.Outcome.{ReadForm, bad-form}
+use Rattle.sheet.specs.Outcome.{bad-form}
+use Rattle.sheet.specs.Inner.{ReadForm}
 use Rattle.sheet.proofs.Last.{whole-outcome}
 use native.Mathlib.Omega.{arith}
 use borrow.Author.Needs.{needs}
