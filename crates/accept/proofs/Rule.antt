@@ -7,12 +7,13 @@ use native.Mathlib.Omega.{arith}
 use lib.ListN.{length}
 use Rattle.surface.specs.Rows.{Row, rows}
 use Rattle.surface.specs.Table.{Edge, Used}
-use Rattle.surface.specs.Stage.{Stage, StageTable}
+use Rattle.surface.specs.Stage.{Stage}
+use Rattle.surface.specs.StageTable.{StageTable}
 use Rattle.surface.specs.Record.{Record}
-use Rattle.surface.specs.Grow.{Ends}
-use Rattle.surface.specs.Accept.{Local}
 use Rattle.surface.proofs.Following.{re-edge}
-use Rattle.surface.proofs.Accepting.{ends-one}
+use Rattle.growth.specs.Grow.{Ends}
+use Rattle.growth.specs.Local.{Local}
+use Rattle.growth.proofs.Accepting.{ends-one}
 use Rattle.record.specs.declared.Corner.{Corner}
 use Rattle.ends.specs.declared.Ends.the-variants.{At, Nothing}
 use Rattle.accept.specs.Noted.{Round, IsNoted, BothNoted}

@@ -7,7 +7,7 @@ ghost use lib.ListN.{length};
 ghost use Rattle.surface.specs.Limits.{most-rows};
 ghost use Rattle.surface.specs.Rows.{rows};
 ghost use Rattle.surface.specs.Table.{Used};
-ghost use Rattle.surface.specs.Stage.{StageTable};
+ghost use Rattle.surface.specs.StageTable.{StageTable};
 ghost use Rattle.record.specs.Inner.{meant};
 ghost use Rattle.slots.specs.Slot.{Whole, Under};
 ghost use Rattle.slots.specs.Marks.{Blank};

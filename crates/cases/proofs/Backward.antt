@@ -11,8 +11,8 @@ use Rattle.surface.specs.Table.{Used}
 use Rattle.follow.specs.Leads.{one-step}
 use Rattle.follow.specs.Follow.{some, followed}
 use Rattle.surface.specs.Record.{Record, Replayed}
-use Rattle.surface.specs.Grow.{put}
-use Rattle.surface.proofs.Recorded.{replayed-grown}
+use Rattle.growth.specs.Grow.{put}
+use Rattle.growth.proofs.Recorded.{replayed-grown}
 use Rattle.record.specs.Layout.{width, first-records}
 use Rattle.length.specs.declared.Order.the-variants.{NoLimit}
 use Rattle.refusal.specs.declared.Refusal.the-variants.{RecordFails}

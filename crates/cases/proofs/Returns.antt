@@ -10,9 +10,9 @@ use lib.IntN.{ℤ, pos}
 use lib.ListN.{getD}
 use Rattle.surface.specs.Rows.{row, rows, flat}
 use Rattle.surface.specs.Table.{edges}
-use Rattle.surface.specs.Stage.{Skin}
 use Rattle.surface.specs.Contract.{contract, renumber, replace, stays?, holds?}
 use Rattle.surface.specs.Record.{later, leaving, Record}
+use Rattle.corners.specs.Skin.{Skin}
 use Rattle.figure.specs.Corners.{squared-distance}
 use Rattle.length.specs.declared.Order.{Order}
 use Rattle.length.specs.declared.Order.the-variants.{Limit}

@@ -6,11 +6,11 @@ use Prim.Native.Nat.{ℕ, _*_}
 use lib.Dec.{T as So, leb, leb→le}
 use lib.IntN.{ℤ, natAbs}
 use lib.ListN.{length}
-use Rattle.surface.specs.Limits.{most-coordinate}
 use Rattle.surface.specs.Rows.{Row, rows}
 use Rattle.surface.specs.Table.{edges}
-use Rattle.surface.specs.Stage.{Skin}
 use Rattle.surface.proofs.Testing.{every, every-at}
+use Rattle.corners.specs.Limits.{most-coordinate}
+use Rattle.corners.specs.Skin.{Skin}
 use Rattle.computed.proofs.Passing.{passes, passes-stage}
 use Rattle.computed.proofs.Using.{uses-all, uses-sound}
 use Rattle.cases.specs.Skins.{T, T-corners, O, O-corners, M, M-corners}

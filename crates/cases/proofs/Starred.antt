@@ -11,9 +11,10 @@ use lib.IntN.{ℤ, pos, negℤ}
 use lib.ListN.{length, take, replicate}
 use Rattle.surface.specs.Rows.{Row, row, rows, flat}
 use Rattle.surface.specs.Table.{edges}
-use Rattle.surface.specs.Stage.{StageTable, InRange}
+use Rattle.surface.specs.StageTable.{StageTable}
 use Rattle.surface.specs.Contract.{contract, renumber, replace, stays?, holds?}
 use Rattle.surface.specs.Record.{at, later, leaving, Record, Replayed}
+use Rattle.corners.specs.Skin.{InRange}
 use Rattle.refusal.specs.First.{First}
 use Rattle.refusal.proofs.Laws.{verdicts, given-first, none-yet, _nor_}
 use Rattle.refusal.specs.declared.Verdict.the-variants as verdict

@@ -8,9 +8,9 @@ use borrow.Author.Tests.{ltb-true, ltb-false}
 use lib.IntN.{ℤ, pos, negsuc, negℤ, natAbs}
 use lib.ListN.{length, getD}
 use lib.Signed.{ltZ}
-use Rattle.surface.specs.Limits.{most-coordinate}
-use Rattle.surface.specs.Stage.{InRange}
 use Rattle.surface.proofs.Flat.{at-place, place-of}
+use Rattle.corners.specs.Limits.{most-coordinate}
+use Rattle.corners.specs.Skin.{InRange}
 use Rattle.refusal.specs.Tells.{Tells}
 use Rattle.faults.specs.Words.{OutOfRange}
 

@@ -1,8 +1,8 @@
 // Refusal 4: coordinates against their range.
 ghost use Prim.Native.Nat.{_≤_, _<_};
 ghost use lib.IntN.{natAbs};
-ghost use Rattle.surface.specs.Limits.{most-coordinate};
-ghost use Rattle.surface.specs.Stage.{InRange};
+ghost use Rattle.corners.specs.Limits.{most-coordinate};
+ghost use Rattle.corners.specs.Skin.{InRange};
 ghost use Rattle.faults.specs.Words.{OutOfRange};
 ghost use Rattle.refusal.specs.Tells.{Tells};
 
@@ -10,10 +10,10 @@ ghost use Rattle.refusal.specs.Tells.{Tells};
 fn far(x: i32) -> bool
     ensures { λ r. ⌜ Tells r (most-coordinate < natAbs x) (natAbs x ≤ most-coordinate) ⌝ }
 {
-    if x < -surface::MOST_COORDINATE {
+    if x < -corners::MOST_COORDINATE {
         return true;
     }
-    surface::MOST_COORDINATE < x
+    corners::MOST_COORDINATE < x
 }
 
 // Inner: 4, a coordinate out of range.

@@ -2,8 +2,8 @@
 use mathlib.Core.Path.{_≡_}
 use Prim.Native.Nat.{ℕ}
 use Rattle.surface.specs.Rows.{Row, row, Turned, turn-0, turn-1, turn-2}
-use Rattle.surface.specs.Grow as grow
-use Rattle.surface.specs.Grow.{in-order, crossed}
+use Rattle.growth.specs.Grow as grow
+use Rattle.growth.specs.Grow.{in-order, crossed}
 use Rattle.ends.specs.declared.Ends.{Ends}
 use Rattle.ends.specs.declared.Ends.the-variants.{At, Nothing}
 use Rattle.ends.specs.Rows.{PairIs, EndsAre}

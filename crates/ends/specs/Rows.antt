@@ -1,7 +1,7 @@
 -- What a record says of x and y: "the row with the directed edge kept to removed has the third corner x, and the other leaving row y".
 use Prim.Native.Nat.{ℕ}
 use Rattle.surface.specs.Rows.{Row, row, Turned}
-use Rattle.surface.specs.Grow as grow
+use Rattle.growth.specs.Grow as grow
 use Rattle.record.specs.declared.Leaving.{Leaving}
 use Rattle.ends.specs.declared.Third.{Third}
 use Rattle.ends.specs.declared.Third.the-variants.{Is, Missing}

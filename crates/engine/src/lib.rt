@@ -5,7 +5,7 @@ ghost use Prim.Native.Nat.{_≤_};
 ghost use lib.ListN.{length};
 ghost use Rattle.surface.specs.Limits.{most-corners};
 ghost use Rattle.surface.specs.Rows.{rows};
-ghost use Rattle.surface.specs.Stage.{StageTable};
+ghost use Rattle.surface.specs.StageTable.{StageTable};
 ghost use Rattle.link.specs.Around.{Unmarked};
 ghost use Rattle.least.specs.Limited.{Allowed};
 ghost use Rattle.least.specs.Inner.{Measurable};

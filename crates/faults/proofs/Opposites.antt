@@ -7,8 +7,9 @@ use lib.IntN.{ℤ}
 use lib.ListN.{length, getD}
 use Rattle.surface.specs.Lists.{Distinct, more}
 use Rattle.surface.specs.Rows.{Row}
-use Rattle.surface.specs.Stage.{Stage, InRange, Skin}
+use Rattle.surface.specs.Stage.{Stage}
 use Rattle.surface.proofs.Flat.{at-place}
+use Rattle.corners.specs.Skin.{InRange, Skin}
 use Rattle.faults.specs.Counts.{RowsFit, CornersFit, corners}
 use Rattle.faults.specs.Words.{OutOfRange, NotBelow, Below, TwiceInRow, Apart, Twice, again, later, NoReverse, BothWays, Unused, AllUsed, ManyRings, OneRing, Parted, Connected, Closed}
 

@@ -8,7 +8,8 @@ use native.Mathlib.Omega.{arith}
 use lib.IntN.{ℤ}
 use lib.ListN.{length}
 use Rattle.surface.specs.Rows.{Row, rows}
-use Rattle.surface.specs.Stage.{Stage, InRange, Skin}
+use Rattle.surface.specs.Stage.{Stage}
+use Rattle.corners.specs.Skin.{InRange, Skin}
 use Rattle.refusal.specs.declared.Refusal.{Refusal}
 use Rattle.refusal.specs.declared.Refusal.the-variants.{CountsOutside, CornerUnused}
 use Rattle.refusal.specs.declared.Verdict.{Verdict}

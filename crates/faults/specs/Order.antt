@@ -5,7 +5,8 @@ use mathlib.Core.List.{List, [], _∷_, _++_}
 use Prim.Native.Nat.{ℕ}
 use lib.IntN.{ℤ}
 use Rattle.surface.specs.Rows.{Row, rows}
-use Rattle.surface.specs.Stage.{Stage, InRange}
+use Rattle.surface.specs.Stage.{Stage}
+use Rattle.corners.specs.Skin.{InRange}
 use Rattle.refusal.specs.declared.Verdict.{Verdict}
 use Rattle.refusal.specs.declared.Verdict.the-variants.{Passes}
 use Rattle.refusal.specs.declared.Refusal.{Refusal}

@@ -4,10 +4,10 @@ use mathlib.Core.Logic.{_≢_}
 use mathlib.Core.List.{List, _∷_}
 use Prim.Native.Nat.{ℕ, _≤_, _<_}
 use lib.IntN.{ℤ, natAbs}
-use Rattle.surface.specs.Limits.{most-coordinate}
 use Rattle.surface.specs.Lists.{_∈_, Distinct, Reach}
 use Rattle.surface.specs.Rows.{Row}
 use Rattle.surface.specs.Table.{Follows, Edge, Used, edges}
+use Rattle.corners.specs.Limits.{most-coordinate}
 
 -- 4: a coordinate out of range; the opposite is InRange
 pub record OutOfRange (xs : List ℤ) : Type 0 where

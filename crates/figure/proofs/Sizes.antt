@@ -7,9 +7,10 @@ use lib.IntN.{ℤ, pos, _-ℤ_, natAbs}
 use lib.ListN.{length, getD}
 use mir.Syntax.{w32, w64}
 use mir.Val.{SFits, toZ, ofZ}
-use Rattle.surface.specs.Limits.{most-coordinate}
 use Rattle.surface.specs.Rows.{Row, row}
-use Rattle.surface.specs.Stage.{Stage, InRange}
+use Rattle.surface.specs.Stage.{Stage}
+use Rattle.corners.specs.Limits.{most-coordinate}
+use Rattle.corners.specs.Skin.{InRange}
 use Rattle.ints.proofs.Ints.{abs-add, abs-minus}
 use Rattle.ints.proofs.Machine.{Is, var, fits, kept, times, plus, less, sfits-abs}
 use Rattle.figure.specs.Corners.{coordinate}

@@ -3,10 +3,11 @@ use mathlib.Core.List.{List}
 use Prim.Native.Nat.{ℕ, _+_, _*_, _≤_}
 use lib.IntN.{ℤ}
 use lib.ListN.{length}
-use Rattle.surface.specs.Limits.{most-coordinate, most-rows}
+use Rattle.surface.specs.Limits.{most-rows}
 use Rattle.surface.specs.Rows.{Row}
 use Rattle.surface.specs.Table.{Follows}
-use Rattle.surface.specs.Stage.{InRange}
+use Rattle.corners.specs.Limits.{most-coordinate}
+use Rattle.corners.specs.Skin.{InRange}
 
 -- the table has the corner v
 abbrev pub Has : List ℤ → ℕ → Type 0

@@ -3,9 +3,9 @@
 ghost use mathlib.Core.Path.{_≡_};
 ghost use Prim.Native.Nat.{_*_, _<_, _≤_};
 ghost use lib.IntN.{natAbs};
-ghost use Rattle.surface.specs.Limits.{most-coordinate};
 ghost use Rattle.surface.specs.Rows.{rows};
-ghost use Rattle.surface.specs.Stage.{InRange};
+ghost use Rattle.corners.specs.Limits.{most-coordinate};
+ghost use Rattle.corners.specs.Skin.{InRange};
 ghost use Rattle.figure.specs.Corners.{coordinate, gap, squared-distance};
 ghost use Rattle.figure.specs.Inner.{Has, gap-bound, WithCoordinates, minor-bound, row-bound, sum-bound};
 ghost use Rattle.figure.specs.Sum.{minor, determinant, sixfold};

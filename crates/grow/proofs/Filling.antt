@@ -6,8 +6,8 @@ use native.Mathlib.Omega.{arith}
 use lib.ListN.{length, take, drop, set}
 use lib.Seq.{take-take, sets-eq}
 use Rattle.surface.specs.Rows.{Row, row, flat}
-use Rattle.surface.specs.Grow.{put}
-use Rattle.surface.proofs.Put.{put-length}
+use Rattle.growth.specs.Grow.{put}
+use Rattle.growth.proofs.Put.{put-length}
 use Rattle.record.specs.Front.{standing, filled}
 use Rattle.record.proofs.Front.{standing-length, standing-flat}
 use Rattle.grow.specs.Room.{MovedOn}

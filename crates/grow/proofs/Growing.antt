@@ -7,15 +7,15 @@ use native.Mathlib.Omega.{arith}
 use lib.ListN.{length, take, drop}
 use lib.Seq.{length-take-le}
 use Rattle.surface.specs.Rows.{Row, rows}
-use Rattle.surface.specs.Stage.{StageTable}
+use Rattle.surface.specs.StageTable.{StageTable}
 use Rattle.surface.specs.Record.{Record, placed}
-use Rattle.surface.specs.Grow.{put, put-back}
-use Rattle.surface.specs.Accept.{Accepted}
 use Rattle.surface.proofs.Following.{re-edge}
 use Rattle.surface.proofs.Flat.{flat-rows, rows-length}
-use Rattle.surface.proofs.Put.{put-length}
-use Rattle.surface.proofs.Accepting.{local-accepts}
-use Rattle.surface.proofs.Main.{accepted-local}
+use Rattle.growth.specs.Grow.{put, put-back}
+use Rattle.growth.specs.Accept.{Accepted}
+use Rattle.growth.proofs.Put.{put-length}
+use Rattle.growth.proofs.Accepting.{local-accepts}
+use Rattle.growth.proofs.Main.{accepted-local}
 use Rattle.record.specs.declared.Corner.{Corner}
 use Rattle.ends.specs.declared.Ends.the-variants.{At, Nothing}
 use Rattle.accept.specs.Noted.{Round}

@@ -12,13 +12,13 @@ use Rattle.surface.specs.Rows.{Row, row, rows, Turned, turn-0, turn-1, turn-2}
 use Rattle.surface.specs.Table.{Follows, Edge}
 use Rattle.surface.specs.Stage.{Stage}
 use Rattle.surface.specs.Contract.{renumber}
-use Rattle.surface.specs.Grow.{Between, Regrown, renamed, left-be, Each, each-none, each-more}
 use Rattle.surface.proofs.Reaching.{join, one-step}
 use Rattle.surface.proofs.Once.{turn}
 use Rattle.surface.proofs.Renumber.{replace-at, replace-off}
 use Rattle.surface.proofs.Following.{re, follows-same}
 use Rattle.surface.proofs.Flat.{rows-at, rows-length}
-use Rattle.surface.proofs.Walked.{fan, fan-step}
+use Rattle.growth.specs.Grow.{Between, RowRegrown, renamed, left-be, Each, each-none, each-more}
+use Rattle.growth.proofs.Walked.{fan, fan-step}
 use Rattle.slots.specs.Slot.{next-slot}
 use Rattle.slots.proofs.Slots.{next-0, next-1, next-2, next-inside, at-follows, one-slot, under-more}
 use Rattle.accept.specs.Noted.{Noted, IsNoted}
@@ -33,7 +33,7 @@ pub data Done (a b : ℕ) (P : ℕ → Type 0) (c next d : ℕ) : Type 0 where
 
 module _ {T : List Row} {a b x y i j k i′ j′ k′ : ℕ} (ij : i ≢ j) (jk : j ≢ k) (ki : k ≢ i) where
   -- a row whose three numbers are done
-  regrown : Done a b (Between T a x y) i j i′ → Done a b (Between T a x y) j k j′ → Done a b (Between T a x y) k i k′ → Regrown T a b x y (row i j k) (row i′ j′ k′)
+  regrown : Done a b (Between T a x y) i j i′ → Done a b (Between T a x y) j k j′ → Done a b (Between T a x y) k i k′ → RowRegrown T a b x y (row i j k) (row i′ j′ k′)
   unfolding renumber
   regrown (changed e m f) (changed e₂ m₂ f₂) v = absurd (ij (e ∙ sym e₂))
   regrown (changed e m f) (kept n₁ f₁) (changed e₂ m₂ f₂) = absurd (ki (e₂ ∙ sym e))
@@ -175,7 +175,7 @@ module _ (t₀ at : List ℕ) (a b x y : ℕ) (w : Walkable t₀ at a x y) where
           go (to-come m v) = kept (λ q l. none-to-come (m q l) (l .short)) v
 
       row-done : (i : ℕ) → 3 * i + 2 < length t₀ →
-          Regrown T a b x y (row (getD t₀ (3 * i) 0) (getD t₀ (3 * i + 1) 0) (getD t₀ (3 * i + 2) 0)) (row (getD t (3 * i) 0) (getD t (3 * i + 1) 0) (getD t (3 * i + 2) 0))
+          RowRegrown T a b x y (row (getD t₀ (3 * i) 0) (getD t₀ (3 * i + 1) 0) (getD t₀ (3 * i + 2) 0)) (row (getD t (3 * i) 0) (getD t (3 * i + 1) 0) (getD t (3 * i + 2) 0))
       row-done i h =
           regrown (off (3 * i) (omega arith) (next-0 i)) (off (3 * i + 1) (omega arith) (next-1 i)) (off (3 * i + 2) h (next-2 i))
           (slot-done (3 * i) (omega arith) refl refl (ap (λ (j : ℕ). getD t₀ j 0) (next-0 i)))

@@ -6,7 +6,7 @@ use Prim.Native.Nat.{ℕ, _+_}
 use lib.ListN.{take, drop}
 use Rattle.surface.specs.Rows.{Row}
 use Rattle.surface.specs.Record.{Record}
-use Rattle.surface.specs.Accept.{Accepted}
+use Rattle.growth.specs.Accept.{Accepted}
 use Rattle.record.specs.Front.{standing, filled}
 
 -- the numbers from slot i up to slot j have moved three slots on, and no others

@@ -4,8 +4,8 @@ use Prim.Native.Nat.{ℕ, _≤_}
 use lib.ListN.{length}
 use Rattle.surface.specs.Rows.{rows}
 use Rattle.surface.specs.Table.{Edge}
-use Rattle.surface.specs.Stage.{StageTable}
-use Rattle.surface.specs.Grow.{Regrown, Each}
+use Rattle.surface.specs.StageTable.{StageTable}
+use Rattle.growth.specs.Grow.{RowRegrown, Each}
 use Rattle.accept.specs.Noted.{Round}
 
 -- t is a stage, at has its rows round a, and x and y are neighbours of a
@@ -19,4 +19,4 @@ pub record Walkable (t at : List ℕ) (a x y : ℕ) : Type 0 where
 
 -- each row is as it was, or b has taken a's place on it: on those from y forward to x round a
 abbrev pub Renamed : ℕ → ℕ → ℕ → ℕ → List ℕ → List ℕ → Type 0
-Renamed a b x y t′ t = Each (Regrown (rows t′) a b x y) (rows t′) (rows t)
+Renamed a b x y t′ t = Each (RowRegrown (rows t′) a b x y) (rows t′) (rows t)

@@ -7,7 +7,7 @@ use native.Mathlib.Omega.{arith}
 use borrow.Author.Tests.{leb-true, leb-false}
 use lib.Dec.{leb}
 use lib.IntN.{ℤ}
-use Rattle.surface.specs.Stage.{InRange}
+use Rattle.corners.specs.Skin.{InRange}
 use Rattle.length.specs.Limit.{most-limit}
 use Rattle.figure.specs.Corners.{squared-distance}
 use Rattle.figure.specs.Inner.{Has}

@@ -4,7 +4,7 @@ use mathlib.Core.List.{List}
 use Prim.Native.Nat.{ℕ, _*_, _≤_}
 use lib.IntN.{ℤ}
 use lib.ListN.{length}
-use Rattle.surface.specs.Stage.{InRange}
+use Rattle.corners.specs.Skin.{InRange}
 use Rattle.length.specs.Limit.{most-limit}
 use Rattle.figure.specs.Inner.{Has}
 use Rattle.least.specs.declared.Bound.{Bound}

@@ -8,7 +8,7 @@ use lib.ListN.{length, getD}
 use Rattle.surface.specs.Limits.{most-corners}
 use Rattle.surface.specs.Lists.{_∈_}
 use Rattle.surface.specs.Rows.{Row}
-use Rattle.surface.specs.Stage.{StageTable}
+use Rattle.surface.specs.StageTable.{StageTable}
 use Rattle.run.specs.Run.{Qualifies, Least, Over}
 use Rattle.slots.specs.Chain.{Chained}
 use Rattle.least.specs.declared.Bound.{Bound}

@@ -11,7 +11,7 @@ use lib.ListN.{length}
 use Rattle.surface.specs.Lists.{_∈_, Exactly}
 use Rattle.surface.specs.Rows.{rows}
 use Rattle.surface.specs.Table.{Edge}
-use Rattle.surface.specs.Stage.{StageTable}
+use Rattle.surface.specs.StageTable.{StageTable}
 use Rattle.surface.proofs.Main.{link-counts, counts-one}
 use Rattle.surface.specs.Link.{Meets, Common}
 use Rattle.refusal.specs.Tells.{Tells}

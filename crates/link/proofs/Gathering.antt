@@ -12,7 +12,7 @@ use Rattle.surface.specs.Limits.{most-corners}
 use Rattle.surface.specs.Lists.{_∈_, Distinct, none, more}
 use Rattle.surface.specs.Rows.{rows}
 use Rattle.surface.specs.Table.{Edge}
-use Rattle.surface.specs.Stage.{StageTable}
+use Rattle.surface.specs.StageTable.{StageTable}
 use Rattle.surface.proofs.Count.{fits}
 use Rattle.surface.proofs.Counted.{distinct-append}
 use Rattle.surface.proofs.Following.{re-edge}

@@ -8,7 +8,7 @@ use Rattle.surface.specs.Limits.{most-corners}
 use Rattle.surface.specs.Lists.{_∈_, Distinct}
 use Rattle.surface.specs.Rows.{Row}
 use Rattle.surface.specs.Table.{Edge}
-use Rattle.surface.specs.Stage.{StageTable}
+use Rattle.surface.specs.StageTable.{StageTable}
 use Rattle.surface.specs.Link.{Meets}
 use Rattle.slots.specs.Chain.{Chained}
 use Rattle.slots.specs.Marks.{Blank}

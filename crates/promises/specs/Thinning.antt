@@ -5,8 +5,8 @@ use Prim.Native.Nat.{ℕ, _-_, _*_, _≤_, _<_, _%_}
 use lib.IntN.{ℤ, pos, _-ℤ_}
 use lib.ListN.{length, take, drop}
 use Rattle.surface.specs.Rows.{Row, rows, flat}
-use Rattle.surface.specs.Stage.{Skin}
 use Rattle.surface.specs.Record.{Record}
+use Rattle.corners.specs.Skin.{Skin}
 use Rattle.refusal.specs.Told as answers
 use Rattle.faults.specs.Counts.{corners}
 use Rattle.run.specs.Run.{Taken, Run}

@@ -6,7 +6,7 @@ ghost use mathlib.Core.Path.{_≡_};
 ghost use Prim.Native.Nat.{_*_, _≤_, _<_};
 ghost use lib.ListN.{length};
 ghost use Rattle.surface.specs.Rows.{rows};
-ghost use Rattle.surface.specs.Stage.{StageTable};
+ghost use Rattle.surface.specs.StageTable.{StageTable};
 ghost use Rattle.surface.specs.Link.{Meets};
 ghost use Rattle.refusal.specs.Tells.{Tells};
 ghost use Rattle.record.specs.Inner.{meant};

@@ -9,8 +9,8 @@ use Rattle.follow.proofs.Following.{Plain, outcome-one, outcome-whole, outcome-
 use Rattle.surface.specs.Rows.{Row}
 use Rattle.surface.specs.Stage.{Stage}
 use Rattle.surface.specs.Record.{Replayed}
-use Rattle.surface.proofs.Main as surface
-use Rattle.surface.proofs.Recorded.{replayed-grown, grown-back-stage}
+use Rattle.growth.proofs.Main as growth
+use Rattle.growth.proofs.Recorded.{replayed-grown, grown-back-stage}
 use Rattle.run.proofs.Main.{replayed-stage}
 use Rattle.refusal.specs.declared.Refusal.{Refusal}
 use Rattle.refusal.specs.declared.Verdict.the-variants.{Passes}
@@ -35,7 +35,7 @@ pub growing-plain : (n m : ℕ) (room log : List ℕ) → Plain (growing n m roo
 growing-plain n m room log = record {
   refusal = λ f g. refused-one (first-one verdicts _ f g);
   passing = λ f g. refused-passes (first-one verdicts _ f (g .0));
-  step = λ T T₁ T₂ k a b. surface.told a b;
+  step = λ T T₁ T₂ k a b. growth.told a b;
   apart = λ f a. f .0 _ a;
   reason = λ f g. f .1 ∙ sym (g .1);
 }

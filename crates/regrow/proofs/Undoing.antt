@@ -9,12 +9,13 @@ use lib.Seq.{take-at}
 use Rattle.follow.specs.Leads.{Leads, no-step, one-step}
 use Rattle.follow.proofs.Upto.{Upto, upto-none, upto-all, upto-fails, upto-more}
 use Rattle.surface.specs.Rows.{Row, flat}
-use Rattle.surface.specs.Stage.{Stage, StageTable}
+use Rattle.surface.specs.Stage.{Stage}
+use Rattle.surface.specs.StageTable.{StageTable}
 use Rattle.surface.specs.Record.{Record}
-use Rattle.surface.specs.Accept.{Accepted}
 use Rattle.surface.proofs.Flat.{rows-flat, flat-length}
 use Rattle.surface.proofs.Main.{two-fewer}
-use Rattle.surface.proofs.Recorded.{grown-back-stage}
+use Rattle.growth.specs.Accept.{Accepted}
+use Rattle.growth.proofs.Recorded.{grown-back-stage}
 use Rattle.record.specs.Layout.{width, count, record-at, records}
 use Rattle.record.specs.Front.{front-rows, standing, filled}
 use Rattle.record.proofs.Places.{records-length, records-back}

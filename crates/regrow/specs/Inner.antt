@@ -5,7 +5,8 @@ use Prim.Native.Nat.{ℕ, _≤_}
 use lib.ListN.{length}
 use Rattle.follow.specs.Follow.{Followed}
 use Rattle.surface.specs.Rows.{Row}
-use Rattle.surface.specs.Stage.{Stage, StageTable}
+use Rattle.surface.specs.Stage.{Stage}
+use Rattle.surface.specs.StageTable.{StageTable}
 use Rattle.refusal.specs.declared.Verdict.{Verdict}
 use Rattle.refusal.specs.declared.Verdict.the-variants.{Passes}
 use Rattle.refusal.specs.First.{First}

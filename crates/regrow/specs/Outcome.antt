@@ -9,7 +9,7 @@ use Rattle.surface.specs.Limits.{most-rows}
 use Rattle.surface.specs.Rows.{Row}
 use Rattle.surface.specs.Stage.{Stage}
 use Rattle.surface.specs.Record.{Record}
-use Rattle.surface.specs.Accept.{Accepted}
+use Rattle.growth.specs.Accept.{Accepted}
 use Rattle.refusal.specs.declared.Refusal.{Refusal}
 use Rattle.refusal.specs.declared.Refusal.the-variants.{CountsOutside, RoomShort, RecordFails}
 use Rattle.refusal.specs.declared.Verdict.the-variants as verdict

@@ -8,7 +8,8 @@ use lib.ListN.{length, replicate}
 use lib.Seq.{take-at}
 use Rattle.follow.proofs.Upto.{Upto, upto-none, upto-all, upto-fails, upto-more}
 use Rattle.surface.specs.Rows.{Row, rows, flat}
-use Rattle.surface.specs.Stage.{Stage, StageTable}
+use Rattle.surface.specs.Stage.{Stage}
+use Rattle.surface.specs.StageTable.{StageTable}
 use Rattle.surface.specs.Record.{Record, Replays}
 use Rattle.surface.proofs.Flat.{rows-flat, flat-length}
 use Rattle.run.proofs.Main.{replayed-stage, step-rows}

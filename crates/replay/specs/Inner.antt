@@ -4,7 +4,7 @@ use mathlib.Core.List.{List}
 use Prim.Native.Nat.{ℕ}
 use Rattle.follow.specs.Follow.{Followed}
 use Rattle.surface.specs.Rows.{Row}
-use Rattle.surface.specs.Stage.{StageTable}
+use Rattle.surface.specs.StageTable.{StageTable}
 use Rattle.refusal.specs.declared.Verdict.{Verdict}
 use Rattle.refusal.specs.declared.Verdict.the-variants.{Passes}
 use Rattle.refusal.specs.First.{First}

@@ -2,7 +2,7 @@
 use refusal::Refusal;
 use refusal::Verdict;
 use regrow::Regrown;
-ghost use Rattle.surface.specs.Stage.{StageTable};
+ghost use Rattle.surface.specs.StageTable.{StageTable};
 ghost use Rattle.refusal.specs.Tells.{Tells};
 ghost use Rattle.replay.specs.Outcome.{ReplayFits, ReplayedAs};
 ghost use Rattle.replay.specs.Inner.{JudgedReplay, RedoneIn};

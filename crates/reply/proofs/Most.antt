@@ -9,7 +9,8 @@ use lib.Seq.{take-all}
 use Rattle.surface.specs.Lists.{_∈_}
 use Rattle.surface.specs.Rows.{Row, row, rows, flat, turn-0, turn-1, turn-2}
 use Rattle.surface.specs.Table.{Follows}
-use Rattle.surface.specs.Stage.{Stage, InRange}
+use Rattle.surface.specs.Stage.{Stage}
+use Rattle.corners.specs.Skin.{InRange}
 use Rattle.follow.specs.Leads.{no-step, one-step}
 use Rattle.surface.specs.Record.{Record, Replays, Replayed}
 use Rattle.surface.proofs.Flat.{flat-length, rows-length, at-place}

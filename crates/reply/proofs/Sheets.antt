@@ -9,7 +9,7 @@ use lib.ListN.{length, take, drop, replicate, length-replicate}
 use lib.Seq.{take-at}
 use Rattle.surface.specs.Limits.{least-rows, least-corners}
 use Rattle.surface.specs.Rows.{rows}
-use Rattle.surface.specs.Stage.{Skin}
+use Rattle.corners.specs.Skin.{Skin}
 use Rattle.refusal.specs.First.{First}
 use Rattle.refusal.specs.Number.{number}
 use Rattle.refusal.specs.declared.Refusal.{Refusal}

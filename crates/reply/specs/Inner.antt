@@ -6,7 +6,7 @@ use lib.IntN.{ℤ, pos}
 use lib.ListN.{length, take, drop}
 use Rattle.surface.specs.Limits.{least-corners}
 use Rattle.surface.specs.Rows.{rows}
-use Rattle.surface.specs.Stage.{Skin}
+use Rattle.corners.specs.Skin.{Skin}
 use Rattle.faults.specs.Counts.{corners}
 use Rattle.record.specs.Layout.{width}
 use Rattle.lines.specs.Lines.{line, lines}

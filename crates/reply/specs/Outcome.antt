@@ -6,8 +6,8 @@ use Prim.Native.Nat.{ℕ, _≤_, _<_}
 use lib.IntN.{ℤ}
 use lib.ListN.{length, drop}
 use Rattle.surface.specs.Rows.{Row, rows}
-use Rattle.surface.specs.Stage.{Skin}
 use Rattle.surface.specs.Record.{Record}
+use Rattle.corners.specs.Skin.{Skin}
 use Rattle.refusal.specs.First.{First}
 use Rattle.refusal.specs.declared.Refusal.{Refusal}
 use Rattle.refusal.specs.declared.Refusal.the-variants.{RoomShort}

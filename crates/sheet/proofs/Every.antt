@@ -6,7 +6,7 @@ use native.Mathlib.Omega.{arith}
 use lib.IntN.{ℤ, pos, natAbs}
 use lib.ListN.{length, drop, getD}
 use Rattle.surface.specs.Rows.{rows}
-use Rattle.surface.specs.Stage.{Skin}
+use Rattle.corners.specs.Skin.{Skin}
 use Rattle.refusal.specs.First.{First}
 use Rattle.refusal.specs.declared.Verdict.the-variants.{Passes}
 use Rattle.faults.proofs.Order.{skin-passes}

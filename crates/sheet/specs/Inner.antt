@@ -12,7 +12,7 @@ use Rattle.sheet.specs.declared.FirstLine.the-variants.{Read, Bad}
 use Rattle.sheet.specs.Form.{SKIN, CountsIn, SheetOf, NoFirstLine, form-refusals}
 use lib.Seq.{sets}
 use Rattle.surface.specs.Rows.{rows}
-use Rattle.surface.specs.Stage.{Skin}
+use Rattle.corners.specs.Skin.{Skin}
 use Rattle.refusal.specs.declared.Refusal.{Refusal}
 use Rattle.refusal.specs.declared.Verdict.the-variants as verdict
 use Rattle.sheet.specs.declared.Sheet.{Sheet}

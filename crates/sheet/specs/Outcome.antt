@@ -6,7 +6,7 @@ use Prim.Native.Nat.{ℕ, _<_}
 use lib.IntN.{ℤ}
 use lib.ListN.{length, drop}
 use Rattle.surface.specs.Rows.{rows}
-use Rattle.surface.specs.Stage.{Skin}
+use Rattle.corners.specs.Skin.{Skin}
 use Rattle.refusal.specs.First.{Refusals, _when_, First}
 use Rattle.refusal.specs.declared.Refusal.{Refusal}
 use Rattle.refusal.specs.declared.Refusal.the-variants.{RoomShort}

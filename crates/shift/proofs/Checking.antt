@@ -7,7 +7,7 @@ use native.Mathlib.Omega.{arith}
 use lib.IntN.{ℤ}
 use lib.ListN.{length}
 use Rattle.surface.specs.Record.{Record}
-use Rattle.surface.specs.Stage.{InRange}
+use Rattle.corners.specs.Skin.{InRange}
 use Rattle.refusal.specs.declared.Refusal.{Refusal}
 use Rattle.refusal.specs.declared.Refusal.the-variants.{CountsOutside, CoordinateOutOfRange, NumberNotBelow}
 use Rattle.refusal.specs.declared.Verdict.the-variants.{Passes, Refused}

@@ -9,7 +9,8 @@ use lib.IntN.{ℤ}
 use Rattle.surface.specs.Lists.{_∈_}
 use Rattle.surface.specs.Rows.{Row}
 use Rattle.surface.specs.Table.{Used}
-use Rattle.surface.specs.Stage.{Stage, Skin}
+use Rattle.surface.specs.Stage.{Stage}
+use Rattle.corners.specs.Skin.{Skin}
 use Rattle.follow.specs.Leads.{no-step, one-step}
 use Rattle.surface.specs.Record.{Record, Replayed}
 use Rattle.surface.proofs.Counted.{used-new}

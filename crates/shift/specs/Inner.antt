@@ -4,8 +4,8 @@ use mathlib.Core.List.{List}
 use Prim.Native.Nat.{ℕ, _<_}
 use lib.IntN.{ℤ}
 use Rattle.surface.specs.Lists.{_∈_}
-use Rattle.surface.specs.Stage.{InRange}
 use Rattle.surface.specs.Record.{Record}
+use Rattle.corners.specs.Skin.{InRange}
 use Rattle.refusal.specs.declared.Verdict.{Verdict}
 use Rattle.refusal.specs.declared.Verdict.the-variants.{Passes}
 use Rattle.refusal.specs.First.{First}

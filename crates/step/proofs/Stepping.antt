@@ -7,12 +7,12 @@ use native.Mathlib.Omega.{arith}
 use lib.ListN.{length, getD, take, drop, replicate}
 use lib.Seq.{take-at, drop-at, length-take-le}
 use Rattle.surface.specs.Limits.{most-rows}
-use Rattle.surface.specs.Stage.{StageTable}
+use Rattle.surface.specs.StageTable.{StageTable}
 use Rattle.surface.specs.Rows.{Row, row, rows}
 use Rattle.surface.specs.Contract.{Stays, contract}
 use Rattle.surface.specs.Record.{at, leaving}
 use Rattle.surface.proofs.Flat.{rows-at}
-use Rattle.surface.proofs.Growing.{leaving-out}
+use Rattle.surface.proofs.Leaving.{leaving-out}
 use Rattle.surface.proofs.Main.{two-fewer}
 use Rattle.surface.proofs.TwoPlaces.{Two, two-places}
 use Rattle.record.specs.declared.Corner.{Corner}

@@ -13,14 +13,7 @@ pub mod Tetrahedron
 pub mod Contracted
 pub mod Common
 pub mod Counted
-pub mod Growing
+pub mod Leaving
 pub mod TwoPlaces
+pub mod Written
 pub mod Stepped
-pub mod Fan
-pub mod Arcs
-pub mod Fork
-pub mod Put
-pub mod Regrow
-pub mod Walked
-pub mod Accepting
-pub mod Recorded

@@ -13,7 +13,6 @@ use Rattle.surface.specs.Stage.{Stage}
 use Rattle.surface.specs.Link.{Link, Meets, Opposite, Common}
 use Rattle.surface.specs.Contract.{contract}
 use Rattle.surface.specs.Record.{Record, Replays}
-use Rattle.surface.specs.Accept.{Accepted, Local}
 use Rattle.surface.specs.Euler.{Euler}
 use Rattle.surface.proofs.Linked.{opposite, meets}
 use Rattle.surface.proofs.Tetrahedron.{tetrahedron}
@@ -21,8 +20,7 @@ use Rattle.surface.proofs.Common.{meets-pairs}
 use Rattle.surface.proofs.Contracted.{two-leave}
 use Rattle.surface.proofs.Counted.{one-count, one-corner, difference-same, four}
 use Rattle.surface.proofs.Stepped as stepped
-use Rattle.surface.proofs.Accepting as accepting
-use Rattle.surface.proofs.Recorded as recorded
+use Rattle.surface.proofs.Written.{written, written-kept, written-removed, written-replays}
 
 module _ (n : ℕ) (T : List Row) (s : Stage n T) where
   -- the published link condition: the two corners opposite the edge are the only common neighbours, and no edge lies in both links
@@ -76,24 +74,12 @@ module _ (n : ℕ) (T : List Row) (s : Stage n T) where
 
     -- the step writes a record
     pub writes : a < b → (k : Record) × (k .kept ≡ a) × (k .removed ≡ b) × Replays T k (contract a b T)
-    writes h = (recorded.written n T a b s m, recorded.written-kept n T a b s m, recorded.written-removed n T a b s m, recorded.written-replays n T a b s m h)
-
-  -- growing back undoes a step, number for number: the record of a step from T is accepted, and gives T back
-  pub grown-back : {k : Record} {T′ : List Row} → Replays T k T′ → Accepted n T′ k T
-  grown-back r = (recorded.replay-iff n T _ _) .1 (s, r)
-
-  -- 01's rule for accepting a record on a stage is the local one
-  pub accepted-local : (k : Record) → ((T₀ : List Row) × Accepted n T k T₀) ↔ Local n T k
-  accepted-local k = accepting.accepted-iff n T k s
+    writes h = (written n T a b s m, written-kept n T a b s m, written-removed n T a b s m, written-replays n T a b s m h)
 
 -- things are counted to one number
 pub counts-one : {A : Type 0} {P : A → Type 0} {k m : ℕ} → Exactly P k → Exactly P m → k ≡ m
 counts-one c d = one-count c d
 
--- the table and the record tell the first table
-pub told : {n₁ n₂ : ℕ} {T′ T₁ T₂ : List Row} {k : Record} → Accepted n₁ T′ k T₁ → Accepted n₂ T′ k T₂ → T₁ ≡ T₂
-told g h = accepting.accepted-one g h
-
--- and the table and the record tell what a step leaves
+-- the table and the record tell what a step leaves
 pub left : {T T₁ T₂ : List Row} {k : Record} → Replays T k T₁ → Replays T k T₂ → T₁ ≡ T₂
 left r q = sym (r .leaves) ∙ q .leaves

@@ -12,7 +12,6 @@ use Rattle.surface.specs.Table.{Arrow, _⇒_, Follows, Used, edges}
 use Rattle.surface.specs.Stage.{Stage}
 use Rattle.surface.specs.Link.{Meets}
 use Rattle.surface.specs.Contract.{contract}
-use Rattle.surface.specs.Record.{leaving}
 use Rattle.surface.specs.Euler.{Rises, rises, Counts}
 use Rattle.surface.proofs.Count.{distinct-filter}
 use Rattle.surface.proofs.Renumber.{filter-in, filter-out}
@@ -20,7 +19,6 @@ use Rattle.surface.proofs.Once.{edge-in, in-edge}
 use Rattle.surface.proofs.Linked.{opposite}
 use Rattle.surface.proofs.Contracted.{contracted, two-leave}
 use Rattle.surface.proofs.Counted.{euler, one-count, one-corner}
-use Rattle.surface.proofs.Growing.{told}
 use Rattle.surface.proofs.Round.{round, round-sound, round-whole, upto, every-upto}
 
 -- a contraction of an edge that meets the link condition leaves a stage
@@ -31,14 +29,6 @@ contraction n T a b s m = let o = opposite n T s m in contracted n T a b (o .0) 
 pub euler-kept : (n : ℕ) (T : List Row) (a b : ℕ) → Stage n T → Meets T a b → {v e v′ e′ : ℕ} → Counts T v e → Counts (contract a b T) v′ e′ →
     v + length T + e′ ≡ v′ + length (contract a b T) + e
 euler-kept n T a b s m c d = let o = opposite n T s m in (euler n T a b (o .0) (o .1) s (o .2) c d) .3
-
--- the contracted table and the record tell the table
-pub no-second : (n₁ n₂ a b : ℕ) (T₁ T₂ : List Row) → Stage n₁ T₁ → Stage n₂ T₂ → Meets T₁ a b → Meets T₂ a b →
-    contract a b T₁ ≡ contract a b T₂ → leaving a b T₁ ≡ leaving a b T₂ → T₁ ≡ T₂
-no-second n₁ n₂ a b T₁ T₂ s₁ s₂ m₁ m₂ et el =
-    let o₁ = opposite n₁ T₁ s₁ m₁ in
-    let o₂ = opposite n₂ T₂ s₂ m₂ in
-    told a b n₁ n₂ T₁ T₂ (o₁ .0) (o₁ .1) (o₂ .0) (o₂ .1) s₁ s₂ (o₁ .2) (o₂ .2) et el
 
 -- the counts of a stage
 pub used? : (T : List Row) (v : ℕ) → Dec (Used T v)

@@ -11,7 +11,7 @@ use Rattle.surface.specs.Link.{Meets}
 use Rattle.surface.specs.Contract.{Stays, stays?}
 use Rattle.surface.specs.Record.{Placed, at, later, leaving}
 use Rattle.surface.proofs.Linked.{opposite}
-use Rattle.surface.proofs.Growing.{two-leaving}
+use Rattle.surface.proofs.Leaving.{two-leaving}
 
 -- rows of T at places from k on, in order
 pub data Rising (T : List Row) : ℕ → List Placed → Type 0 where

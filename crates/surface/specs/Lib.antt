@@ -3,9 +3,8 @@ pub mod Lists
 pub mod Rows
 pub mod Table
 pub mod Stage
+pub mod StageTable
 pub mod Link
 pub mod Contract
 pub mod Record
-pub mod Grow
-pub mod Accept
 pub mod Euler

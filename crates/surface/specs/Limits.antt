@@ -14,7 +14,3 @@ least-corners = 4
 
 abbrev pub most-corners : ℕ
 most-corners = 514
-
--- coordinates from -50,000 to 50,000
-abbrev pub most-coordinate : ℕ
-most-coordinate = 50000

@@ -1,13 +1,11 @@
--- When a table is a stage, and when a table with its corners is a skin.
-use mathlib.Core.Path.{_≡_}
+-- When a table is a stage.
 use mathlib.Core.Logic.{_≢_}
 use mathlib.Core.List.{List}
-use Prim.Native.Nat.{ℕ, _*_, _≤_, _<_}
-use lib.IntN.{ℤ, natAbs}
+use Prim.Native.Nat.{ℕ, _≤_, _<_}
 use lib.ListN.{length}
-use Rattle.surface.specs.Limits.{least-rows, most-rows, least-corners, most-corners, most-coordinate}
-use Rattle.surface.specs.Lists.{_∈_, Distinct, Reach}
-use Rattle.surface.specs.Rows.{Row, rows}
+use Rattle.surface.specs.Limits.{least-rows, most-rows, least-corners, most-corners}
+use Rattle.surface.specs.Lists.{Distinct, Reach}
+use Rattle.surface.specs.Rows.{Row}
 use Rattle.surface.specs.Table.{Follows, Edge, Used, edges}
 
 -- the rows T over n corners are a stage: all that a skin is, but for the corners that are not used
@@ -27,20 +25,3 @@ pub record Stage (n : ℕ) (T : List Row) : Type 0 where
   pub ring : {v p q : ℕ} → Edge T v p → Edge T v q → Reach (Follows T v) p q
   -- any used corner is reached from any other by edges
   pub joined : {p q : ℕ} → Used T p → Used T q → Reach (Edge T) p q
-
--- the flat table t, with no number over, is a stage
-pub record StageTable (n : ℕ) (t : List ℕ) : Type 0 where
-  pub count : length t ≡ 3 * length (rows t)
-  pub stage : Stage n (rows t)
-
--- coordinates from -50,000 to 50,000
-pub record InRange (xs : List ℤ) : Type 0 where
-  pub range : {z : ℤ} → z ∈ xs → natAbs z ≤ most-coordinate
-
--- the rows T with the coordinates xs, three for each of n corners, are a skin
-pub record Skin (n : ℕ) (T : List Row) (xs : List ℤ) : Type 0 where
-  pub stage : Stage n T
-  pub corners : length xs ≡ 3 * n
-  pub in-range : InRange xs
-  -- every corner is used
-  pub used : {v : ℕ} → v < n → Used T v

@@ -7,9 +7,10 @@ use lib.ListN.{length, drop}
 use Rattle.surface.specs.Lists.{Exactly}
 use Rattle.surface.specs.Rows.{Row, rows}
 use Rattle.surface.specs.Table.{Used}
-use Rattle.surface.specs.Stage.{Stage, Skin}
+use Rattle.surface.specs.Stage.{Stage}
 use Rattle.surface.specs.Record.{Record}
 use Rattle.surface.specs.Euler.{Euler}
+use Rattle.corners.specs.Skin.{Skin}
 use Rattle.faults.specs.Counts.{corners}
 use Rattle.run.specs.Run.{Run}
 use Rattle.record.specs.Layout.{log-of, room-for}

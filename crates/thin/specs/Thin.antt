@@ -7,8 +7,8 @@ use lib.IntN.{ℤ}
 use lib.ListN.{length, drop}
 use Rattle.surface.specs.Limits.{least-corners}
 use Rattle.surface.specs.Rows.{Row, rows}
-use Rattle.surface.specs.Stage.{Skin}
 use Rattle.surface.specs.Record.{Record}
+use Rattle.corners.specs.Skin.{Skin}
 use Rattle.refusal.specs.declared.Refusal.{Refusal}
 use Rattle.refusal.specs.declared.Refusal.the-variants.{LimitUnusable, CountsOutside, RoomShort}
 use Rattle.refusal.specs.declared.Verdict.the-variants.{Passes}

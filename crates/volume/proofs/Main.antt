@@ -6,9 +6,11 @@ use native.Mathlib.Omega.{arith}
 use lib.IntN.{ℤ, _-ℤ_}
 use lib.ListN.{length}
 use Rattle.surface.specs.Rows.{Row, rows, flat}
-use Rattle.surface.specs.Stage.{Stage, StageTable, InRange, Skin}
+use Rattle.surface.specs.Stage.{Stage}
+use Rattle.surface.specs.StageTable.{StageTable}
 use Rattle.surface.specs.Record.{Record, Replayed}
 use Rattle.surface.proofs.Flat.{rows-flat, flat-length}
+use Rattle.corners.specs.Skin.{InRange, Skin}
 use Rattle.refusal.specs.declared.Verdict.the-variants.{Passes}
 use Rattle.refusal.specs.Told.{Told}
 use Rattle.refusal.proofs.Laws.{first-one, verdicts}

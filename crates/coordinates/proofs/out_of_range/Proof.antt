@@ -7,7 +7,7 @@ use Prim.Native.Nat.{ℕ, _-_, _≤_, _<_}
 use lib.IntN.{pos, natAbs}
 use lib.ListN.{length, getD}
 use borrow.Author.Count.{below-more}
-use Rattle.surface.specs.Limits.{most-coordinate}
+use Rattle.corners.specs.Limits.{most-coordinate}
 use Rattle.refusal.proofs.Tells.{tells-true, tells-false}
 use Rattle.coordinates.proofs.Range.{out-at, all-in}
 use native.Mathlib.Omega.{arith}

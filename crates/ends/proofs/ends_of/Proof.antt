@@ -1,5 +1,5 @@
 -- `ends_of` meets its contract.
-use Rattle.surface.specs.Grow.{in-order}
+use Rattle.growth.specs.Grow.{in-order}
 use Rattle.ends.specs.Rows.{PairIs, EndsAre}
 use Rattle.ends.proofs.Pairs.{other-way}
 use borrow.Author.Needs.{needs}

@@ -2,7 +2,7 @@
 use native.Mathlib.Omega.{arith}
 use borrow.Author.Needs.{needs}
 use mir.Syntax.{w64}
-use Rattle.surface.specs.Limits.{most-coordinate}
+use Rattle.corners.specs.Limits.{most-coordinate}
 use Rattle.ints.proofs.Machine.{Known, known, tells, fits, kept}
 use Rattle.figure.proofs.Sizes.{element}
 use Rattle.figure.proofs.coordinate_of.Statement.{statement}

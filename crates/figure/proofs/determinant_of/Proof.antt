@@ -1,7 +1,7 @@
 -- The three products and their two sums, each as the machine has it, named once.
 use Prim.Native.Nat.{_*_}
 use mir.Syntax.{w64}
-use Rattle.surface.specs.Limits.{most-coordinate}
+use Rattle.corners.specs.Limits.{most-coordinate}
 use Rattle.ints.proofs.Machine.{Known, known, told, tells, fits, kept, times, plus}
 use Rattle.figure.specs.Sum.{determinant}
 use Rattle.figure.specs.Inner.{minor-bound, row-bound}

@@ -3,7 +3,7 @@ use Prim.Native.Nat.{_*_}
 use native.Mathlib.Omega.{arith}
 use borrow.Author.Needs.{needs}
 use mir.Syntax.{w64}
-use Rattle.surface.specs.Limits.{most-coordinate}
+use Rattle.corners.specs.Limits.{most-coordinate}
 use Rattle.ints.proofs.Machine.{Known, known, told, tells, fits, kept, times, less}
 use Rattle.figure.specs.Sum.{minor}
 use Rattle.figure.specs.Inner.{minor-bound}

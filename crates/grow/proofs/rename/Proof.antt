@@ -2,7 +2,7 @@
 use mathlib.Core.Path.{_∙_, ap}
 use lib.ListN.{length, length-set}
 use Rattle.surface.specs.Rows.{rows}
-use Rattle.surface.proofs.Walked.{fan}
+use Rattle.growth.proofs.Walked.{fan}
 use Rattle.slots.specs.Slot.{next-slot}
 use Rattle.slots.proofs.Staged.{table-whole}
 use Rattle.grow.proofs.Walking.{Walking, walk-start, walk-more, walk-less, walk-end, noted, slot-inside, beside-inside, after-inside, after-there}

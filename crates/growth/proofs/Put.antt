@@ -5,14 +5,15 @@ use mathlib.Core.List.{List, [], _∷_, map, List·Memᴰ·head, List·Memᴰ·t
 use Prim.Native.Nat.{ℕ, zero, suc, _≤_, _<_}
 use native.Mathlib.Omega.{arith}
 use lib.ListN.{length}
 use Rattle.surface.specs.Lists.{_∈_}
 use Rattle.surface.specs.Rows.{Row, Turned}
 use Rattle.surface.specs.Table.{Follows, Edge}
 use Rattle.surface.specs.Contract.{Stays, stays?, replace, renumber, contract}
 use Rattle.surface.specs.Record.{Placed, at, later, leaving}
-use Rattle.surface.specs.Grow.{put}
 use Rattle.surface.proofs.Once.{Once, once-none, once-more, follows-head, follows-tail}
-use Rattle.surface.proofs.Growing.{contract-cons-stays, contract-cons-leaves, turned-map}
+use Rattle.surface.proofs.Leaving.{contract-cons-stays, contract-cons-leaves}
+use Rattle.growth.specs.Grow.{put}
+use Rattle.growth.proofs.Growing.{turned-map}
 
 pub put-in : (i : ℕ) (z : Row) (T : List Row) {r : Row} → r ∈ T → r ∈ put i z T
 unfolding put

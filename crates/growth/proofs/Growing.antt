@@ -1,25 +1,24 @@
 -- Growing back undoes a contraction.
 use mathlib.Core.Path.{_≡_, refl, sym, _∙_, ap, ap₂}
 use mathlib.Core.Logic.{_≢_, _⊎_, inl, inr, ite}
-use mathlib.Core.List.{List, [], _∷_, _++_, map, filter, List·Memᴰ·head, List·Memᴰ·tail, List·Memᴰ·cases-cons, List·Memᴰ·not-nil, Memᴰ·cast, Memᴰ·map, Memᴰ·of-map}
-use Prim.Native.Nat.{ℕ, zero, suc, _+_}
+use mathlib.Core.List.{List, [], _∷_, map, filter, List·Memᴰ·head, List·Memᴰ·tail}
+use Prim.Native.Nat.{ℕ, zero}
 use native.Mathlib.Decide.{ℕ-discrete}
-use native.Mathlib.Omega.{arith}
-use lib.ListN.{length}
 use Rattle.surface.specs.Lists.{_∈_, Reach}
 use Rattle.surface.specs.Rows.{Row, row, Turned, turn-0, turn-1, turn-2}
 use Rattle.surface.specs.Table.{Follows, Edge}
 use Rattle.surface.specs.Stage.{Stage}
-use Rattle.surface.specs.Link.{Opposite}
+use Rattle.surface.specs.Link.{Meets, Opposite}
 use Rattle.surface.specs.Contract.{Holds, at-0, at-1, at-2, holds?, Stays, stays?, replace, renumber, contract}
 use Rattle.surface.specs.Record.{Placed, at, later, leaving}
-use Rattle.surface.specs.Grow.{put, put-back, Between, Regrown, renamed, left-be, Each, each-none, each-more, Grown}
 use Rattle.surface.proofs.Reaching.{one-step, carry, within, Past, after}
-use Rattle.surface.proofs.Count.{length-map}
 use Rattle.surface.proofs.Once.{turn}
 use Rattle.surface.proofs.Renumber.{filter-out, replace-at, replace-off, stays-turned}
-use Rattle.surface.proofs.Contracted.{one, on-b, two-leave, Whence, whence, round-a, round-b}
+use Rattle.surface.proofs.Contracted.{one, on-b, Whence, whence, round-a, round-b}
 use Rattle.surface.proofs.Following.{re}
+use Rattle.surface.proofs.Linked.{opposite}
+use Rattle.surface.proofs.Leaving.{leaving-in, leaving-out}
+use Rattle.growth.specs.Grow.{put, put-back, Between, RowRegrown, renamed, left-be, Each, each-none, each-more, Grown}
 
 put-later : (l : List Placed) (z : Row) (S : List Row) → put-back (map later l) (z ∷ S) ≡ z ∷ put-back l S
 unfolding put-back later put
@@ -110,10 +109,10 @@ module _ (n : ℕ) (T : List Row) (a b x y : ℕ) (s : Stage n T) (o : Opposite 
           go (round-b f k) = s .both (i, turn (turn f))
 
   -- what growing back makes of a row that stayed is the row
-  pub regrown : (r : Row) → r ∈ T → Stays a b r → Regrown (contract a b T) a b x y (renumber a b r) r
+  pub regrown : (r : Row) → r ∈ T → Stays a b r → RowRegrown (contract a b T) a b x y (renumber a b r) r
   regrown r m k = go (holds? r b)
     where
-      with-b : (p q : ℕ) → Turned r b p q → Holds r b → Regrown (contract a b T) a b x y (renumber a b r) r
+      with-b : (p q : ℕ) → Turned r b p q → Holds r b → RowRegrown (contract a b T) a b x y (renumber a b r) r
       with-b p q t h =
           let f : Follows T b p q = record { by = r; here = m; turned = t } in
           let ep : replace a b p ≡ p = replace-off a b (λ e. s .apart f (sym e)) in
@@ -127,11 +126,11 @@ module _ (n : ℕ) (T : List Row) (a b x y : ℕ) (s : Stage n T) (o : Opposite 
           let u : Turned r a p q = rw (renumber-off a b r nb) at t in
           shared (on-side h) (h .short) (record { by = r; here = m; turned = u }) (stays-turned a b u k)
 
-      go : Dec (Holds r b) → Regrown (contract a b T) a b x y (renumber a b r) r
+      go : Dec (Holds r b) → RowRegrown (contract a b T) a b x y (renumber a b r) r
       go (yes h) = let w = turn-to h in with-b (w .0) (w .1) (w .2) h
       go (no nb) = left-be (without-b nb) (sym (renumber-off a b r nb))
 
-  regrown-all : (S : List Row) → ((r : Row) → r ∈ S → (r ∈ T) × Stays a b r) → Each (Regrown (contract a b T) a b x y) (map (renumber a b) S) S
+  regrown-all : (S : List Row) → ((r : Row) → r ∈ S → (r ∈ T) × Stays a b r) → Each (RowRegrown (contract a b T) a b x y) (map (renumber a b) S) S
   regrown-all [] h = each-none
   regrown-all (r ∷ S) h =
       let k = h r (List·Memᴰ·head refl) in
@@ -147,7 +146,7 @@ module _ (n : ℕ) (T : List Row) (a b x y : ℕ) (s : Stage n T) (o : Opposite 
   }
 
 -- growing back makes one table
-regrown-one : {T : List Row} {a b x y : ℕ} {r′ r₁ r₂ : Row} → Regrown T a b x y r′ r₁ → Regrown T a b x y r′ r₂ → r₁ ≡ r₂
+regrown-one : {T : List Row} {a b x y : ℕ} {r′ r₁ r₂ : Row} → RowRegrown T a b x y r′ r₁ → RowRegrown T a b x y r′ r₂ → r₁ ≡ r₂
 regrown-one (renamed _ _ e) (renamed _ _ k) = e ∙ sym k
 regrown-one (renamed t h e) (left-be n k) = absurd (n _ _ t h)
 regrown-one (left-be n e) (renamed t h k) = absurd (n _ _ t h)
@@ -159,60 +158,6 @@ each-one one (each-more h e) (each-more k f) = ap₂ (λ r l. r ∷ l) (one _ _ 
 
 pub grown-one : {a b x y : ℕ} {l : List Placed} {T′ T₁ T₂ : List Row} → Grown a b x y l T′ T₁ → Grown a b x y l T′ T₂ → T₁ ≡ T₂
 grown-one {l = l} g h = g .whole ∙ ap (put-back l) (each-one (λ r r₁ r₂ p q. regrown-one p q) (g .each) (h .each)) ∙ sym (h .whole)
-
--- a row leaves exactly where it is listed
-pub leaving-in : (a b : ℕ) (T : List Row) {r : Row} → r ∈ T → ¬ Stays a b r → (i : ℕ) × (at i r ∈ leaving a b T)
-unfolding leaving later
-leaving-in a b [] m k = absurd (List·Memᴰ·not-nil m)
-leaving-in a b (z ∷ T) {r} m k = go (stays? a b z) (λ m. leaving-in a b T m k) (List·Memᴰ·cases-cons m)
-  where
-    go : (d : Dec (Stays a b z)) → (r ∈ T → (i : ℕ) × (at i r ∈ leaving a b T)) → (r ≡ z) ⊎ (r ∈ T) →
-        (i : ℕ) × (at i r ∈ ite {C = List Placed} d (map later (leaving a b T)) (at zero z ∷ map later (leaving a b T)))
-    go (yes h) rec (inl e) = absurd (k (rw e h))
-    go (no h) rec (inl e) = (zero, List·Memᴰ·head (ap (at zero) e))
-    go (yes h) rec (inr m) = (suc ((rec m) .0), Memᴰ·map later ((rec m) .1))
-    go (no h) rec (inr m) = (suc ((rec m) .0), List·Memᴰ·tail (Memᴰ·map later ((rec m) .1)))
-
-pub at-row : {i j : ℕ} {r z : Row} → at i r ≡ at j z → r ≡ z
-at-row e = cc
-
-pub leaving-out : (a b : ℕ) (T : List Row) {i : ℕ} {r : Row} → at i r ∈ leaving a b T → (r ∈ T) × (¬ Stays a b r)
-unfolding leaving later
-leaving-out a b [] m = absurd (List·Memᴰ·not-nil m)
-leaving-out a b (z ∷ T) {i} {r} m = go (stays? a b z) (λ j m. leaving-out a b T {i = j} m) m
-  where
-    Rec : Type 0
-    Rec = (j : ℕ) → at j r ∈ leaving a b T → (r ∈ T) × (¬ Stays a b r)
-
-    down : Rec → at i r ∈ map later (leaving a b T) → (r ∈ z ∷ T) × (¬ Stays a b r)
-    down rec m = found (w .0) (w .1) (w .2)
-      where
-        w : (p : Placed) × (p ∈ leaving a b T) × (later p ≡ at i r)
-        w = Memᴰ·of-map later (leaving a b T) m
-
-        found : (p : Placed) → p ∈ leaving a b T → later p ≡ at i r → (r ∈ z ∷ T) × (¬ Stays a b r)
-        found (at j q) m e = let k = rec j (Memᴰ·cast (ap (at j) (sym (at-row e))) m) in (List·Memᴰ·tail (k .0), k .1)
-
-    first : ¬ Stays a b z → Rec → (at i r ≡ at zero z) ⊎ (at i r ∈ map later (leaving a b T)) → (r ∈ z ∷ T) × (¬ Stays a b r)
-    first h rec (inl e) = let k = at-row e in (List·Memᴰ·head k, rw k h)
-    first h rec (inr m) = down rec m
-
-    go : (d : Dec (Stays a b z)) → Rec → at i r ∈ ite {C = List Placed} d (map later (leaving a b T)) (at zero z ∷ map later (leaving a b T)) → (r ∈ z ∷ T) × (¬ Stays a b r)
-    go (yes h) rec m = down rec m
-    go (no h) rec m = first h rec (List·Memᴰ·cases-cons m)
-
-pub leaving-length : (a b : ℕ) (T : List Row) → length (leaving a b T) + length (filter (stays? a b) T) ≡ length T
-unfolding leaving
-leaving-length a b [] = refl
-leaving-length a b (z ∷ T) = go (stays? a b z) (leaving-length a b T)
-  where
-    m : length (map later (leaving a b T)) ≡ length (leaving a b T)
-    m = length-map later (leaving a b T)
-
-    go : (d : Dec (Stays a b z)) → length (leaving a b T) + length (filter (stays? a b) T) ≡ length T →
-        length (ite {C = List Placed} d (map later (leaving a b T)) (at zero z ∷ map later (leaving a b T))) + length (ite {C = List Row} d (z ∷ filter (stays? a b) T) (filter (stays? a b) T)) ≡ suc (length T)
-    go (yes h) e = let k = m in omega arith
-    go (no h) e = let k = m in omega arith
 
 -- the contracted table and the rows that left tell the table: no second one grows back
 module _ (a b n₁ n₂ : ℕ) (T₁ T₂ : List Row) (x₁ y₁ x₂ y₂ : ℕ) (s₁ : Stage n₁ T₁) (s₂ : Stage n₂ T₂)
@@ -234,39 +179,10 @@ module _ (a b n₁ n₂ : ℕ) (T₁ T₂ : List Row) (x₁ y₁ x₂ y₂ : ℕ
       g₁ : Grown a b x₂ y₂ (leaving a b T₂) (contract a b T₂) T₁
       g₁ = rw (sym ex, sym ey, sym el, sym et) (grown n₁ T₁ a b x₁ y₁ s₁ o₁)
 
--- two rows are listed
-pub two-leaving : (n : ℕ) (T : List Row) (a b x y : ℕ) → Stage n T → Opposite T a b x y → length (leaving a b T) ≡ 2
-unfolding contract
-two-leaving n T a b x y s o =
-    let h : length T ≡ 2 + length (map (renumber a b) (filter (stays? a b) T)) = two-leave n T a b x y s o in
-    let k = leaving-length a b T in
-    let m = length-map (renumber a b) (filter (stays? a b) T) in
-    omega arith
-
--- row by row, for a loop that writes the rows that stay
-pub contract-cons-stays : (a b : ℕ) (r : Row) (T : List Row) → Stays a b r → contract a b (r ∷ T) ≡ renumber a b r ∷ contract a b T
-unfolding contract
-contract-cons-stays a b r T k = go (stays? a b r)
-  where
-    go : (d : Dec (Stays a b r)) → map (renumber a b) (ite {C = List Row} d (r ∷ filter (stays? a b) T) (filter (stays? a b) T)) ≡ renumber a b r ∷ contract a b T
-    go (yes h) = refl
-    go (no h) = absurd (h k)
-
-pub contract-cons-leaves : (a b : ℕ) (r : Row) (T : List Row) → ¬ Stays a b r → contract a b (r ∷ T) ≡ contract a b T
-unfolding contract
-contract-cons-leaves a b r T k = go (stays? a b r)
-  where
-    go : (d : Dec (Stays a b r)) → map (renumber a b) (ite {C = List Row} d (r ∷ filter (stays? a b) T) (filter (stays? a b) T)) ≡ contract a b T
-    go (yes h) = absurd (k h)
-    go (no h) = refl
-
-pub contract-append : (a b : ℕ) (S T : List Row) → contract a b (S ++ T) ≡ contract a b S ++ contract a b T
-unfolding contract
-contract-append a b [] T = refl
-contract-append a b (r ∷ S) T = go (stays? a b r) (contract-append a b S T)
-  where
-    go : (d : Dec (Stays a b r)) → contract a b (S ++ T) ≡ contract a b S ++ contract a b T →
-        map (renumber a b) (ite {C = List Row} d (r ∷ filter (stays? a b) (S ++ T)) (filter (stays? a b) (S ++ T)))
-        ≡ map (renumber a b) (ite {C = List Row} d (r ∷ filter (stays? a b) S) (filter (stays? a b) S)) ++ contract a b T
-    go (yes h) rec = ap (λ l. renumber a b r ∷ l) rec
-    go (no h) rec = rec
+-- the contracted table and the record tell the table
+pub no-second : (n₁ n₂ a b : ℕ) (T₁ T₂ : List Row) → Stage n₁ T₁ → Stage n₂ T₂ → Meets T₁ a b → Meets T₂ a b →
+    contract a b T₁ ≡ contract a b T₂ → leaving a b T₁ ≡ leaving a b T₂ → T₁ ≡ T₂
+no-second n₁ n₂ a b T₁ T₂ s₁ s₂ m₁ m₂ et el =
+    let o₁ = opposite n₁ T₁ s₁ m₁ in
+    let o₂ = opposite n₂ T₂ s₂ m₂ in
+    told a b n₁ n₂ T₁ T₂ (o₁ .0) (o₁ .1) (o₂ .0) (o₂ .1) s₁ s₂ (o₁ .2) (o₂ .2) et el

@@ -6,13 +6,13 @@ use Prim.Native.Nat.{ℕ, suc, _≤_}
 use native.Mathlib.Decide.{ℕ-discrete}
 use native.Mathlib.Omega.{arith}
 use lib.ListN.{length}
 use Rattle.surface.specs.Lists.{_∈_, Distinct, none, more, Reach, stay, step}
 use Rattle.surface.specs.Rows.{Row}
 use Rattle.surface.specs.Table.{Follows, Edge}
-use Rattle.surface.specs.Grow.{Between}
 use Rattle.surface.proofs.Once.{Once, Apart, follows-one}
 use Rattle.surface.proofs.Count.{fits, length-map}
 use Rattle.surface.proofs.Round.{round, round-whole, source-of}
+use Rattle.growth.specs.Grow.{Between}
 
 module _ (T : List Row) (o : Once T) (d : Apart T) (a x : ℕ) where
   -- the walk from p ends at x, and passes l on the way

@@ -6,23 +6,23 @@ use Prim.Native.Nat.{ℕ, _≤_, _<_, _+_}
 use native.Mathlib.Decide.{ℕ-discrete}
 use native.Mathlib.Omega.{arith}
 use lib.ListN.{length}
 use Rattle.surface.specs.Limits.{most-rows}
 use Rattle.surface.specs.Lists.{_∈_}
 use Rattle.surface.specs.Rows.{Row, row, Turned, turn-0, turn-1, turn-2}
 use Rattle.surface.specs.Table.{Follows, Edge, Used}
 use Rattle.surface.specs.Stage.{Stage}
 use Rattle.surface.specs.Link.{Opposite}
 use Rattle.surface.specs.Contract.{Holds, at-0, at-1, at-2, Stays, replace, renumber, contract}
 use Rattle.surface.specs.Record.{at, leaving}
-use Rattle.surface.specs.Grow.{put, Between, Regrown, renamed, left-be, Each, each-none, each-more, Ends, in-order, crossed}
 use Rattle.surface.proofs.Count.{length-map}
 use Rattle.surface.proofs.Once.{turn, turn-it, Once, once-of-distinct, same-second}
 use Rattle.surface.proofs.Renumber.{holds-turned, turned-holds, replace-at, replace-off, Came, came, stays-turned}
 use Rattle.surface.proofs.Following.{re, re-edge, Gone, left-0, left-1, left-2, right-0, right-1, right-2}
-use Rattle.surface.proofs.Growing.{turn-to, renumber-off, renumber-back, re-turned, turned-map}
-use Rattle.surface.proofs.Arcs.{Arc, first, arc-of, arc-between, re-arc, split, not-both, ends-at}
-use Rattle.surface.proofs.Fork.{Was, plain, a-0, a-1, a-2, b-0, b-1, b-2, new, Forked, Hub, forked-stage, forked-opposite}
-use Rattle.surface.proofs.Put.{put-in, put-new, put-length, follows-put, once-put, once-unmap, contract-put, contract-all, leaving-two}
+use Rattle.growth.specs.Grow.{put, Between, RowRegrown, renamed, left-be, Each, each-none, each-more, Ends, in-order, crossed}
+use Rattle.growth.proofs.Growing.{turn-to, renumber-off, renumber-back, re-turned, turned-map}
+use Rattle.growth.proofs.Arcs.{Arc, first, arc-of, arc-between, re-arc, split, not-both, ends-at}
+use Rattle.growth.proofs.Fork.{Was, plain, a-0, a-1, a-2, b-0, b-1, b-2, new, Forked, Hub, forked-stage, forked-opposite}
+use Rattle.growth.proofs.Put.{put-in, put-new, put-length, follows-put, once-put, once-unmap, contract-put, contract-all, leaving-two}
 
 -- a row that turns to (a, b, x) turns to nothing else
 pub data Third (a b x v p q : ℕ) : Type 0 where
@@ -114,7 +114,7 @@ renamed-no a b a≢b (row i j k) h = go h
     go (at-2 e) = off k e
 
 module _ (n : ℕ) (T′ : List Row) (a b x y : ℕ) (s : Stage n T′) (at-x : Edge T′ a x) (at-y : Edge T′ a y) (two : x ≢ y)
-    (a≢b : a ≢ b) (unused : ¬ Used T′ b) (b<n : b < n) (U : List Row) (each : Each (Regrown T′ a b x y) T′ U) where
+    (a≢b : a ≢ b) (unused : ¬ Used T′ b) (b<n : b < n) (U : List Row) (each : Each (RowRegrown T′ a b x y) T′ U) where
   no-b : {r : Row} → r ∈ T′ → ¬ Holds r b
   no-b {r} m h = let w = turn-to h in unused (w .0, (w .1, record { by = r; here = m; turned = w .2 }))
 
@@ -128,18 +128,18 @@ module _ (n : ℕ) (T′ : List Row) (a b x y : ℕ) (s : Stage n T′) (at-x : 
   renamed-no-a : (r : Row) → ¬ Holds (renumber b a r) a
   renamed-no-a r = renamed-no a b a≢b r
 
-  back : {r′ r : Row} → r′ ∈ T′ → Regrown T′ a b x y r′ r → renumber a b r ≡ r′
+  back : {r′ r : Row} → r′ ∈ T′ → RowRegrown T′ a b x y r′ r → renumber a b r ≡ r′
   back {r′} m (renamed t k e) = ap (renumber a b) e ∙ renumber-back b a r′ (no-b m)
   back {r′} m (left-be k e) = ap (renumber a b) e ∙ renumber-off a b r′ (no-b m)
 
-  stays : {r′ r : Row} → r′ ∈ T′ → Regrown T′ a b x y r′ r → Stays a b r
+  stays : {r′ r : Row} → r′ ∈ T′ → RowRegrown T′ a b x y r′ r → Stays a b r
   stays {r′} m (renamed t k e) h = renamed-no-a r′ (rw e at (h .0))
   stays {r′} m (left-be k e) h = no-b m (rw e at (h .1))
 
   pub all-stay : (r : Row) → r ∈ U → Stays a b r
   all-stay r m = let w = each-out each m in stays (w .1) (w .2)
 
-  all-back : {W Z : List Row} → ((r : Row) → r ∈ W → r ∈ T′) → Each (Regrown T′ a b x y) W Z → map (renumber a b) Z ≡ W
+  all-back : {W Z : List Row} → ((r : Row) → r ∈ W → r ∈ T′) → Each (RowRegrown T′ a b x y) W Z → map (renumber a b) Z ≡ W
   all-back sub each-none = refl
   all-back sub (each-more h e) = ap₂ (λ r l. r ∷ l) (back (sub _ (List·Memᴰ·head refl)) h) (all-back (λ r m. sub r (List·Memᴰ·tail m)) e)
 
@@ -156,7 +156,7 @@ module _ (n : ℕ) (T′ : List Row) (a b x y : ℕ) (s : Stage n T′) (at-x : 
   pub U-was : {v p q : ℕ} → Follows U v p q → Was T′ a a b x y v p q
   U-was {v} {p} {q} f = go (w .2)
     where
-      w : (r′ : Row) × (r′ ∈ T′) × Regrown T′ a b x y r′ (f .by)
+      w : (r′ : Row) × (r′ ∈ T′) × RowRegrown T′ a b x y r′ (f .by)
       w = each-out each (f .here)
 
       r′ : Row
@@ -207,7 +207,7 @@ module _ (n : ℕ) (T′ : List Row) (a b x y : ℕ) (s : Stage n T′) (at-x : 
           place (no nv) (no np) (yes e) = a-2 e (re e refl refl (turn (turn g))) (arc (re-turned e refl refl (turn-it (turn-it t))))
           place (no nv) (no np) (no nq) = plain g nv np nq
 
-      go : Regrown T′ a b x y r′ (f .by) → Was T′ a a b x y v p q
+      go : RowRegrown T′ a b x y r′ (f .by) → Was T′ a a b x y v p q
       go (renamed t k e) = moved t k (came b a r′ (rw e at (f .turned)))
       go (left-be none e) = kept none (rw e at (f .turned))
 
@@ -215,20 +215,20 @@ module _ (n : ℕ) (T′ : List Row) (a b x y : ℕ) (s : Stage n T′) (at-x : 
   U-a : {p q : ℕ} → Follows U a p q → Follows T′ a p q × (¬ Between T′ a x y p)
   U-a {p} {q} f = go (w .2)
     where
-      w : (r′ : Row) × (r′ ∈ T′) × Regrown T′ a b x y r′ (f .by)
+      w : (r′ : Row) × (r′ ∈ T′) × RowRegrown T′ a b x y r′ (f .by)
       w = each-out each (f .here)
 
-      go : Regrown T′ a b x y (w .0) (f .by) → Follows T′ a p q × (¬ Between T′ a x y p)
+      go : RowRegrown T′ a b x y (w .0) (f .by) → Follows T′ a p q × (¬ Between T′ a x y p)
       go (renamed t k e) = absurd (renamed-no-a (w .0) (rw e at (turned-holds (f .turned) (at-0 refl))))
       go (left-be none e) = let t = rw e at (f .turned) in (here-a (w .1) t, none p q t)
 
   U-b : {p q : ℕ} → Follows U b p q → Follows T′ a p q × Between T′ a x y p
   U-b {p} {q} f = go (w .2)
     where
-      w : (r′ : Row) × (r′ ∈ T′) × Regrown T′ a b x y r′ (f .by)
+      w : (r′ : Row) × (r′ ∈ T′) × RowRegrown T′ a b x y r′ (f .by)
       w = each-out each (f .here)
 
-      go : Regrown T′ a b x y (w .0) (f .by) → Follows T′ a p q × Between T′ a x y p
+      go : RowRegrown T′ a b x y (w .0) (f .by) → Follows T′ a p q × Between T′ a x y p
       go (left-be none e) = absurd (no-b (w .1) (rw e at (turned-holds (f .turned) (at-0 refl))))
       go (renamed {p = i} {q = j} t k e) = (here-a (w .1) t₂, rw (one-turn (w .1) t t₂) at k)
         where
@@ -330,13 +330,13 @@ module _ (n : ℕ) (T′ : List Row) (a b x y : ℕ) (s : Stage n T′) (at-x : 
     stay-in : {v p q : ℕ} → ((i j : ℕ) → Follows T′ v p q → Turned (row v p q) a i j → ¬ Between T′ a x y i) → Follows T′ v p q → Follows T v p q
     stay-in {v} {p} {q} none f = go (w .2)
       where
-        w : (r : Row) × (r ∈ U) × Regrown T′ a b x y (f .by) r
+        w : (r : Row) × (r ∈ U) × RowRegrown T′ a b x y (f .by) r
         w = each-in each (f .here)
 
         turned : {i j : ℕ} → Turned (f .by) a i j → Turned (row v p q) a i j
         turned t = again (f .turned) t
 
-        go : Regrown T′ a b x y (f .by) (w .0) → Follows T v p q
+        go : RowRegrown T′ a b x y (f .by) (w .0) → Follows T v p q
         go (renamed {p = i} {q = j} t k e) = absurd (none i j f (turned t) k)
         go (left-be l e) = record { by = w .0; here = in-U (w .1); turned = rw e (f .turned) }
 
@@ -361,10 +361,10 @@ module _ (n : ℕ) (T′ : List Row) (a b x y : ℕ) (s : Stage n T′) (at-x : 
         b-in : {p q : ℕ} → Follows T′ a p q → Arc T′ a x y p → Follows T b p q
         b-in {p} {q} f l = go (w .2)
           where
-            w : (r : Row) × (r ∈ U) × Regrown T′ a b x y (f .by) r
+            w : (r : Row) × (r ∈ U) × RowRegrown T′ a b x y (f .by) r
             w = each-in each (f .here)
 
-            go : Regrown T′ a b x y (f .by) (w .0) → Follows T b p q
+            go : RowRegrown T′ a b x y (f .by) (w .0) → Follows T b p q
             go (left-be none e) = absurd (none p q (f .turned) (arc-between l))
             go (renamed t k e) = record {
               by = w .0;

@@ -27,9 +27,9 @@ pub record Between (T : List Row) (a x y p : ℕ) : Type 0 where
   pub short : p ≢ x
 
 -- what becomes of a row: from y forward to x round a, b takes a's place
-pub data Regrown (T : List Row) (a b x y : ℕ) (r′ r : Row) : Type 0 where
-  renamed : {p q : ℕ} → Turned r′ a p q → Between T a x y p → r ≡ renumber b a r′ → Regrown T a b x y r′ r
-  left-be : ((p q : ℕ) → Turned r′ a p q → ¬ Between T a x y p) → r ≡ r′ → Regrown T a b x y r′ r
+pub data RowRegrown (T : List Row) (a b x y : ℕ) (r′ r : Row) : Type 0 where
+  renamed : {p q : ℕ} → Turned r′ a p q → Between T a x y p → r ≡ renumber b a r′ → RowRegrown T a b x y r′ r
+  left-be : ((p q : ℕ) → Turned r′ a p q → ¬ Between T a x y p) → r ≡ r′ → RowRegrown T a b x y r′ r
 
 -- one list of rows becomes another, row by row
 pub data Each (R : Row → Row → Type 0) : List Row → List Row → Type 0 where
@@ -39,7 +39,7 @@ pub data Each (R : Row → Row → Type 0) : List Row → List Row → Type 0 wh
 -- T is what growing back makes of T′ with the rows l put back
 pub record Grown (a b x y : ℕ) (l : List Placed) (T′ T : List Row) : Type 0 where
   pub middle : List Row
-  pub each : Each (Regrown T′ a b x y) T′ middle
+  pub each : Each (RowRegrown T′ a b x y) T′ middle
   pub whole : T ≡ put-back l middle
 
 -- the row with the directed edge a to b has the third corner x, the other one y; either may be the earlier

@@ -4,14 +4,14 @@ use mathlib.Core.Logic.{_≢_, _⊎_, inl, inr}
 use mathlib.Core.List.{List}
 use Prim.Native.Nat.{ℕ}
 use native.Mathlib.Decide.{ℕ-discrete}
 use Rattle.surface.specs.Lists.{Reach, stay}
 use Rattle.surface.specs.Rows.{Row}
 use Rattle.surface.specs.Table.{Follows, Edge}
 use Rattle.surface.specs.Stage.{Stage}
-use Rattle.surface.specs.Grow.{Between}
 use Rattle.surface.proofs.Reaching.{join, one-step, carry, within, Past, before}
 use Rattle.surface.proofs.Once.{turn}
 use Rattle.surface.proofs.Following.{re-edge, follows-same as one}
+use Rattle.growth.specs.Grow.{Between}
 
 -- from y forward round h, before x, built from the far end
 pub data Arc (T : List Row) (h x y : ℕ) : ℕ → Type 0 where

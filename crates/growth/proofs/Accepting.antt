@@ -5,22 +5,23 @@ use mathlib.Core.List.{List, List·Memᴰ·head, List·Memᴰ·tail}
 use Prim.Native.Nat.{ℕ, _<_, _+_}
 use native.Mathlib.Omega.{arith}
 use lib.ListN.{length}
 use Rattle.surface.specs.Lists.{_∈_}
 use Rattle.surface.specs.Rows.{Row}
 use Rattle.surface.specs.Table.{Edge}
 use Rattle.surface.specs.Stage.{Stage}
 use Rattle.surface.specs.Link.{Opposite}
 use Rattle.surface.specs.Record.{at, Record, placed}
-use Rattle.surface.specs.Grow.{put, put-back, Grown, Ends, in-order, crossed}
-use Rattle.surface.specs.Accept.{Accepted, Local}
 use Rattle.surface.proofs.Once.{turn}
 use Rattle.surface.proofs.Contracted.{two-leave, from-a, b≢x, y≢b}
 use Rattle.surface.proofs.Following.{re-edge, follows-same as one}
 use Rattle.surface.proofs.Linked.{opposite, meets}
-use Rattle.surface.proofs.Growing.{leaving-out}
-use Rattle.surface.proofs.Stepped.{no-second}
-use Rattle.surface.proofs.Regrow.{Third, third-0, third-1, third-2, third, T-length, T-stage, T-opposite, T-back, T-leaving}
-use Rattle.surface.proofs.Walked.{grow-back, grow-back-grown}
+use Rattle.surface.proofs.Leaving.{leaving-out}
+use Rattle.growth.specs.Grow.{put, put-back, Grown, Ends, in-order, crossed}
+use Rattle.growth.specs.Accept.{Accepted}
+use Rattle.growth.specs.Local.{Local}
+use Rattle.growth.proofs.Growing.{no-second}
+use Rattle.growth.proofs.Regrow.{Third, third-0, third-1, third-2, third, T-length, T-stage, T-opposite, T-back, T-leaving}
+use Rattle.growth.proofs.Walked.{grow-back, grow-back-grown}
 
 -- no second table is accepted
 pub accepted-one : {n₁ n₂ : ℕ} {T′ T₁ T₂ : List Row} {k : Record} → Accepted n₁ T′ k T₁ → Accepted n₂ T′ k T₂ → T₁ ≡ T₂

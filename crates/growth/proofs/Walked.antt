@@ -8,18 +8,18 @@ use native.Mathlib.Decide.{ℕ-discrete}
 use native.Mathlib.Omega.{arith}
 use lib.ListN.{length}
 use lib.Dec.{T as So, eqb, eqb→eq, eqb-refl}
 use Rattle.surface.specs.Lists.{_∈_}
 use Rattle.surface.specs.Rows.{Row, row, Turned, turn-0, turn-1, turn-2}
 use Rattle.surface.specs.Table.{Arrow, _⇒_, Follows, Edge}
 use Rattle.surface.specs.Stage.{Stage}
 use Rattle.surface.specs.Contract.{renumber}
 use Rattle.surface.specs.Record.{Placed}
-use Rattle.surface.specs.Grow.{put-back, Between, Regrown, renamed, left-be, Each, each-none, each-more, Grown}
 use Rattle.surface.proofs.Once.{turn, Once, once-of-distinct}
 use Rattle.surface.proofs.Following.{follows-same as one}
 use Rattle.surface.proofs.Testing.{among, among-sound, among-whole, and-l, and-r, and-in, or-in, or-l, or-r}
 use Rattle.surface.proofs.Round.{round, round-sound, round-whole}
-use Rattle.surface.proofs.Fan.{Walks, ends, goes, walks, walks-one, passed, all-passed, walk-length}
+use Rattle.growth.specs.Grow.{put-back, Between, RowRegrown, renamed, left-be, Each, each-none, each-more, Grown}
+use Rattle.growth.proofs.Fan.{Walks, ends, goes, walks, walks-one, passed, all-passed, walk-length}
 
 -- what follows p, or else d
 abbrev pub onward : List Arrow → ℕ → ℕ → ℕ
@@ -118,14 +118,14 @@ module _ (n : ℕ) (T : List Row) (s : Stage n T) (a b x y : ℕ) (at-x : Edge T
   pub fan-whole : {p : ℕ} → Between T a x y p → p ∈ fan T a x y
   fan-whole h = rw fan-is (all-passed T o (λ v p q f. s .apart f) a x (h .on) (h .short) (way .1))
 
-  regrows : (r : Row) → Regrown T a b x y r (regrow a b (fan T a x y) r)
+  regrows : (r : Row) → RowRegrown T a b x y r (regrow a b (fan T a x y) r)
   regrows r = go (changes a (fan T a x y) r) (λ h. changes-sound a (fan T a x y) r h) (λ p q t m. changes-whole a (fan T a x y) r t m)
     where
-      go : (c : Bool) → (So c → (p : ℕ) × (q : ℕ) × Turned r a p q × (p ∈ fan T a x y)) → ((p q : ℕ) → Turned r a p q → p ∈ fan T a x y → So c) → Regrown T a b x y r (cond c (renumber b a r) r)
+      go : (c : Bool) → (So c → (p : ℕ) × (q : ℕ) × Turned r a p q × (p ∈ fan T a x y)) → ((p q : ℕ) → Turned r a p q → p ∈ fan T a x y → So c) → RowRegrown T a b x y r (cond c (renumber b a r) r)
       go true f g = let w = f tt in renamed (w .2) (fan-sound (w .3)) refl
       go false f g = left-be (λ p q t k. g p q t (fan-whole k)) refl
 
-  each-row : (W : List Row) → Each (Regrown T a b x y) W (map (regrow a b (fan T a x y)) W)
+  each-row : (W : List Row) → Each (RowRegrown T a b x y) W (map (regrow a b (fan T a x y)) W)
   each-row [] = each-none
   each-row (r ∷ W) = each-more (regrows r) (each-row W)
 

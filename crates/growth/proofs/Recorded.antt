@@ -1,4 +1,4 @@
--- What a step writes: two rows, the earlier first. Growing back accepts it.
+-- Growing back accepts the record that a step writes, and just what replaying accepts, the other way round; so a log grows back to one table.
 use mathlib.Core.Path.{_≡_, refl, sym, _∙_}
 use mathlib.Core.Logic.{_⊎_, inl, inr, _↔_}
 use mathlib.Core.List.{List, [], _∷_, List·Memᴰ·cases-cons, List·Memᴰ·eq-of-singleton, reverse-reverse}
@@ -6,24 +6,25 @@ use Prim.Native.Nat.{ℕ, _<_}
 use native.Mathlib.Omega.{arith}
 use Rattle.follow.specs.Leads.{Leads}
 use Rattle.follow.proofs.Leading.{leads-one, leads-keep, leads-back}
 use Rattle.surface.specs.Lists.{_∈_}
 use Rattle.surface.specs.Rows.{Row}
 use Rattle.surface.specs.Table.{Follows}
 use Rattle.surface.specs.Stage.{Stage}
 use Rattle.surface.specs.Link.{Meets, Opposite}
 use Rattle.surface.specs.Contract.{at-0, at-1, Stays, contract}
 use Rattle.surface.specs.Record.{at, leaving, Record, placed, Replays, Replayed}
-use Rattle.surface.specs.Grow.{Ends, in-order, crossed}
-use Rattle.surface.specs.Accept.{Accepted, GrownBack}
 use Rattle.surface.proofs.Once.{turn}
 use Rattle.surface.proofs.Renumber.{stays-turned}
-use Rattle.surface.proofs.Regrow.{Third, third-0, third-1, third-2, third}
 use Rattle.surface.proofs.Linked.{opposite}
 use Rattle.surface.proofs.Counted.{used-old}
-use Rattle.surface.proofs.Accepting.{accepted-one}
 use Rattle.surface.proofs.Stepped.{contraction}
-use Rattle.surface.proofs.Growing.{grown, leaving-in, at-row}
+use Rattle.surface.proofs.Leaving.{leaving-in, at-row}
 use Rattle.surface.proofs.TwoPlaces.{Two, two-places}
+use Rattle.growth.specs.Grow.{Ends, in-order, crossed}
+use Rattle.growth.specs.Accept.{Accepted, GrownBack}
+use Rattle.growth.proofs.Regrow.{Third, third-0, third-1, third-2, third}
+use Rattle.growth.proofs.Accepting.{accepted-one}
+use Rattle.growth.proofs.Growing.{grown}
 
 -- a step that writes the record k
 module _ (n : ℕ) (T : List Row) (k : Record) (s : Stage n T) (m : Meets T (k .kept) (k .removed)) (is : leaving (k .kept) (k .removed) T ≡ placed k) where
@@ -91,24 +92,6 @@ module _ (n : ℕ) (T : List Row) (k : Record) (s : Stage n T) (m : Meets T (k .
           go (inl e) (inr f) = in-order (rw e at (o .left .turned)) (rw f at (o .right .turned))
           go (inr e) (inl f) = crossed (rw f at (o .right .turned)) (rw e at (o .left .turned))
           go (inr e) (inr f) = absurd (not-one (third (rw (e ∙ sym f) at (o .left .turned)) (o .right .turned)))
-
--- the record that a step writes
-pub written : (n : ℕ) (T : List Row) (a b : ℕ) → Stage n T → Meets T a b → Record
-written n T a b s m =
-    let t = two-places n T a b s m in
-    record { kept = a; removed = b; place-1 = t .i; row-1 = t .r; place-2 = t .j; row-2 = t .z }
-
-pub written-kept : (n : ℕ) (T : List Row) (a b : ℕ) (s : Stage n T) (m : Meets T a b) → written n T a b s m .kept ≡ a
-unfolding written
-written-kept n T a b s m = refl
-
-pub written-removed : (n : ℕ) (T : List Row) (a b : ℕ) (s : Stage n T) (m : Meets T a b) → written n T a b s m .removed ≡ b
-unfolding written
-written-removed n T a b s m = refl
-
-pub written-replays : (n : ℕ) (T : List Row) (a b : ℕ) (s : Stage n T) (m : Meets T a b) → a < b → Replays T (written n T a b s m) (contract a b T)
-unfolding written
-written-replays n T a b s m h = record { lower = h; meets = m; leaves = refl; record-is = two-places n T a b s m .is }
 
 -- growing back accepts just what replaying accepts, the other way round
 pub replay-iff : (n : ℕ) (T : List Row) (k : Record) (T′ : List Row) → Accepted n T′ k T ↔ (Stage n T × Replays T k T′)

@@ -1,0 +1,10 @@
+pub mod Main
+pub mod Growing
+pub mod Fan
+pub mod Arcs
+pub mod Fork
+pub mod Put
+pub mod Regrow
+pub mod Walked
+pub mod Accepting
+pub mod Recorded

@@ -1,0 +1,3 @@
+pub mod Grow
+pub mod Accept
+pub mod Local
