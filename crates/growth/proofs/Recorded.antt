@@ -1,7 +1,7 @@
 -- Growing back accepts the record that a step writes, and just what replaying accepts, the other way round; so a log grows back to one table.
 use mathlib.Core.Path.{_≡_, refl, sym, _∙_}
 use mathlib.Core.Logic.{_⊎_, inl, inr, _↔_}
-use mathlib.Core.List.{List, [], _∷_, List·Memᴰ·cases-cons, List·Memᴰ·eq-of-singleton, reverse-reverse}
+use mathlib.Core.List.{List, [], _∷_, List·Memᴰ·cases-cons, List·Memᴰ·eq-of-singleton}
 use Prim.Native.Nat.{ℕ, _<_}
 use native.Mathlib.Omega.{arith}
 use Rattle.follow.specs.Leads.{Leads}
@@ -99,9 +99,6 @@ replay-iff n T k T′ = (λ g. (g .stage, g .replays), λ h. there (h .0) (h .1)
   where
     there : Stage n T → Replays T k T′ → Accepted n T′ k T
     there s r = rw (r .leaves) at (step-accepted n T k s (r .meets) (r .record-is) (r .lower))
-
-pub grown-replayed : (n : ℕ) {T T′ : List Row} (l : List Record) → GrownBack n T′ l T → Replayed T l T′
-grown-replayed n l g = rw (reverse-reverse l) at (leads-back (λ T. Unit {0}) (λ T T′ k u a. (tt, a .replays)) tt g)
 
 pub replayed-grown : {n : ℕ} {T T′ : List Row} {l : List Record} → Stage n T → Replayed T l T′ → GrownBack n T′ l T
 replayed-grown {n} s r = leads-back (Stage n) (λ T T′ k z d. (rw (d .leaves) at (contraction n T (k .kept) (k .removed) z (d .meets)), replay-iff n T k T′ .1 (z, d))) s r

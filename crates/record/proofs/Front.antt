@@ -1,13 +1,15 @@
 -- Lent tables and rooms with rows in front: read, and filled or lowered again.
-use mathlib.Core.Path.{_≡_, _∙_, ap}
+use mathlib.Core.Path.{_≡_, sym, _∙_, ap}
 use mathlib.Core.List.{List, _++_, append-nil}
 use Prim.Native.Nat.{ℕ, _+_, _-_, _*_, _≤_}
 use native.Mathlib.Omega.{arith}
 use lib.ListN.{length, take, drop, replicate, length-append, length-drop, take-append-drop, length-replicate, replicate-append-replicate}
 use lib.Seq.{take-at, drop-at, drop-drop, length-take-le, drop-append-add}
 use Rattle.surface.specs.Rows.{Row, rows, flat}
+use Rattle.surface.specs.Stage.{Stage}
+use Rattle.surface.specs.StageTable.{StageTable}
 use Rattle.surface.proofs.Flat.{rows-flat, flat-length, flat-rows, rows-length}
-use Rattle.record.specs.Front.{standing, filled, zeroed}
+use Rattle.record.specs.Front.{front-rows, standing, filled, zeroed}
 use Rattle.record.specs.Inner.{lowered}
 
 -- as many rows stand in front as are told
@@ -20,6 +22,11 @@ standing-flat m room h = flat-rows m (take (3 * m) room) (length-take-le (3 * m)
 -- rows in front of anything
 pub standing-front : (m : ℕ) (T : List Row) (rest : List ℕ) → length T ≡ m → standing m (flat T ++ rest) ≡ T
 standing-front m T rest h = ap rows (take-at (flat T) rest (3 * m) (flat-length T ∙ ap (λ z. 3 * z) h)) ∙ rows-flat T
+
+pub front-stage : {n : ℕ} (m : ℕ) (T : List Row) (rest : List ℕ) → length T ≡ m → Stage n T → StageTable n (front-rows m (flat T ++ rest))
+front-stage m T rest h s =
+    let e = take-at (flat T) rest (3 * m) (flat-length T ∙ ap (λ z. 3 * z) h) in
+    rw e (record { count = flat-length T ∙ ap (λ (S : List Row). 3 * length S) (sym (rows-flat T)); stage = rw (rows-flat T) s })
 
 pub standing-filled : (m : ℕ) (T : List Row) (room : List ℕ) → length T ≡ m → standing m (filled T room) ≡ T
 standing-filled m T room h = standing-front m T (drop (3 * length T) room) h

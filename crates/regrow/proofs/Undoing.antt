@@ -5,14 +5,12 @@ use mathlib.Core.List.{List, reverse}
 use Prim.Native.Nat.{ℕ, _+_, _-_, _*_, _≤_, _<_}
 use native.Mathlib.Omega.{arith}
 use lib.ListN.{length, drop, length-reverse}
-use lib.Seq.{take-at}
 use Rattle.follow.specs.Leads.{Leads, no-step, one-step}
 use Rattle.follow.proofs.Upto.{Upto, upto-none, upto-all, upto-fails, upto-more}
-use Rattle.surface.specs.Rows.{Row, flat}
+use Rattle.surface.specs.Rows.{Row}
 use Rattle.surface.specs.Stage.{Stage}
 use Rattle.surface.specs.StageTable.{StageTable}
 use Rattle.surface.specs.Record.{Record}
-use Rattle.surface.proofs.Flat.{rows-flat, flat-length}
 use Rattle.surface.proofs.Main.{two-fewer}
 use Rattle.growth.specs.Accept.{Accepted}
 use Rattle.growth.proofs.Recorded.{grown-back-stage}
@@ -21,7 +19,7 @@ use Rattle.record.specs.Front.{front-rows, standing, filled}
 use Rattle.record.proofs.Places.{records-length, records-back}
 use Rattle.refusal.specs.declared.Refusal.the-variants.{RecordFails}
 use Rattle.grow.specs.Room.{GrewBack}
-use Rattle.record.proofs.Front.{standing-length, standing-filled, filled-standing, filled-length, filled-again}
+use Rattle.record.proofs.Front.{front-stage, standing-length, standing-filled, filled-standing, filled-length, filled-again}
 use Rattle.regrow.specs.declared.Regrown.the-variants.{Done, Stopped}
 use Rattle.regrow.specs.Outcome.{growing}
 use Rattle.regrow.specs.Inner.{CanGrow, GrownIn}
@@ -70,9 +68,7 @@ module _ (n m : ℕ) (room log : List ℕ) (g : CanGrow n m room log) where
     same = let u = w .upto .within in let h = g .fits in let k = w .many in let a = all-of in ap length (w .left) ∙ filled-length (w .table) room (omega arith)
 
     pub table-stands : StageTable n (front-rows (m + 2 * done) room′)
-    table-stands =
-        let e = ap (front-rows here) (w .left) ∙ take-at (flat (w .table)) (drop (3 * length (w .table)) room) (3 * here) (flat-length (w .table) ∙ ap (λ z. 3 * z) (w .many)) in
-        rw e (record { count = flat-length (w .table) ∙ ap (λ (S : List Row). 3 * length S) (sym (rows-flat (w .table))); stage = rw (rows-flat (w .table)) stage })
+    table-stands = rw (ap (front-rows here) (w .left)) (front-stage here (w .table) (drop (3 * length (w .table)) room) (w .many) stage)
 
     pub done-all : count log ≤ done → GrownIn n m room log (Done done) room′
     done-all h = record { table = w .table; reached = upto-all (growing n m room log) (w .upto) (omega (arith, all-of, h)); left = w .left }

@@ -5,13 +5,11 @@ use mathlib.Core.List.{List}
 use Prim.Native.Nat.{ℕ, _+_, _-_, _*_, _/_, _≤_, _<_}
 use native.Mathlib.Omega.{arith}
 use lib.ListN.{length, replicate}
-use lib.Seq.{take-at}
 use Rattle.follow.proofs.Upto.{Upto, upto-none, upto-all, upto-fails, upto-more}
 use Rattle.surface.specs.Rows.{Row, rows, flat}
 use Rattle.surface.specs.Stage.{Stage}
 use Rattle.surface.specs.StageTable.{StageTable}
 use Rattle.surface.specs.Record.{Record, Replays}
-use Rattle.surface.proofs.Flat.{rows-flat, flat-length}
 use Rattle.run.proofs.Main.{replayed-stage, step-rows}
 use Rattle.refusal.specs.declared.Refusal.the-variants.{RecordFails}
 use Rattle.record.specs.Layout.{width, count, record-at, records}
@@ -19,7 +17,7 @@ use Rattle.record.specs.Front.{front-rows, standing, zeroed}
 use Rattle.record.specs.Inner.{lowered}
 use Rattle.record.proofs.Log.{first-at}
 use Rattle.record.proofs.Places.{records-length}
-use Rattle.record.proofs.Front.{standing-front, zeroed-whole, zeroed-length, zeroed-again}
+use Rattle.record.proofs.Front.{front-stage, standing-front, zeroed-whole, zeroed-length, zeroed-again}
 use Rattle.redo.specs.Redo.{Redid}
 use Rattle.regrow.specs.declared.Regrown.the-variants.{Done, Stopped}
 use Rattle.replay.specs.Outcome.{replaying}
@@ -65,9 +63,7 @@ module _ (n : ℕ) (t log : List ℕ) (g : StageTable n t) where
     rows-inside = omega (arith, same, many, inside)
 
     pub table-stands : StageTable n (front-rows (length t / 3 - 2 * done) t′)
-    table-stands =
-        let e = ap (front-rows here) (w .left) ∙ take-at (flat (w .table)) (replicate (length t - length (flat (w .table))) 0) (3 * here) (flat-length (w .table) ∙ ap (λ z. 3 * z) many) in
-        rw e (record { count = flat-length (w .table) ∙ ap (λ (S : List Row). 3 * length S) (sym (rows-flat (w .table))); stage = rw (rows-flat (w .table)) stage })
+    table-stands = rw (ap (front-rows here) (w .left)) (front-stage here (w .table) (replicate (length t - length (flat (w .table))) 0) many stage)
 
     pub done-all : count log ≤ done → RedoneIn n t log (Done done) t′
     done-all h = record { table = w .table; reached = upto-all (replaying n t log) (w .upto) (omega (arith, records-length log, h)); left = w .left }
