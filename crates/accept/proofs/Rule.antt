@@ -8,11 +8,11 @@ use lib.ListN.{length}
 use Rattle.surface.specs.Rows.{Row, rows}
 use Rattle.surface.specs.Table.{Edge, Used}
 use Rattle.surface.specs.Stage.{Stage}
-use Rattle.surface.specs.StageTable.{StageTable}
+use Rattle.surface.specs.InnerStageTable.{StageTable}
 use Rattle.surface.specs.Record.{Record}
 use Rattle.surface.proofs.Following.{re-edge}
 use Rattle.growth.specs.Grow.{Ends}
-use Rattle.growth.specs.Local.{Local}
+use Rattle.growth.specs.InnerLocal.{Local}
 use Rattle.growth.proofs.Accepting.{ends-one}
 use Rattle.record.specs.declared.Corner.{Corner}
 use Rattle.ends.specs.declared.Ends.the-variants.{At, Nothing}

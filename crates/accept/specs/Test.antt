@@ -5,7 +5,7 @@ use Prim.Native.Nat.{ℕ, _+_, _≤_, _<_}
 use Rattle.surface.specs.Limits.{most-rows}
 use Rattle.surface.specs.Rows.{Row}
 use Rattle.surface.specs.Record.{Record}
-use Rattle.growth.specs.Local.{Local}
+use Rattle.growth.specs.InnerLocal.{Local}
 use Rattle.ends.specs.declared.Ends.{Ends}
 use Rattle.ends.specs.declared.Ends.the-variants.{At, Nothing}
 

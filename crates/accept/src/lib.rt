@@ -7,11 +7,11 @@ ghost use lib.ListN.{length};
 ghost use Rattle.surface.specs.Limits.{most-rows};
 ghost use Rattle.surface.specs.Rows.{rows};
 ghost use Rattle.surface.specs.Table.{Used};
-ghost use Rattle.surface.specs.StageTable.{StageTable};
+ghost use Rattle.surface.specs.InnerStageTable.{StageTable};
 ghost use Rattle.record.specs.Inner.{meant};
 ghost use Rattle.slots.specs.Slot.{Whole, Under};
 ghost use Rattle.slots.specs.Marks.{Blank};
-ghost use Rattle.refusal.specs.Tells.{Tells};
+ghost use Rattle.refusal.specs.InnerTells.{Tells};
 ghost use Rattle.accept.specs.Noted.{NotedTo, Round, IsNoted, BothNoted};
 ghost use Rattle.accept.specs.Test.{InBounds, Answered};
 

@@ -2,7 +2,7 @@
 use mathlib.Core.Path.{_≡_, refl, sym, _∙_, ap}
 use mathlib.Core.Logic.{_≢_}
 use mathlib.Core.List.{List, []}
-use Prim.Native.Nat.{ℕ, suc, _<_}
+use Prim.Native.Nat.{ℕ, suc, _<_, _+_}
 use native.Mathlib.Omega.{arith}
 use lib.IntN.{pos, _-ℤ_}
 use lib.ListN.{getD}
@@ -11,7 +11,7 @@ use Rattle.follow.specs.Leads.{no-step}
 use Rattle.refusal.specs.declared.Refusal.{Refusal}
 use Rattle.run.specs.Run.{none-yet}
 use Rattle.figure.specs.Sum.{sixfold}
-use Rattle.record.specs.Layout.{log-of}
+use Rattle.record.specs.Layout.{log-of, width, room-for}
 use Rattle.length.specs.declared.Order.the-variants.{NoLimit}
 use Rattle.volume.specs.declared.Measured.{Measured}
 use Rattle.volume.specs.declared.Measured.the-variants.{Figure}
@@ -36,15 +36,15 @@ pub refuses-all : (r : Refusal) (u m : List ℕ) → ¬ Thinned NoLimit T-corner
 refuses-all r u m h = done-refused (sym ((case-T .1 (Refused r) u m h) .0))
 
 -- one that answers with the tetrahedron for everything: its first row is not the one that O ends with
-pub tetrahedron-for-all : (b : Thinning) (u m : List ℕ) → getD u 1 0 ≡ getD T 1 0 → ¬ Thinned NoLimit O-corners O (lent 20) b u m
+pub tetrahedron-for-all : (b : Thinning) (u m : List ℕ) → getD u 1 0 ≡ getD T 1 0 → ¬ Thinned NoLimit O-corners O (lent (room-for 2)) b u m
 tetrahedron-for-all b u m e h = let k = ap (λ l. getD l 1 0) ((case-O .1 b u m h) .1) in let f : _≡_ {A = ℕ} 1 3 = sym e ∙ k in omega arith
 
 -- one that ends in a tetrahedron whatever it is given: M has no record
-pub tetrahedron-for-M : (k : ℕ) (u m : List ℕ) → ¬ Thinned NoLimit M-corners M (lent 30) (Done (suc k)) u m
+pub tetrahedron-for-M : (k : ℕ) (u m : List ℕ) → ¬ Thinned NoLimit M-corners M (lent (room-for 3)) (Done (suc k)) u m
 tetrahedron-for-M k u m h = let e = done-count ((case-M .1 (Done (suc k)) u m h) .0) in omega arith
 
 -- one that contracts nothing
-pub contracts-nothing : (u m : List ℕ) → ¬ Thinned NoLimit O-corners O (lent 20) (Done 0) u m
+pub contracts-nothing : (u m : List ℕ) → ¬ Thinned NoLimit O-corners O (lent (room-for 2)) (Done 0) u m
 contracts-nothing u m h = let e = done-count ((case-O .1 (Done 0) u m h) .0) in omega arith
 
 -- it satisfies demand 3 all the same. What it leaves of O is the first table and no record: each volume shown of that table, and each change
@@ -61,11 +61,11 @@ contracts-nothing-near = (
 )
 
 -- one that does all steps under the first record: the log's second record does not remove corner 2
-pub all-under-one : (b : Thinning) (u m : List ℕ) → getD m 11 0 ≢ 2 → ¬ Thinned NoLimit O-corners O (lent 20) b u m
-all-under-one b u m n h = n (ap (λ l. getD l 11 0) ((case-O .1 b u m h) .2))
+pub all-under-one : (b : Thinning) (u m : List ℕ) → getD m (width + 1) 0 ≢ 2 → ¬ Thinned NoLimit O-corners O (lent (room-for 2)) b u m
+all-under-one b u m n h = n (ap (λ l. getD l (width + 1) 0) ((case-O .1 b u m h) .2))
 
 -- an invented step count
-pub invented-count : (k : ℕ) (u m : List ℕ) → k ≢ 2 → ¬ Thinned NoLimit O-corners O (lent 20) (Done k) u m
+pub invented-count : (k : ℕ) (u m : List ℕ) → k ≢ 2 → ¬ Thinned NoLimit O-corners O (lent (room-for 2)) (Done k) u m
 invented-count k u m n h = n (done-count ((case-O .1 (Done k) u m h) .0))
 
 -- one that counts common neighbours only, and contracts an edge of T
@@ -73,19 +73,19 @@ pub neighbours-only : (k : ℕ) (u m : List ℕ) → ¬ Thinned NoLimit T-corner
 neighbours-only k u m h = let e = done-count ((case-T .1 (Done (suc k)) u m h) .0) in omega arith
 
 -- one that keeps the higher number: the first record does not begin 1, 0
-pub keeps-higher : (b : Thinning) (u m : List ℕ) → getD m 0 0 ≡ 1 → ¬ Thinned NoLimit O-corners O (lent 20) b u m
+pub keeps-higher : (b : Thinning) (u m : List ℕ) → getD m 0 0 ≡ 1 → ¬ Thinned NoLimit O-corners O (lent (room-for 2)) b u m
 keeps-higher b u m e h = let k = ap (λ l. getD l 0 0) ((case-O .1 b u m h) .2) in let f : _≡_ {A = ℕ} 1 0 = sym e ∙ k in omega arith
 
 -- one that writes no zeros behind the last stage
-pub no-zeros : (b : Thinning) (u m : List ℕ) → getD u 12 0 ≡ getD O 12 0 → ¬ Thinned NoLimit O-corners O (lent 20) b u m
+pub no-zeros : (b : Thinning) (u m : List ℕ) → getD u 12 0 ≡ getD O 12 0 → ¬ Thinned NoLimit O-corners O (lent (room-for 2)) b u m
 no-zeros b u m e h = let k = ap (λ l. getD l 12 0) ((case-O .1 b u m h) .1) in let f : _≡_ {A = ℕ} 5 0 = sym e ∙ k in omega arith
 
 -- one that rounds the length down before comparing, or takes a limit for none: at 141 cm nothing is contracted
-pub limit-ignored : (k : ℕ) (u m : List ℕ) → ¬ Thinned cm-141 O-corners O (lent 20) (Done (suc k)) u m
+pub limit-ignored : (k : ℕ) (u m : List ℕ) → ¬ Thinned cm-141 O-corners O (lent (room-for 2)) (Done (suc k)) u m
 limit-ignored k u m h = let e = done-count ((case-141 .1 (Done (suc k)) u m h) .0) in omega arith
 
 -- one that compares the squared length with the limit unsquared: at 142 cm it contracts nothing
-pub limit-stops-all : (u m : List ℕ) → ¬ Thinned cm-142 O-corners O (lent 20) (Done 0) u m
+pub limit-stops-all : (u m : List ℕ) → ¬ Thinned cm-142 O-corners O (lent (room-for 2)) (Done 0) u m
 limit-stops-all u m h = let e = done-count ((case-142 .1 (Done 0) u m h) .0) in omega arith
 
 -- one that takes rounded changes off a rounded start: O shows 0 at stage one, where 1 is right

@@ -19,7 +19,7 @@ use Rattle.length.specs.declared.Order.the-variants.{Limit}
 use Rattle.length.specs.declared.Length.the-variants.{Centimetres}
 use Rattle.length.specs.Limit.{capped, reading, limit-of}
 use Rattle.least.specs.declared.Bound.the-variants.{Within}
-use Rattle.record.specs.Layout.{log-of}
+use Rattle.record.specs.Layout.{log-of, width, room-for}
 use Rattle.thin.specs.declared.Thinning.{Thinning}
 use Rattle.thin.specs.declared.Thinning.the-variants.{Done}
 use Rattle.thin.specs.Thin.{Thinned, done}
@@ -56,11 +56,11 @@ six-last = 1 ∷ 2 ∷ 4 ∷ 1 ∷ 0 ∷ 2 ∷ 0 ∷ 1 ∷ 4 ∷ 0 ∷ 4 ∷ 2 �
 abbrev six-log : List ℕ
 six-log = 2 ∷ 3 ∷ 0 ∷ 2 ∷ 3 ∷ 1 ∷ 4 ∷ 3 ∷ 2 ∷ 5 ∷ 1 ∷ 5 ∷ 1 ∷ 2 ∷ 5 ∷ 1 ∷ 2 ∷ 1 ∷ 5 ∷ 4 ∷ []
 
-pub returns : Thinned cm-3 six-corners six (lent 20) (Done 2) six-last six-log
+pub returns : Thinned cm-3 six-corners six (lent (room-for 2)) (Done 2) six-last six-log
 unfolding edges rows flat log-of contract renumber replace stays? holds? ℕ-discrete leaving later limit-of reading capped ofBits squared-distance
 returns = done {b = Within 3} {log = r₁ ∷ r₂ ∷ []} {last = row 1 2 4 ∷ row 1 0 2 ∷ row 0 1 4 ∷ row 0 4 2 ∷ []} (thin-passes six (under-usable {b = Within 3} refl) refl six-skin (omega arith)) six-skin refl
     (limited 3 six-corners (run-sound (within 3 six-corners) (goes-on {k = r₁} tt refl (goes-on {k = r₂} tt refl (stays-at refl))) tt)) refl refl refl
 
 -- one that never returns to a lower corner does not keep 1 in its second record
-pub never-returning : (b : Thinning) (u m : List ℕ) → getD m 10 0 ≢ 1 → ¬ Thinned cm-3 six-corners six (lent 20) b u m
-never-returning b u m n h = n (ap (λ l. getD l 10 0) ((thinned-one h returns) .2))
+pub never-returning : (b : Thinning) (u m : List ℕ) → getD m width 0 ≢ 1 → ¬ Thinned cm-3 six-corners six (lent (room-for 2)) b u m
+never-returning b u m n h = n (ap (λ l. getD l width 0) ((thinned-one h returns) .2))

@@ -11,7 +11,7 @@ use lib.IntN.{ℤ, pos, negℤ}
 use lib.ListN.{length, take, replicate}
 use Rattle.surface.specs.Rows.{Row, row, rows, flat}
 use Rattle.surface.specs.Table.{edges}
-use Rattle.surface.specs.StageTable.{StageTable}
+use Rattle.surface.specs.InnerStageTable.{StageTable}
 use Rattle.surface.specs.Contract.{contract, renumber, replace, stays?, holds?}
 use Rattle.surface.specs.Record.{at, later, leaving, Record, Replayed}
 use Rattle.corners.specs.Skin.{InRange}
@@ -38,7 +38,7 @@ use Rattle.length.specs.Limit.{capped, reading, limit-of}
 use Rattle.least.specs.declared.Bound.the-variants.{Free, Within}
 use Rattle.least.specs.Limited.{Allowed}
 use Rattle.run.proofs.Main.{taken-replayed}
-use Rattle.record.specs.Layout.{width, log-of, first-records, records, WholeRecords}
+use Rattle.record.specs.Layout.{width, log-of, first-records, records, WholeRecords, room-for}
 use Rattle.record.specs.Front.{zeroed}
 use Rattle.thin.specs.declared.Asked.the-variants.{Under}
 use Rattle.thin.specs.declared.Thinning.{Thinning}
@@ -116,7 +116,7 @@ pub case-T : Thins NoLimit T-corners T [] (Done 0) T []
 unfolding edges rows flat log-of
 case-T = only NoLimit (done {b = Free} {log = []} {last = rows T} (thin-passes T (under-usable refl) refl T-skin (omega arith)) T-skin refl (free T-corners (run-sound any (stays-at refl) tt)) refl refl refl)
 
-pub case-M : Thins NoLimit M-corners M (lent 30) (Done 0) M (lent 30)
+pub case-M : Thins NoLimit M-corners M (lent (room-for 3)) (Done 0) M (lent (room-for 3))
 unfolding edges rows flat log-of
 case-M = only NoLimit (done {b = Free} {log = []} {last = rows M} (thin-passes M (under-usable refl) refl M-skin (omega arith)) M-skin refl (free M-corners (run-sound any (stays-at refl) tt)) refl refl refl)
 
@@ -124,15 +124,15 @@ O-steps : (p : ℕ → ℕ → Bool) → So (least p 0 1 (rows O)) → So (least
 unfolding edges rows contract renumber replace stays? holds? ℕ-discrete leaving later
 O-steps p h₁ h₂ = goes-on h₁ refl (goes-on h₂ refl (stays-at refl))
 
-pub case-O : Thins NoLimit O-corners O (lent 20) (Done 2) O-last O-log
+pub case-O : Thins NoLimit O-corners O (lent (room-for 2)) (Done 2) O-last O-log
 unfolding edges rows flat log-of contract renumber replace stays? holds? ℕ-discrete leaving later
 case-O = only NoLimit (done {b = Free} {log = k₁ ∷ k₂ ∷ []} {last = O-end} (thin-passes O (under-usable refl) refl O-skin (omega arith)) O-skin refl (free O-corners (run-sound any (O-steps any tt tt) tt)) refl refl refl)
 
-pub case-141 : Thins cm-141 O-corners O (lent 20) (Done 0) O (lent 20)
+pub case-141 : Thins cm-141 O-corners O (lent (room-for 2)) (Done 0) O (lent (room-for 2))
 unfolding edges rows flat log-of limit-of reading capped ofBits squared-distance
 case-141 = only cm-141 (done {b = Within 141} {log = []} {last = rows O} (thin-passes O (under-usable {b = Within 141} refl) refl O-skin (omega arith)) O-skin refl (limited 141 O-corners (run-sound (within 141 O-corners) (stays-at refl) tt)) refl refl refl)
 
-pub case-142 : Thins cm-142 O-corners O (lent 20) (Done 2) O-last O-log
+pub case-142 : Thins cm-142 O-corners O (lent (room-for 2)) (Done 2) O-last O-log
 unfolding edges rows flat log-of contract renumber replace stays? holds? ℕ-discrete leaving later limit-of reading capped ofBits squared-distance
 case-142 = only cm-142 (done {b = Within 142} {log = k₁ ∷ k₂ ∷ []} {last = O-end} (thin-passes O (under-usable {b = Within 142} refl) refl O-skin (omega arith)) O-skin refl (limited 142 O-corners (run-sound (within 142 O-corners) (O-steps (within 142 O-corners) tt tt) tt)) refl refl refl)
 
@@ -242,7 +242,7 @@ replayed-only l k u {T} fits r e f =
     let h : ReplayedAs 6 O l (regrown.Done k) u = record { outcome = followed (replay-passes 6 O l fits (O-skin .stage), O-skin .stage) (all r (ap regrown.Done e)) f } in
     (h, λ b v w. replay-one w h)
 
-O-fits : (l : List ℕ) → WholeRecords l → length l ≤ 20 → ReplayFits 6 O l
+O-fits : (l : List ℕ) → WholeRecords l → length l ≤ room-for 2 → ReplayFits 6 O l
 unfolding rows
 O-fits l h m = record {
   counts = record { table = record { threes = refl; count = record { least = omega arith; most = omega arith } }; count = record { few = omega arith; many = omega arith } };

@@ -17,7 +17,7 @@ use Rattle.thin.specs.Answer as thinnings
 use Rattle.thin.specs.Thin.{Thinned}
 use Rattle.regrow.specs.Answer as regrowths
 use Rattle.replay.specs.Outcome.{ReplayedAs}
-use Rattle.record.specs.Layout.{width}
+use Rattle.record.specs.Layout.{width, room-for}
 use Rattle.cases.specs.Skins.{T, T-corners, T-turned, O, O-corners, M, M-corners}
 
 pub data Case : Type 0 where
@@ -80,10 +80,10 @@ abbrev pub starred : List Case
 starred =
     thins NoLimit T-corners T [] (records-done 0) T []
     ∷ thins NoLimit T-corners T-turned [] (refused-as 7) T-turned []
-    ∷ thins NoLimit O-corners O (lent 20) (records-done 2) O-last O-log
-    ∷ thins cm-141 O-corners O (lent 20) (records-done 0) O (lent 20)
-    ∷ thins cm-142 O-corners O (lent 20) (records-done 2) O-last O-log
-    ∷ thins NoLimit M-corners M (lent 30) (records-done 0) M (lent 30)
+    ∷ thins NoLimit O-corners O (lent (room-for 2)) (records-done 2) O-last O-log
+    ∷ thins cm-141 O-corners O (lent (room-for 2)) (records-done 0) O (lent (room-for 2))
+    ∷ thins cm-142 O-corners O (lent (room-for 2)) (records-done 2) O-last O-log
+    ∷ thins NoLimit M-corners M (lent (room-for 3)) (records-done 0) M (lent (room-for 3))
     ∷ replays 6 O (take width O-log) (records-done 1) (O-one ++ replicate 6 0)
     ∷ replays 6 O O-log (records-done 2) O-last
     ∷ weighs T-corners T (negℤ (pos 27000000)) (cubic-metres (negℤ (pos 5)))

@@ -11,7 +11,7 @@ use lib.Signed.{ltZ}
 use Rattle.surface.proofs.Flat.{at-place, place-of}
 use Rattle.corners.specs.Limits.{most-coordinate}
 use Rattle.corners.specs.Skin.{InRange}
-use Rattle.refusal.specs.Tells.{Tells}
+use Rattle.refusal.specs.InnerTells.{Tells}
 use Rattle.faults.specs.Words.{OutOfRange}
 
 pub far-below : (z : ℤ) → ltZ z (negℤ (pos most-coordinate)) ≡ true → most-coordinate < natAbs z

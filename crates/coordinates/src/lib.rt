@@ -4,7 +4,7 @@ ghost use lib.IntN.{natAbs};
 ghost use Rattle.corners.specs.Limits.{most-coordinate};
 ghost use Rattle.corners.specs.Skin.{InRange};
 ghost use Rattle.faults.specs.Words.{OutOfRange};
-ghost use Rattle.refusal.specs.Tells.{Tells};
+ghost use Rattle.refusal.specs.InnerTells.{Tells};
 
 // Whether a coordinate lies outside the range, on either side.
 fn far(x: i32) -> bool

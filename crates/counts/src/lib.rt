@@ -1,6 +1,6 @@
 // Refusal 2: counts against their limits, and lengths that are multiples of 3.
 ghost use Rattle.faults.specs.Counts.{RowsFit, CornersFit, TableFits, CoordinatesFit, CountsFit, CountsFitAt};
-ghost use Rattle.refusal.specs.Tells.{Tells};
+ghost use Rattle.refusal.specs.InnerTells.{Tells};
 
 // Inner: whether a table may have so many rows.
 pub fn rows_fit(rows: usize) -> bool

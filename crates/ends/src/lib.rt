@@ -3,7 +3,7 @@ use record::Corner;
 use record::Leaving;
 use record::Record;
 ghost use mathlib.Core.Path.{_≡_};
-ghost use Rattle.refusal.specs.Tells.{Tells};
+ghost use Rattle.refusal.specs.InnerTells.{Tells};
 ghost use Rattle.ends.specs.Rows.{row-of, ThirdIs, PairIs, EndsAre};
 
 // The third corner of a row that has a directed edge.

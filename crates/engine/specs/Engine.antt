@@ -7,7 +7,7 @@ use Rattle.surface.specs.Limits.{least-corners}
 use Rattle.surface.specs.Lists.{Exactly}
 use Rattle.surface.specs.Rows.{Row, rows}
 use Rattle.surface.specs.Table.{Used}
-use Rattle.surface.specs.StageTable.{StageTable}
+use Rattle.surface.specs.InnerStageTable.{StageTable}
 use Rattle.surface.specs.Record as surface
 use Rattle.run.specs.Run.{Run}
 use Rattle.record.specs.Layout.{log-of, room-for}

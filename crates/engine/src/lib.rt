@@ -5,11 +5,11 @@ ghost use Prim.Native.Nat.{_≤_};
 ghost use lib.ListN.{length};
 ghost use Rattle.surface.specs.Limits.{most-corners};
 ghost use Rattle.surface.specs.Rows.{rows};
-ghost use Rattle.surface.specs.StageTable.{StageTable};
-ghost use Rattle.link.specs.Around.{Unmarked};
+ghost use Rattle.surface.specs.InnerStageTable.{StageTable};
+ghost use Rattle.link.specs.InnerAround.{Unmarked};
 ghost use Rattle.least.specs.Limited.{Allowed};
 ghost use Rattle.least.specs.Inner.{Measurable};
-ghost use Rattle.least.specs.Search.{FoundLeast};
+ghost use Rattle.least.specs.InnerSearch.{FoundLeast};
 ghost use Rattle.engine.specs.Engine.{CanGoOn, WentOn};
 
 // The least edge of a stage that qualifies. The chains round its corners are built anew for each step; the rest is the search's scratch.
@@ -71,7 +71,7 @@ pub fn go_on(
         );
         match found {
             Found::Nothing => return k,
-            Found::Edge(kept, removed) => {
+            Found::Between(kept, removed) => {
                 let e = step::contract_front(table, r, kept, removed);
                 record::write_record(log, record::WIDTH * k, e);
                 r = r - 2;

@@ -1,5 +1,5 @@
 pub mod Corners
 pub mod Sum
 pub mod Rounding
-pub mod Chain
+pub mod InnerChain
 pub mod Inner

@@ -1,4 +1,4 @@
--- The exact sixfold volume of a stage, and how large it can be.
+-- The exact sixfold volume of a stage.
 use mathlib.Core.List.{List, [], _∷_}
 use Prim.Native.Nat.{ℕ}
 use lib.IntN.{ℤ, pos, _+ℤ_, _-ℤ_, _*ℤ_}

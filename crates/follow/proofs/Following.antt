@@ -27,11 +27,11 @@ parts (x ∷ l₁) i₁ m₁ (y ∷ l₂) i₂ m₂ e = parts-on (head-eq-of-con
 
 -- what makes a call's outcome one: one refusal at most, none where it passes; a step leads to one state, an item that fails has none, and fails for one reason
 pub record Plain {S I R Q A B : Type 0} (c : Call S I R Q A B) : Type 0 where
-  pub refusal : {e f : Q} → c .Refuses e → c .Refuses f → e ≡ f
-  pub passing : {e : Q} → c .Refuses e → c .Passes → ⊥
+  pub refusal : {e f : Q} → c .Given e → c .Given f → e ≡ f
+  pub passing : {e : Q} → c .Given e → c .Else → ⊥
   pub step : (s t u : S) (i : I) → c .Does s i t → c .Does s i u → t ≡ u
-  pub apart : {s t : S} {i : I} {r : R} → c .Fails s i r → c .Does s i t → ⊥
-  pub reason : {s : S} {i : I} {r q : R} → c .Fails s i r → c .Fails s i q → r ≡ q
+  pub apart : {s t : S} {i : I} {r : R} → c .FailsBy s i r → c .Does s i t → ⊥
+  pub reason : {s : S} {i : I} {r q : R} → c .FailsBy s i r → c .FailsBy s i q → r ≡ q
 
 -- what tells answers apart
 pub record Apart {R Q A : Type 0} (w : Answering R Q A) : Type 0 where
@@ -49,7 +49,7 @@ pub data Did {R Q A : Type 0} (w : Answering R Q A) (k : ℕ) (a : A) : Type 0 w
 module _ {S I R Q A B : Type 0} (c : Call S I R Q A B) where
   module _ (p : Plain c) where
     -- no item fails that has a step
-    no-stop : {t u : S} (done : List I) {i : I} (m : List I) {r : R} → Leads (c .Does) (c .start) (done ++ i ∷ m) u → Leads (c .Does) (c .start) done t → c .Fails t i r → ⊥
+    no-stop : {t u : S} (done : List I) {i : I} (m : List I) {r : R} → Leads (c .Does) (c .start) (done ++ i ∷ m) u → Leads (c .Does) (c .start) done t → c .FailsBy t i r → ⊥
     no-stop done m w v f = let d = leads-there (p .step) done m w v in p .apart f (d .1)
 
     -- no second answer, and no second state
@@ -75,32 +75,32 @@ module _ {S I R Q A B : Type 0} (c : Call S I R Q A B) where
     outcome-one (followed f w eb) (followed g v ed) = let e = followed-one w v in (e .0, eb ∙ ap (c .left) (e .1) ∙ sym ed)
 
     -- items that all have a step are all done
-    pub outcome-whole : {a : A} {b : B} {t : S} → c .Passes → Leads (c .Does) (c .start) (c .items) t → Outcome c a b → (a ≡ c .answers .finished (length (c .items))) × (b ≡ c .left t)
+    pub outcome-whole : {a : A} {b : B} {t : S} → c .Else → Leads (c .Does) (c .start) (c .items) t → Outcome c a b → (a ≡ c .answers .finished (length (c .items))) × (b ≡ c .left t)
     outcome-whole h w o = outcome-one o (followed h (all w refl) refl)
 
   -- what the answer tells: the refusal; else all items, or those that lead to one that fails
   pub outcome-told : {a : A} {b : B} → Outcome c a b →
-      ((e : Q) × c .Refuses e × (a ≡ c .answers .refused e))
-      ⊎ (c .Passes × ((a ≡ c .answers .finished (length (c .items))) ⊎ ((done : List I) × (i : I) × (rest : List I) × (r : R) × (c .items ≡ done ++ i ∷ rest) × (a ≡ c .answers .stopped r (length done))
-      × ((t : S) × Leads (c .Does) (c .start) done t × c .Fails t i r))))
+      ((e : Q) × c .Given e × (a ≡ c .answers .refused e))
+      ⊎ (c .Else × ((a ≡ c .answers .finished (length (c .items))) ⊎ ((done : List I) × (i : I) × (rest : List I) × (r : R) × (c .items ≡ done ++ i ∷ rest) × (a ≡ c .answers .stopped r (length done))
+      × ((t : S) × Leads (c .Does) (c .start) done t × c .FailsBy t i r))))
   outcome-told (refused {e = e} h ea eb) = inl (e, h, ea)
   outcome-told (followed h (all w e) eb) = inr (h, inl e)
   outcome-told (followed {t = t} h (some done i rest {r = r} q w g e) eb) = inr (h, inr (done, i, rest, r, q, e, (t, w, g)))
 
   -- in short: refused, or so many items done
-  pub outcome-did : {a : A} {b : B} → Outcome c a b → ((e : Q) × c .Refuses e × (a ≡ c .answers .refused e)) ⊎ (c .Passes × (k : ℕ) × Did (c .answers) k a)
+  pub outcome-did : {a : A} {b : B} → Outcome c a b → ((e : Q) × c .Given e × (a ≡ c .answers .refused e)) ⊎ (c .Else × (k : ℕ) × Did (c .answers) k a)
   outcome-did (refused {e = e} h ea eb) = inl (e, h, ea)
   outcome-did (followed h (all w e) eb) = inr (h, _, all-done e)
   outcome-did (followed h (some done i rest q w g e) eb) = inr (h, _, some-done e)
 
   -- where no refusal is given it passes
-  pub outcome-passes : {a : A} {b : B} → Outcome c a b → ((e : Q) → ¬ c .Refuses e) → c .Passes
+  pub outcome-passes : {a : A} {b : B} → Outcome c a b → ((e : Q) → ¬ c .Given e) → c .Else
   outcome-passes (refused {e = e} h ea eb) n = absurd (n e h)
   outcome-passes (followed h w eb) n = h
 
   module _ (x : Apart (c .answers)) where
     -- where it stops, the state reached is left
-    pub outcome-stopped : {r : R} {k : ℕ} {b : B} → Outcome c (c .answers .stopped r k) b → c .Passes × (t : S) × Followed c (c .answers .stopped r k) t × (b ≡ c .left t)
+    pub outcome-stopped : {r : R} {k : ℕ} {b : B} → Outcome c (c .answers .stopped r k) b → c .Else × (t : S) × Followed c (c .answers .stopped r k) t × (b ≡ c .left t)
     outcome-stopped (refused h ea eb) = absurd (x .refused-stopped (sym ea))
     outcome-stopped (followed {t = t} h w eb) = (h, t, w, eb)
 
@@ -112,7 +112,7 @@ module _ {S I R Q A B : Type 0} (c : Call S I R Q A B) where
 
     -- what is left, all done or stopped, is what as many of the first items lead to
     pub outcome-reached : {a : A} {b : B} {k : ℕ} → Did (c .answers) k a → Outcome c a b →
-        c .Passes × (t : S) × (done : List I) × Leads (c .Does) (c .start) done t × (length done ≡ k) × (b ≡ c .left t) × ((rest : List I) × (c .items ≡ done ++ rest))
+        c .Else × (t : S) × (done : List I) × Leads (c .Does) (c .start) done t × (length done ≡ k) × (b ≡ c .left t) × ((rest : List I) × (c .items ≡ done ++ rest))
     outcome-reached (all-done d) (refused h ea eb) = absurd (x .refused-finished (sym ea ∙ d))
     outcome-reached (some-done d) (refused h ea eb) = absurd (x .refused-stopped (sym ea ∙ d))
     outcome-reached (all-done d) (followed {t = t} h (all w e) eb) = (h, t, c .items, w, x .finished-one (sym e ∙ d), eb, ([], sym (append-nil (c .items))))

@@ -31,7 +31,7 @@ module _ {S I R Q A B : Type 0} (c : Call S I R Q A B) where
       split : c .items ≡ take k (c .items) ++ i ∷ drop (suc k) (c .items)
       split = sym (take-append-drop k (c .items)) ∙ ap (λ l. take k (c .items) ++ l) (drop-cons (c .items) k i h ∙ ap (λ j. j ∷ drop (suc k) (c .items)) is)
 
-      pub upto-fails : {r : R} → c .Fails t i r → Followed c (c .answers .stopped r k) t
+      pub upto-fails : {r : R} → c .FailsBy t i r → Followed c (c .answers .stopped r k) t
       upto-fails {r} f = some (take k (c .items)) i (drop (suc k) (c .items)) split (u .led) f (ap (c .answers .stopped r) (sym (length-take-le k (c .items) (omega arith))))
 
       pub upto-more : {v : S} → c .Does t i v → Upto (k + 1) v

@@ -1,2 +1,3 @@
 pub mod Leads
 pub mod Follow
+pub mod Inner

@@ -8,7 +8,7 @@ use lib.Seq.{take-take, sets-eq}
 use Rattle.surface.specs.Rows.{Row, row, flat}
 use Rattle.growth.specs.Grow.{put}
 use Rattle.growth.proofs.Put.{put-length}
-use Rattle.record.specs.Front.{standing, filled}
+use Rattle.record.specs.Front.{standing, filled, front-rows}
 use Rattle.record.proofs.Front.{standing-length, standing-flat}
 use Rattle.grow.specs.Room.{MovedOn}
 
@@ -24,7 +24,7 @@ flat-put (suc i) a b c (row u v w ∷ T) h =
 -- the numbers from the place on moved by three, and the row's three written there
 module _ (m i a b c : ℕ) (room room₁ : List ℕ) (h : i ≤ m) (fits : 3 * (m + 1) ≤ length room) (same : length room₁ ≡ length room) (moved : MovedOn (3 * i) (3 * m) room room₁) where
   abbrev f : List ℕ
-  f = take (3 * m) room
+  f = front-rows m room
 
   before : take (3 * i) room₁ ≡ take (3 * i) f
   before =

@@ -4,10 +4,10 @@ use mathlib.Core.Bool.{true, false}
 use mathlib.Core.List.{List, _++_}
 use Prim.Native.Nat.{ℕ, _+_, _*_, _≤_}
 use native.Mathlib.Omega.{arith}
-use lib.ListN.{length, take, drop}
+use lib.ListN.{length, drop}
 use lib.Seq.{length-take-le}
 use Rattle.surface.specs.Rows.{Row, rows}
-use Rattle.surface.specs.StageTable.{StageTable}
+use Rattle.surface.specs.InnerStageTable.{StageTable}
 use Rattle.surface.specs.Record.{Record, placed}
 use Rattle.surface.proofs.Following.{re-edge}
 use Rattle.surface.proofs.Flat.{flat-rows, rows-length}
@@ -21,7 +21,7 @@ use Rattle.ends.specs.declared.Ends.the-variants.{At, Nothing}
 use Rattle.accept.specs.Noted.{Round}
 use Rattle.accept.specs.Test.{Answered}
 use Rattle.grow.specs.Walk.{Walkable, Renamed}
-use Rattle.record.specs.Front.{standing, filled}
+use Rattle.record.specs.Front.{standing, filled, front-rows}
 use Rattle.grow.specs.Room.{GrewBack}
 use Rattle.record.proofs.Front.{standing-length, standing-filled, filled-again}
 
@@ -37,7 +37,7 @@ both-put m k room room₁ room₂ h e f =
     let n = put-length (k .place-2) (k .row-2) T in
     f ∙ (λ i. filled (put (k .place-2) (k .row-2) (g i)) (e i)) ∙ filled-again T (put (k .place-2) (k .row-2) T) room (omega arith)
 
-module _ (n m : ℕ) (k : Record) (room : List ℕ) (w : StageTable n (take (3 * m) room)) (fits : 3 * (m + 2) ≤ length room) where
+module _ (n m : ℕ) (k : Record) (room : List ℕ) (w : StageTable n (front-rows m room)) (fits : 3 * (m + 2) ≤ length room) where
   many : length (standing m room) ≡ m
   many = standing-length m room (omega arith)
 
@@ -46,7 +46,7 @@ module _ (n m : ℕ) (k : Record) (room : List ℕ) (w : StageTable n (take (3 *
   not-grown a = (λ T g. a ((accepted-local n (standing m room) (w .stage) k) .0 (T, g)), refl)
 
   module _ (x y : Corner) (a : Answered n (standing m room) k (At x y)) where
-    pub walkable : (at : List ℕ) → n ≤ length at → Round (take (3 * m) room) (k .kept) at → Walkable (take (3 * m) room) at (k .kept) (x .0) (y .0)
+    pub walkable : (at : List ℕ) → n ≤ length at → Round (front-rows m room) (k .kept) at → Walkable (front-rows m room) at (k .kept) (x .0) (y .0)
     unfolding Answered
     walkable at h r = record { corners = n; table = w; fits = h; round = r; at-x = re-edge refl (sym (a .1)) (a .0 .at-x); at-y = re-edge refl (sym (a .2)) (a .0 .at-y) }
 
@@ -58,7 +58,7 @@ module _ (n m : ℕ) (k : Record) (room : List ℕ) (w : StageTable n (take (3 *
     unfolding Answered
     later-inside = let l = a .0 in let i = l .inside in let q = many in omega arith
 
-    pub grown : (t : List ℕ) → length t ≡ length (take (3 * m) room) → Renamed (k .kept) (k .removed) (x .0) (y .0) (take (3 * m) room) t → (room₂ : List ℕ) →
+    pub grown : (t : List ℕ) → length t ≡ length (front-rows m room) → Renamed (k .kept) (k .removed) (x .0) (y .0) (front-rows m room) t → (room₂ : List ℕ) →
         room₂ ≡ filled (put-back (placed k) (standing m (t ++ drop (3 * m) room))) (t ++ drop (3 * m) room) → GrewBack n m k room true room₂
     unfolding Answered GrewBack
     grown t same r room₂ e = (T, accepted, e ∙ (λ i. filled (put-back (placed k) (in-front i)) (whole i)) ∙ filled-again (rows t) T room grows)

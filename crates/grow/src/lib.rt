@@ -5,14 +5,14 @@ use record::Leaving;
 use record::Record;
 ghost use mathlib.Core.Path.{_≡_};
 ghost use Prim.Native.Nat.{_+_, _*_, _≤_};
-ghost use lib.ListN.{length, take};
-ghost use Rattle.surface.specs.StageTable.{StageTable};
+ghost use lib.ListN.{length};
+ghost use Rattle.surface.specs.InnerStageTable.{StageTable};
 ghost use Rattle.surface.specs.Record.{placed};
 ghost use Rattle.growth.specs.Grow.{put, put-back};
 ghost use Rattle.record.specs.Inner.{meant};
 ghost use Rattle.ends.specs.Rows.{row-of};
 ghost use Rattle.grow.specs.Walk.{Walkable, Renamed};
-ghost use Rattle.record.specs.Front.{standing, filled};
+ghost use Rattle.record.specs.Front.{standing, filled, front-rows};
 ghost use Rattle.grow.specs.Room.{MovedOn, GrewBack};
 
 // The removed number goes on the rows round the kept corner, from y forward to x.
@@ -69,7 +69,7 @@ fn put_rows(room: &mut [u32], rows: usize, r: Record)
 
 // Inner: grows a record back on so many rows where it is accepted, and tells whether it is.
 pub fn grow(room: &mut [u32], rows: usize, corners: usize, r: Record) -> bool
-    requires { ⌜ StageTable corners (take (3 * rows) (now room)) ⌝ }
+    requires { ⌜ StageTable corners (front-rows rows (now room)) ⌝ }
     requires { ⌜ 3 * (rows + 2) ≤ length (now room) ⌝ }
     ensures { λ b. ⌜ GrewBack corners rows (meant r) (now (room .entry)) b (now (room .exit)) ⌝ }
 {

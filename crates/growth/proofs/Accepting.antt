@@ -18,7 +18,7 @@ use Rattle.surface.proofs.Linked.{opposite, meets}
 use Rattle.surface.proofs.Leaving.{leaving-out}
 use Rattle.growth.specs.Grow.{put, put-back, Grown, Ends, in-order, crossed}
 use Rattle.growth.specs.Accept.{Accepted}
-use Rattle.growth.specs.Local.{Local}
+use Rattle.growth.specs.InnerLocal.{Local}
 use Rattle.growth.proofs.Growing.{no-second}
 use Rattle.growth.proofs.Regrow.{Third, third-0, third-1, third-2, third, T-length, T-stage, T-opposite, T-back, T-leaving}
 use Rattle.growth.proofs.Walked.{grow-back, grow-back-grown}

@@ -7,7 +7,7 @@ use Rattle.surface.specs.Rows.{Row}
 use Rattle.surface.specs.Stage.{Stage}
 use Rattle.surface.specs.Record.{Record, Replays}
 use Rattle.growth.specs.Accept.{Accepted}
-use Rattle.growth.specs.Local.{Local}
+use Rattle.growth.specs.InnerLocal.{Local}
 use Rattle.growth.proofs.Accepting.{accepted-iff, accepted-one}
 use Rattle.growth.proofs.Recorded.{replay-iff}
 

@@ -1,3 +1,3 @@
 pub mod Grow
 pub mod Accept
-pub mod Local
+pub mod InnerLocal

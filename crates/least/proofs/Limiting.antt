@@ -11,7 +11,7 @@ use Rattle.corners.specs.Skin.{InRange}
 use Rattle.length.specs.Limit.{most-limit}
 use Rattle.figure.specs.Corners.{squared-distance}
 use Rattle.figure.specs.Inner.{Has}
-use Rattle.refusal.specs.Tells.{Tells}
+use Rattle.refusal.specs.InnerTells.{Tells}
 use Rattle.least.specs.declared.Bound.{Bound}
 use Rattle.least.specs.declared.Bound.the-variants.{Free, Within}
 use Rattle.least.specs.Limited.{Allowed}

@@ -11,9 +11,9 @@ use Rattle.surface.specs.Limits.{most-corners}
 use Rattle.surface.specs.Lists.{_∈_}
 use Rattle.surface.specs.Rows.{Row}
 use Rattle.run.specs.Run.{Qualifies}
-use Rattle.link.specs.Around.{Neighbours, CornerNumbers, Marked}
+use Rattle.link.specs.InnerAround.{Neighbours, CornerNumbers, Marked}
 use Rattle.link.proofs.Tally.{first-split, first-old, first-new}
-use Rattle.least.specs.Search.{NextAbove, NextMarked, Better, old, new}
+use Rattle.least.specs.InnerSearch.{NextAbove, NextMarked, Better, old, new}
 
 module _ (l : List ℕ) (past : ℕ) where
   pub next-none : NextAbove (take 0 l) past most-corners

@@ -1,3 +1,3 @@
 pub mod Limited
-pub mod Search
+pub mod InnerSearch
 pub mod Inner

@@ -1,4 +1,4 @@
--- The limit of a thinning order: when an edge is short enough, and what is asked of the coordinates so that this can be told.
+-- The limit of a thinning order: when an edge is short enough.
 use mathlib.Core.List.{List}
 use Prim.Native.Nat.{ℕ}
 use lib.IntN.{ℤ}

@@ -6,11 +6,11 @@ ghost use Rattle.surface.specs.Limits.{most-corners};
 ghost use Rattle.surface.specs.Lists.{_∈_};
 ghost use Rattle.surface.specs.Rows.{rows};
 ghost use Rattle.run.specs.Run.{Qualifies};
-ghost use Rattle.refusal.specs.Tells.{Tells};
-ghost use Rattle.link.specs.Around.{Neighbours, Marked, Unmarked};
+ghost use Rattle.refusal.specs.InnerTells.{Tells};
+ghost use Rattle.link.specs.InnerAround.{Neighbours, Marked, Unmarked};
 ghost use Rattle.least.specs.Limited.{Allowed};
 ghost use Rattle.least.specs.Inner.{MeasurableAt};
-ghost use Rattle.least.specs.Search.{Searchable, SearchableAt, Above, Better, NextAbove, NextMarked, FoundAt, FoundLeast};
+ghost use Rattle.least.specs.InnerSearch.{Searchable, SearchableAt, Above, Better, NextAbove, NextMarked, FoundAt, FoundLeast};
 
 // The limit of an order, as steps use it: none, or whole centimetres.
 pub enum Bound {
@@ -21,7 +21,7 @@ pub enum Bound {
 // What a search finds: nothing, or an edge, its lower number first.
 pub enum Found {
     Nothing,
-    Edge(Corner, Corner),
+    Between(Corner, Corner),
 }
 
 // No corner: above every corner number.
@@ -168,7 +168,7 @@ fn least_marked(
             second,
             far,
         ) {
-            return Found::Edge(a, Corner(b));
+            return Found::Between(a, Corner(b));
         }
         past = b;
         b = next_above(ring, near, past);
@@ -239,7 +239,7 @@ pub fn least_edge(
             far,
         );
         match found {
-            Found::Edge(_, _) => return found,
+            Found::Between(_, _) => return found,
             Found::Nothing => {}
         }
         a += 1;

@@ -17,7 +17,7 @@ use lib.Ieee.Compare.{differs-from-itself, nan-differs}
 use borrow.Author.Tests.{eq-eqb, ne-eqb, le-leb, lt-leb}
 use Rattle.length.specs.declared.Reading.the-variants.{Whole, Unusable}
 use Rattle.length.specs.Limit.{capped, reading}
-use Rattle.length.specs.Small.{Small}
+use Rattle.length.specs.InnerSmall.{Small}
 use Rattle.length.proofs.Quotient.{cut-once, gone, too-large, product, capped-usable, capped-above}
 
 -- ---- a reading hangs on the exact value a / c alone

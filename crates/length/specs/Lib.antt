@@ -1,3 +1,3 @@
 pub mod Limit
 pub mod Answer
-pub mod Small
+pub mod InnerSmall

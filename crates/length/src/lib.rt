@@ -4,7 +4,7 @@ ghost use mathlib.Core.Path.{_≡_};
 ghost use Prim.Native.Nat.{_*_, _^_, _<_};
 ghost use lib.Ieee.{binary64, ofBits};
 ghost use Rattle.length.specs.Limit.{reading, limit-of};
-ghost use Rattle.length.specs.Small.{Small};
+ghost use Rattle.length.specs.InnerSmall.{Small};
 
 // A length limit: a binary64 figure in metres, feet or centimetres.
 pub enum Length {

@@ -8,7 +8,7 @@ use lib.ListN.{length, length-append, take, drop, length-drop, take-append-drop}
 use lib.Seq.{take-all, take-append-le, drop-append-le, length-take-le}
 use Rattle.text.specs.Decimal.{decimal, signed}
 use Rattle.text.specs.Inner.{Digit, NoDigit}
-use Rattle.text.specs.Reading.{SignedAt}
+use Rattle.text.specs.InnerReading.{SignedAt}
 use Rattle.text.proofs.Signs.{signed-unique}
 use Rattle.lines.specs.Lines.{tab, newline, fields, line, lines, FewDigits}
 

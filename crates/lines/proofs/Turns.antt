@@ -11,7 +11,7 @@ use mir.Syntax.{w64}
 use mir.Val.{SFits}
 use Rattle.ints.proofs.Machine.{sfits-abs}
 use Rattle.text.specs.Decimal.{signed}
-use Rattle.text.specs.Reading.{ReadSigned, Expected}
+use Rattle.text.specs.InnerReading.{ReadSigned, Expected}
 use Rattle.text.specs.declared.Signed.{Signed}
 use Rattle.text.specs.declared.Signed.the-variants as whole
 use Rattle.text.specs.declared.Passed.{Passed}

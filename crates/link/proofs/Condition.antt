@@ -11,11 +11,11 @@ use lib.ListN.{length}
 use Rattle.surface.specs.Lists.{_∈_, Exactly}
 use Rattle.surface.specs.Rows.{rows}
 use Rattle.surface.specs.Table.{Edge}
-use Rattle.surface.specs.StageTable.{StageTable}
+use Rattle.surface.specs.InnerStageTable.{StageTable}
 use Rattle.surface.proofs.Main.{link-counts, counts-one}
 use Rattle.surface.specs.Link.{Meets, Common}
-use Rattle.refusal.specs.Tells.{Tells}
-use Rattle.link.specs.Around.{Neighbours, Both}
+use Rattle.refusal.specs.InnerTells.{Tells}
+use Rattle.link.specs.InnerAround.{Neighbours, Both}
 use Rattle.link.proofs.Tally.{exactly-same}
 
 module _ {n : ℕ} (t : List ℕ) (s : StageTable n t) {a b : ℕ} where

@@ -12,7 +12,7 @@ use Rattle.surface.specs.Limits.{most-corners}
 use Rattle.surface.specs.Lists.{_∈_, Distinct, none, more}
 use Rattle.surface.specs.Rows.{rows}
 use Rattle.surface.specs.Table.{Edge}
-use Rattle.surface.specs.StageTable.{StageTable}
+use Rattle.surface.specs.InnerStageTable.{StageTable}
 use Rattle.surface.proofs.Count.{fits}
 use Rattle.surface.proofs.Counted.{distinct-append}
 use Rattle.surface.proofs.Following.{re-edge}
@@ -21,7 +21,7 @@ use Rattle.slots.specs.Slot.{next-slot}
 use Rattle.slots.specs.Chain.{Last}
 use Rattle.slots.proofs.Slots.{at-edge, follows-at, next-inside, one-slot}
 use Rattle.slots.proofs.Staged.{stage-under}
-use Rattle.link.specs.Around.{Neighbours}
+use Rattle.link.specs.InnerAround.{Neighbours}
 
 -- w is the neighbour of v at the slot e, and e stands from x on
 pub record From (t : List ℕ) (v x w : ℕ) : Type 0 where

@@ -13,9 +13,9 @@ use Rattle.surface.specs.Lists.{_∈_}
 use Rattle.surface.specs.Rows.{Row, rows}
 use Rattle.surface.specs.Table.{Edge}
 use Rattle.surface.specs.Stage.{Stage}
-use Rattle.surface.specs.StageTable.{StageTable}
+use Rattle.surface.specs.InnerStageTable.{StageTable}
 use Rattle.slots.proofs.Marks.{mark-new, mark-old, mark-out, no-mark}
-use Rattle.link.specs.Around.{Neighbours, CornerNumbers, Marked, Unmarked}
+use Rattle.link.specs.InnerAround.{Neighbours, CornerNumbers, Marked, Unmarked}
 use Rattle.link.proofs.Tally.{first-split, first-old, first-new}
 
 -- marks as they are made

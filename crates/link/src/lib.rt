@@ -6,9 +6,9 @@ ghost use Rattle.surface.specs.Limits.{most-corners};
 ghost use Rattle.surface.specs.Lists.{_∈_, Distinct, Exactly};
 ghost use Rattle.surface.specs.Rows.{rows};
 ghost use Rattle.surface.specs.Link.{Meets};
-ghost use Rattle.refusal.specs.Tells.{Tells};
+ghost use Rattle.refusal.specs.InnerTells.{Tells};
 ghost use Rattle.link.specs.Chosen.{Chosen};
-ghost use Rattle.link.specs.Around.{Charted, Gathered, CornerNumbers, Marked, Unmarked, MarkedTwice, Both, TellsEdge};
+ghost use Rattle.link.specs.InnerAround.{Charted, Gathered, CornerNumbers, Marked, Unmarked, MarkedTwice, Both, TellsEdge};
 
 // The numbers of four rows: the tetrahedron.
 const FOUR_ROWS: usize = 12;

@@ -2,7 +2,7 @@
 ghost use Prim.Native.Nat.{_≤_};
 ghost use lib.ListN.{length};
 ghost use Rattle.surface.specs.Rows.{rows};
-ghost use Rattle.refusal.specs.Tells.{Tells};
+ghost use Rattle.refusal.specs.InnerTells.{Tells};
 ghost use Rattle.faults.specs.Words.{NotBelow, Below, TwiceInRow, Apart, Unused, AllUsed};
 ghost use Rattle.slots.specs.Slot.{Whole};
 ghost use Rattle.slots.specs.Chain.{Lasts};

@@ -17,7 +17,7 @@ use Rattle.faults.proofs.Opposites.{stage-rows, stage-corners}
 use Rattle.slots.proofs.Slots.{whole-rows}
 use Rattle.run.specs.Run.{Taken, none-yet}
 use Rattle.run.proofs.Main.{taken-cut, taken-replayed, replayed-stage, replayed-rows}
-use Rattle.record.specs.Layout.{width, log-of, count}
+use Rattle.record.specs.Layout.{width, log-of, count, room-for}
 use Rattle.record.proofs.Log.{log-length, records-log}
 use Rattle.length.specs.declared.Order.{Order}
 use Rattle.least.specs.Limited.{Allowed}
@@ -111,7 +111,7 @@ module _ {d : Asked} {xs : List ℤ} {t l : List ℕ} {k : ℕ} {t′ l′ : Lis
 
     -- the log from record i on, i being how many p are, grown back in any room in which the last stage stands: the rows before record i
     pub restored-in : {room : List ℕ} → standing (length (rows t) - 2 * k) room ≡ standing (length (rows t) - 2 * k) t′ → room-need (length (rows t) - 2 * k) (log-of q) ≤ length room →
-        {a : Regrown} {r : List ℕ} → GrownAs (corners xs) (length (rows t) - 2 * k) room (drop (width * length p) (take (width * k) l′)) a r →
+        {a : Regrown} {r : List ℕ} → GrownAs (corners xs) (length (rows t) - 2 * k) room (drop (room-for (length p)) (take (room-for k) l′)) a r →
         (told a ≡ answers.done (pos (length q) ∷ [])) × (r ≡ filled T₁ room)
     restored-in {room} same h g =
         let s : standing (length (w .last)) room ≡ w .last = rw rows-left at same ∙ stands in
@@ -119,12 +119,12 @@ module _ {d : Asked} {xs : List ℤ} {t l : List ℕ} {k : ℕ} {t′ l′ : Lis
         (ap told (o .0 ∙ ap Done (records-many q)), o .1)
 
     -- where thinning left its table: the table before record i
-    pub restored-from : {a : Regrown} {r : List ℕ} → GrownAs (corners xs) (length (rows t) - 2 * k) t′ (drop (width * length p) (take (width * k) l′)) a r →
+    pub restored-from : {a : Regrown} {r : List ℕ} → GrownAs (corners xs) (length (rows t) - 2 * k) t′ (drop (room-for (length p)) (take (room-for k) l′)) a r →
         (told a ≡ answers.done (pos (length q) ∷ [])) × (r ≡ zeroed T₁ t)
     restored-from g = let o = restored-in refl (rw rows-left enough) g in (o .0, o .1 ∙ filled-left)
 
     -- a beginning of the log replayed on the first table: the stage it leads to
-    pub replayed-to : {a : Regrown} {r : List ℕ} → ReplayedAs (corners xs) t (take (width * length p) l′) a r → (told a ≡ answers.done (pos (length p) ∷ [])) × (r ≡ zeroed T₁ t)
+    pub replayed-to : {a : Regrown} {r : List ℕ} → ReplayedAs (corners xs) t (take (room-for (length p)) l′) a r → (told a ≡ answers.done (pos (length p) ∷ [])) × (r ≡ zeroed T₁ t)
     replayed-to g =
         let o = replays-whole {T′ = T₁} forth first (rw (records-log p) begun) (rw (front-log w p q e) at g) in
         (ap told (o .0 ∙ ap Done (records-many p)), o .1)
@@ -146,7 +146,7 @@ thinned-leaves o {t = t} {k = k} z =
 
 -- growing back the whole log of any accepted thinning restores the first table, number for number
 pub restored : (o : Order) {xs : List ℤ} {t l : List ℕ} {k : ℕ} {t′ l′ : List ℕ} → Thinned o xs t l (thinning.Done k) t′ l′ → {a : Regrown} {r : List ℕ} →
-    GrownAs (corners xs) (length (rows t) - 2 * k) t′ (take (width * k) l′) a r → (told a ≡ answers.done (pos k ∷ [])) × (r ≡ t)
+    GrownAs (corners xs) (length (rows t) - 2 * k) t′ (take (room-for k) l′) a r → (told a ≡ answers.done (pos k ∷ [])) × (r ≡ t)
 restored o {t = t} z g =
     let w = thinned-run z in
     let o = restored-from w [] (w .log) refl (none-yet refl) g in
@@ -154,7 +154,7 @@ restored o {t = t} z g =
 
 -- replaying its log on the first table does every record, and leaves what thinning left
 pub replayed : (o : Order) {xs : List ℤ} {t l : List ℕ} {k : ℕ} {t′ l′ : List ℕ} → Thinned o xs t l (thinning.Done k) t′ l′ → {a : Regrown} {r : List ℕ} →
-    ReplayedAs (corners xs) t (take (width * k) l′) a r → (told a ≡ answers.done (pos k ∷ [])) × (r ≡ t′)
+    ReplayedAs (corners xs) t (take (room-for k) l′) a r → (told a ≡ answers.done (pos k ∷ [])) × (r ≡ t′)
 replayed o z g =
     let w = thinned-run z in
     let o = replayed-to w (w .log) [] (sym (append-nil (w .log))) (w .run .taken) (rw (w .count) at g) in

@@ -1,7 +1,7 @@
 -- Demand 3 of what thinning leaves: volumes, changes and shifts, read from the log that it wrote.
 use mathlib.Core.Path.{_≡_, sym, _∙_, ap}
 use mathlib.Core.List.{List, _++_}
-use Prim.Native.Nat.{ℕ, _*_, _<_}
+use Prim.Native.Nat.{ℕ, _<_}
 use lib.IntN.{ℤ, _-ℤ_}
 use lib.ListN.{length, take}
 use Rattle.surface.specs.Rows.{Row, rows, flat}
@@ -13,7 +13,7 @@ use Rattle.figure.specs.Corners.{Short}
 use Rattle.figure.specs.Sum.{sixfold}
 use Rattle.figure.specs.Rounding.{figure}
 use Rattle.figure.proofs.Rounded.{figure-near}
-use Rattle.record.specs.Layout.{width, log-of}
+use Rattle.record.specs.Layout.{log-of, room-for}
 use Rattle.length.specs.declared.Length.{Length}
 use Rattle.length.specs.declared.Order.the-variants.{Limit}
 use Rattle.length.specs.declared.Reading.the-variants.{Whole}
@@ -47,7 +47,7 @@ within {L} {b} xs e x y h = let k : b ≡ Within L = cc in rw k at h
 -- for a log that thinning wrote under a limit of L, or a beginning of one, read with the corners it was written over, the squared distance
 -- is at most k x k x L x L, k being the count
 pub shift-promised : (d : Length) {L : ℕ} → limit-of d ≡ Whole L → {xs : List ℤ} {t l : List ℕ} {k : ℕ} {t′ l′ : List ℕ} (w : RunOf (asked (Limit d)) xs t l k t′ l′) →
-    (p q : List Record) → w .log ≡ p ++ q → (v : ℕ) → v < corners xs → (a : Shifted) → ShiftReport xs (take (width * length p) l′) v (shifts.told a) → Bounded L a
+    (p q : List Record) → w .log ≡ p ++ q → (v : ℕ) → v < corners xs → (a : Shifted) → ShiftReport xs (take (room-for (length p)) l′) v (shifts.told a) → Bounded L a
 shift-promised d {L} read {xs} w p q e v b a r =
     log-shift-bound L (w .skin) (within xs (sym (ap asked-by read) ∙ w .under)) p q (rw e at (w .run .taken)) b a (rw (front-log w p q e) at r)
 

@@ -6,22 +6,22 @@ use lib.IntN.{ℤ}
 use lib.ListN.{length, take, drop}
 use lib.Seq.{take-at, drop-at}
 use Rattle.surface.specs.Record.{Record}
-use Rattle.record.specs.Layout.{width, log-of}
+use Rattle.record.specs.Layout.{width, log-of, room-for}
 use Rattle.record.proofs.Log.{log-length, log-append}
 use Rattle.thin.specs.declared.Asked.{Asked}
 use Rattle.thin.specs.Run.{RunOf}
 
 module _ {a : Asked} {xs : List ℤ} {t l : List ℕ} {k : ℕ} {t′ l′ : List ℕ} (w : RunOf a xs t l k t′ l′) (p q : List Record) (e : w .log ≡ p ++ q) where
   -- the first ones
-  pub front-log : take (width * length p) l′ ≡ log-of p
+  pub front-log : take (room-for (length p)) l′ ≡ log-of p
   front-log =
-      let rest = drop (width * length (w .log)) l in
-      ap (take (width * length p)) (w .logged ∙ ap (λ m. log-of m ++ rest) e ∙ ap (λ m. m ++ rest) (log-append p q) ∙ append-assoc (log-of p) (log-of q) rest)
-      ∙ take-at (log-of p) (log-of q ++ rest) (width * length p) (log-length p)
+      let rest = drop (room-for (length (w .log))) l in
+      ap (take (room-for (length p))) (w .logged ∙ ap (λ m. log-of m ++ rest) e ∙ ap (λ m. m ++ rest) (log-append p q) ∙ append-assoc (log-of p) (log-of q) rest)
+      ∙ take-at (log-of p) (log-of q ++ rest) (room-for (length p)) (log-length p)
 
-  whole-log : take (width * k) l′ ≡ log-of (w .log)
-  whole-log = ap (take (width * k)) (w .logged) ∙ take-at (log-of (w .log)) (drop (width * length (w .log)) l) (width * k) (log-length (w .log) ∙ ap (λ m. width * m) (sym (w .count)))
+  whole-log : take (room-for k) l′ ≡ log-of (w .log)
+  whole-log = ap (take (room-for k)) (w .logged) ∙ take-at (log-of (w .log)) (drop (room-for (length (w .log))) l) (room-for k) (log-length (w .log) ∙ ap (λ m. width * m) (sym (w .count)))
 
   -- and those after them
-  pub rest-log : drop (width * length p) (take (width * k) l′) ≡ log-of q
-  rest-log = ap (drop (width * length p)) (whole-log ∙ ap log-of e ∙ log-append p q) ∙ drop-at (log-of p) (log-of q) (width * length p) (log-length p)
+  pub rest-log : drop (room-for (length p)) (take (room-for k) l′) ≡ log-of q
+  rest-log = ap (drop (room-for (length p))) (whole-log ∙ ap log-of e ∙ log-append p q) ∙ drop-at (log-of p) (log-of q) (room-for (length p)) (log-length p)

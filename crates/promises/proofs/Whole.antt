@@ -1,8 +1,14 @@
 -- Demands 2 and 3, and that nothing is left to choose. Demand 1 stands in Refusing.antt.
 use mathlib.Core.Path.{ap}
+use mathlib.Core.List.{List}
+use Prim.Native.Nat.{ℕ}
+use lib.IntN.{ℤ}
 use Rattle.length.proofs.Laws.{reading-one}
 use Rattle.thin.specs.Answer as thinnings
-use Rattle.thin.proofs.Main.{thinned-one, accepted, thinned-run, thinned-kept}
+use Rattle.length.specs.declared.Order.{Order}
+use Rattle.thin.specs.declared.Thinning.the-variants.{Done}
+use Rattle.thin.specs.Thin.{Thinned}
+use Rattle.thin.proofs.Main.{thinned-one, accepted, thinned-run, thinned-kept, told-done}
 use Rattle.regrow.proofs.Main.{grown-one, grown-leaves}
 use Rattle.replay.proofs.Main.{replay-one, replay-leaves}
 use Rattle.volume.proofs.Main.{volume-one, change-one}
@@ -13,7 +19,7 @@ use Rattle.sheet.proofs.Promises.{one-outcome}
 use Rattle.ring.proofs.Rule.{trial-one}
 use Rattle.reply.proofs.Main.{replied-one}
 use Rattle.promises.specs.Choice.{NothingLeft}
-use Rattle.promises.specs.Thinning.{DemandTwo, DemandThree}
+use Rattle.promises.specs.Thinning.{DoneWith, DemandTwo, DemandThree}
 use Rattle.promises.specs.Stages.{StagesLeft}
 use Rattle.promises.proofs.Back.{restored, restored-from, replayed, thinned-leaves}
 use Rattle.promises.proofs.Figures.{volume-promised, change-promised, shift-promised, printed-promised}
@@ -34,9 +40,13 @@ nothing-left = record {
   reply = λ p q. replied-one p q;
 }
 
+-- what tells 0 and k records is done with k
+as-done : {o : Order} {xs : List ℤ} {t l : List ℕ} {k : ℕ} {t′ l′ : List ℕ} → DoneWith o xs t l k t′ l′ → Thinned o xs t l (Done k) t′ l′
+as-done w = rw (told-done (w .answer) (w .tells)) at (w .thinned)
+
 pub stages-left : StagesLeft
 stages-left = record {
-  thin = λ o w. thinned-leaves o w;
+  thin = λ o w. thinned-leaves o (as-done w);
   replay = λ w d. let s = replay-leaves w d in record { many = s .0; stage = s .1 };
   grow-back = λ w d. let s = grown-leaves w d in record { many = s .0; stage = s .1 };
 }
@@ -44,11 +54,11 @@ stages-left = record {
 pub demand-two : DemandTwo
 demand-two = record {
   accepts = λ o u threes s h w. let k = accepted u threes s h w in (k .0, ap thinnings.told (k .1));
-  runs = λ o w. thinned-run w;
+  runs = λ o w. thinned-run (as-done w);
   keeps = λ o w p q e. thinned-kept w p q e;
-  restores = λ o w g. restored o w g;
+  restores = λ o w g. restored o (as-done w) g;
   restores-from = λ o w p q e h g. restored-from w p q e h g;
-  replays = λ o w g. replayed o w g;
+  replays = λ o w g. replayed o (as-done w) g;
 }
 
 pub demand-three : DemandThree

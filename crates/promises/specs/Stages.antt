@@ -10,7 +10,7 @@ use Rattle.faults.specs.Counts.{corners}
 use Rattle.length.specs.declared.Order.{Order}
 use Rattle.record.specs.Front.{standing}
 use Rattle.regrow.specs.declared.Regrown.{Regrown}
-use Rattle.regrow.specs.Answer.{told, Did}
+use Rattle.regrow.specs.Answer.{told, CountTold}
 use Rattle.regrow.specs.Outcome.{GrownAs}
 use Rattle.replay.specs.Outcome.{ReplayedAs}
 use Rattle.promises.specs.Thinning.{DoneWith}
@@ -23,6 +23,6 @@ pub record StageOf (n m : ℕ) (t : List ℕ) : Type 0 where
 pub record StagesLeft : Type 0 where
   -- each step takes two rows
   pub thin : (o : Order) {xs : List ℤ} {t l : List ℕ} {k : ℕ} {t′ l′ : List ℕ} → DoneWith o xs t l k t′ l′ → StageOf (corners xs) (length (rows t) - 2 * k) t′
-  pub replay : {n : ℕ} {t log : List ℕ} {a : Regrown} {t′ : List ℕ} → ReplayedAs n t log a t′ → {k : ℕ} → Did k (told a) → StageOf n (length (rows t) - 2 * k) t′
+  pub replay : {n : ℕ} {t log : List ℕ} {a : Regrown} {t′ : List ℕ} → ReplayedAs n t log a t′ → {k : ℕ} → CountTold k (told a) → StageOf n (length (rows t) - 2 * k) t′
   -- and growing back puts them in again
-  pub grow-back : {n m : ℕ} {room log : List ℕ} {a : Regrown} {room′ : List ℕ} → GrownAs n m room log a room′ → {k : ℕ} → Did k (told a) → StageOf n (m + 2 * k) room′
+  pub grow-back : {n m : ℕ} {room log : List ℕ} {a : Regrown} {room′ : List ℕ} → GrownAs n m room log a room′ → {k : ℕ} → CountTold k (told a) → StageOf n (m + 2 * k) room′

@@ -23,7 +23,6 @@ use Rattle.least.specs.declared.Bound.the-variants.{Free}
 use Rattle.least.specs.Limited.{Allowed}
 use Rattle.thin.specs.declared.Asked.the-variants.{NoUse}
 use Rattle.thin.specs.declared.Thinning.{Thinning}
-use Rattle.thin.specs.declared.Thinning.the-variants.{Done}
 use Rattle.thin.specs.Answer as thinnings
 use Rattle.thin.specs.Order.{asked}
 use Rattle.thin.specs.Thin.{log-need, Thinned}
@@ -43,9 +42,11 @@ use Rattle.reply.specs.declared.Answer.{Answer}
 use Rattle.reply.specs.Text.{OK}
 use Rattle.reply.specs.Outcome.{SkinOf, Replied}
 
--- where thinning under an order is done with k records
-abbrev pub DoneWith : Order → List ℤ → List ℕ → List ℕ → ℕ → List ℕ → List ℕ → Type 0
-DoneWith o xs t l k t′ l′ = Thinned o xs t l (Done k) t′ l′
+-- where thinning under an order is done, and tells 0 and k records
+pub record DoneWith (o : Order) (xs : List ℤ) (t l : List ℕ) (k : ℕ) (t′ l′ : List ℕ) : Type 0 where
+  pub answer : Thinning
+  pub tells : thinnings.told answer ≡ answers.done (pos k ∷ [])
+  pub thinned : Thinned o xs t l answer t′ l′
 
 pub record DemandTwo : Type 0 where
   -- with room and a usable limit or none, every skin within the limits is accepted

@@ -7,7 +7,7 @@ use lib.ListN.{length, take, drop, replicate, length-append, length-drop, take-a
 use lib.Seq.{take-at, drop-at, drop-drop, length-take-le, drop-append-add}
 use Rattle.surface.specs.Rows.{Row, rows, flat}
 use Rattle.surface.specs.Stage.{Stage}
-use Rattle.surface.specs.StageTable.{StageTable}
+use Rattle.surface.specs.InnerStageTable.{StageTable}
 use Rattle.surface.proofs.Flat.{rows-flat, flat-length, flat-rows, rows-length}
 use Rattle.record.specs.Front.{front-rows, standing, filled, zeroed}
 use Rattle.record.specs.Inner.{lowered}

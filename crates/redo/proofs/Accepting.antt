@@ -4,7 +4,7 @@ use mathlib.Core.List.{List, [], _∷_, head-eq-of-cons-eq, tail-eq-of-cons-eq}
 use Prim.Native.Nat.{ℕ, _≤_, _<_}
 use native.Mathlib.Omega.{arith}
 use Rattle.surface.specs.Rows.{rows}
-use Rattle.surface.specs.StageTable.{StageTable}
+use Rattle.surface.specs.InnerStageTable.{StageTable}
 use Rattle.surface.specs.Link.{Meets}
 use Rattle.surface.specs.Record.{placed}
 use Rattle.record.specs.declared.Record.{Record}

@@ -1,4 +1,4 @@
--- The first that holds of either of two things asked: of two verdicts the one with the lesser number, which only 01's own refusals have.
+-- The first that holds of either of two things asked.
 use mathlib.Core.Logic.{_⊎_}
 use mathlib.Core.List.{List, [], _∷_}
 use Rattle.refusal.specs.First.{Clause, _when_}

@@ -4,5 +4,5 @@ pub mod Told
 pub mod Refuses
 pub mod Lesser
 pub mod Outcome
-pub mod Tells
+pub mod InnerTells
 pub mod Inner

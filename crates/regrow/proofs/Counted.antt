@@ -13,7 +13,7 @@ use Rattle.refusal.specs.Told.{Told, done, refused}
 use Rattle.refusal.proofs.Outcome.{refused-done}
 use Rattle.regrow.specs.declared.Regrown.{Regrown}
 use Rattle.regrow.specs.declared.Regrown.the-variants.{Done, Stopped, Refused}
-use Rattle.regrow.specs.Answer.{told, fails-after, Did, all-done, some-done}
+use Rattle.regrow.specs.Answer.{told, fails-after, CountTold, all-done, some-done}
 use Rattle.regrow.specs.Outcome.{regrown}
 
 not-one : {X : Type 0} → _≡_ {A = ℕ} 0 1 → X
@@ -51,6 +51,6 @@ finishes (Done j) k p = ap Done (ap counted p)
 finishes (Stopped j) k p = let e = ap (λ (v : Told). v .number) p in absurd (omega arith)
 finishes (Refused r) k p = absurd (refused-done r p)
 
-pub did : (a : Regrown) {k : ℕ} → Did k (told a) → following.Did regrown k a
+pub did : (a : Regrown) {k : ℕ} → CountTold k (told a) → following.Did regrown k a
 did a {k} (all-done p) = following.all-done (finishes a k p)
 did a {k} (some-done p) = following.some-done {r = RecordFails} (stops a k p)

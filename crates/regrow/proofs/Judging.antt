@@ -3,7 +3,7 @@ use mathlib.Core.Path.{_≡_, refl}
 use mathlib.Core.List.{List}
 use Prim.Native.Nat.{ℕ, _*_, _≤_, _<_}
 use native.Mathlib.Omega.{arith}
-use lib.ListN.{length, take}
+use lib.ListN.{length}
 use lib.Seq.{length-take-le}
 use Rattle.refusal.specs.declared.Refusal.{Refusal}
 use Rattle.refusal.specs.declared.Refusal.the-variants.{CountsOutside, RoomShort}
@@ -18,6 +18,7 @@ use Rattle.faults.proofs.Order.{after-2}
 use Rattle.record.proofs.Front.{standing-length}
 use Rattle.regrow.specs.Outcome.{GrowFits, room-need, grow-refusals}
 use Rattle.regrow.specs.Inner.{JudgedGrowing, CanGrow}
+use Rattle.record.specs.Front.{front-rows}
 
 module _ (n m : ℕ) (room log : List ℕ) where
   no : {r : Refusal} → First (grow-refusals n m room log) (verdict.Refused r) → JudgedGrowing n m room log (verdict.Refused r)
@@ -31,15 +32,15 @@ module _ (n m : ℕ) (room log : List ℕ) where
     judge-3 e = no (unfold grow-refusals in given-first verdicts ((λ k. k fits) nor none-yet) e)
 
     module _ (h : room-need m log ≤ length room) where
-      three : length (take (3 * m) room) ≡ 3 * m
+      three : length (front-rows m room) ≡ 3 * m
       three = length-take-le (3 * m) room (omega arith)
 
-      pub counts-told : CountsFit n (take (3 * m) room)
+      pub counts-told : CountsFit n (front-rows m room)
       counts-told = record { table = record { threes = let e = three in omega arith; count = rw (standing-length m room (omega arith)) (fits .rows) }; count = fits .corners }
 
-      pub judge-on : {v : Verdict} → CheckedStage n (take (3 * m) room) v → JudgedGrowing n m room log v
+      pub judge-on : {v : Verdict} → CheckedStage n (front-rows m room) v → JudgedGrowing n m room log v
       judge-on {v} c = record {
-        holds = unfold grow-refusals in rest-decides verdicts ((λ k. k fits) nor (λ k. omega arith) nor none-yet) v (after-2 n (take (3 * m) room) v counts-told (c .holds));
+        holds = unfold grow-refusals in rest-decides verdicts ((λ k. k fits) nor (λ k. omega arith) nor none-yet) v (after-2 n (front-rows m room) v counts-told (c .holds));
         room-enough = λ e. h;
         stage = c .stage;
       }

@@ -24,7 +24,7 @@ use Rattle.record.proofs.Log.{first-length}
 use Rattle.record.proofs.Front.{standing-length, standing-filled}
 use Rattle.regrow.specs.declared.Regrown.{Regrown}
 use Rattle.regrow.specs.declared.Regrown.the-variants.{Done, Refused}
-use Rattle.regrow.specs.Answer.{told, Did}
+use Rattle.regrow.specs.Answer.{told, CountTold}
 use Rattle.regrow.specs.Outcome.{GrowFits, room-need, grow-refusals, growing, GrownAs}
 use Rattle.regrow.proofs.Counted.{regrown-apart, did}
 use Rattle.regrow.proofs.Judging.{counts-told}
@@ -73,7 +73,7 @@ unfolding grow-refusals
 rows-inside n m room log f = let h : room-need m log ≤ length room = not-less (passed verdicts _ _ (passed verdicts _ _ f .1) .0) in omega arith
 
 -- what is left is a stage, whatever the log: so many rows as stood, and two more for each record done
-pub grown-leaves : {n m : ℕ} {room log : List ℕ} {a : Regrown} {room′ : List ℕ} → GrownAs n m room log a room′ → {k : ℕ} → Did k (told a) → (length (standing (m + 2 * k) room′) ≡ m + 2 * k) × Stage n (standing (m + 2 * k) room′)
+pub grown-leaves : {n m : ℕ} {room log : List ℕ} {a : Regrown} {room′ : List ℕ} → GrownAs n m room log a room′ → {k : ℕ} → CountTold k (told a) → (length (standing (m + 2 * k) room′) ≡ m + 2 * k) × Stage n (standing (m + 2 * k) room′)
 grown-leaves {n} {m} {room} {log} {a} w {k} d =
     let o = outcome-reached (growing n m room log) regrown-apart (did a d) (w .outcome) in
     let z = grown-rows n (o .3) in

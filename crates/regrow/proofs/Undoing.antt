@@ -6,10 +6,11 @@ use Prim.Native.Nat.{ℕ, _+_, _-_, _*_, _≤_, _<_}
 use native.Mathlib.Omega.{arith}
 use lib.ListN.{length, drop, length-reverse}
 use Rattle.follow.specs.Leads.{Leads, no-step, one-step}
+use Rattle.follow.specs.Inner.{FollowedIn}
 use Rattle.follow.proofs.Upto.{Upto, upto-none, upto-all, upto-fails, upto-more}
 use Rattle.surface.specs.Rows.{Row}
 use Rattle.surface.specs.Stage.{Stage}
-use Rattle.surface.specs.StageTable.{StageTable}
+use Rattle.surface.specs.InnerStageTable.{StageTable}
 use Rattle.surface.specs.Record.{Record}
 use Rattle.surface.proofs.Main.{two-fewer}
 use Rattle.growth.specs.Accept.{Accepted}
@@ -22,7 +23,7 @@ use Rattle.grow.specs.Room.{GrewBack}
 use Rattle.record.proofs.Front.{front-stage, standing-length, standing-filled, filled-standing, filled-length, filled-again}
 use Rattle.regrow.specs.declared.Regrown.the-variants.{Done, Stopped}
 use Rattle.regrow.specs.Outcome.{growing}
-use Rattle.regrow.specs.Inner.{CanGrow, GrownIn}
+use Rattle.regrow.specs.Inner.{CanGrow}
 
 -- an accepted record makes two rows more
 two-more : {n : ℕ} {T′ T : List Row} {k : Record} → Accepted n T′ k T → length T ≡ 2 + length T′
@@ -70,8 +71,8 @@ module _ (n m : ℕ) (room log : List ℕ) (g : CanGrow n m room log) where
     pub table-stands : StageTable n (front-rows (m + 2 * done) room′)
     table-stands = rw (ap (front-rows here) (w .left)) (front-stage here (w .table) (drop (3 * length (w .table)) room) (w .many) stage)
 
-    pub done-all : count log ≤ done → GrownIn n m room log (Done done) room′
-    done-all h = record { table = w .table; reached = upto-all (growing n m room log) (w .upto) (omega (arith, all-of, h)); left = w .left }
+    pub done-all : count log ≤ done → FollowedIn (growing n m room log) (Done done) room′
+    done-all h = record { state = w .table; reached = upto-all (growing n m room log) (w .upto) (omega (arith, all-of, h)); left = w .left }
 
     module _ (more : done < count log) where
       pub room-for-two : 3 * (m + 2 * done + 2) ≤ length room′
@@ -84,10 +85,10 @@ module _ (n m : ℕ) (room log : List ℕ) (g : CanGrow n m room log) where
       more-items : done < length (reverse (records log))
       more-items = omega (arith, all-of, more)
 
-      pub next-fails : {room″ : List ℕ} → GrewBack n (m + 2 * done) next room′ false room″ → GrownIn n m room log (Stopped done) room″
+      pub next-fails : {room″ : List ℕ} → GrewBack n (m + 2 * done) next room′ false room″ → FollowedIn (growing n m room log) (Stopped done) room″
       unfolding GrewBack
       next-fails f = record {
-        table = w .table;
+        state = w .table;
         reached = upto-fails (growing n m room log) (w .upto) more-items next (records-back log done more next) {r = RecordFails} ((λ T a. f .0 T (rw stands a)), refl);
         left = f .1 ∙ w .left;
       }

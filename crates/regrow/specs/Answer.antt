@@ -21,6 +21,6 @@ told (Stopped k) = fails-after k
 told (Refused r) = answers.refused r
 
 -- k records were done: 0 and k, or 13 and k
-pub data Did (k : ℕ) (v : answers.Told) : Type 0 where
-  all-done : v ≡ answers.done (pos k ∷ []) → Did k v
-  some-done : v ≡ fails-after k → Did k v
+pub data CountTold (k : ℕ) (v : answers.Told) : Type 0 where
+  all-done : v ≡ answers.done (pos k ∷ []) → CountTold k v
+  some-done : v ≡ fails-after k → CountTold k v

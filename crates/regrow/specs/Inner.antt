@@ -3,16 +3,13 @@ use mathlib.Core.Path.{_≡_}
 use mathlib.Core.List.{List}
 use Prim.Native.Nat.{ℕ, _≤_}
 use lib.ListN.{length}
-use Rattle.follow.specs.Follow.{Followed}
-use Rattle.surface.specs.Rows.{Row}
 use Rattle.surface.specs.Stage.{Stage}
-use Rattle.surface.specs.StageTable.{StageTable}
+use Rattle.surface.specs.InnerStageTable.{StageTable}
 use Rattle.refusal.specs.declared.Verdict.{Verdict}
 use Rattle.refusal.specs.declared.Verdict.the-variants.{Passes}
 use Rattle.refusal.specs.First.{First}
-use Rattle.record.specs.Front.{front-rows, standing, filled}
-use Rattle.regrow.specs.declared.Regrown.{Regrown}
-use Rattle.regrow.specs.Outcome.{room-need, grow-refusals, growing}
+use Rattle.record.specs.Front.{front-rows, standing}
+use Rattle.regrow.specs.Outcome.{room-need, grow-refusals}
 
 -- the verdict on growing back: the first that holds; and where none does, a stage, with room
 pub record JudgedGrowing (n m : ℕ) (room log : List ℕ) (v : Verdict) : Type 0 where
@@ -24,9 +21,3 @@ pub record JudgedGrowing (n m : ℕ) (room log : List ℕ) (v : Verdict) : Type 
 pub record CanGrow (n m : ℕ) (room log : List ℕ) : Type 0 where
   pub table : StageTable n (front-rows m room)
   pub fits : room-need m log ≤ length room
-
--- the rows reached stand in the room, and what lies past them is as it was
-pub record GrownIn (n m : ℕ) (room log : List ℕ) (a : Regrown) (room′ : List ℕ) : Type 0 where
-  pub table : List Row
-  pub reached : Followed (growing n m room log) a table
-  pub left : room′ ≡ filled table room

@@ -51,13 +51,13 @@ NotAccepted n T k r = ((T₀ : List Row) → ¬ Accepted n T k T₀) × (r ≡ R
 abbrev pub growing : ℕ → ℕ → List ℕ → List ℕ → Call (List Row) Record Refusal Refusal Regrown (List ℕ)
 growing n m room log = record {
   -- the first that holds; where none does, the rows that stand are a stage
-  Refuses = λ e. First (grow-refusals n m room log) (verdict.Refused e);
-  Passes = First (grow-refusals n m room log) verdict.Passes × Stage n (standing m room);
+  Given = λ e. First (grow-refusals n m room log) (verdict.Refused e);
+  Else = First (grow-refusals n m room log) verdict.Passes × Stage n (standing m room);
   -- a log is grown back from its last record to its first
   items = reverse (records log);
   start = standing m room;
   Does = Accepted n;
-  Fails = NotAccepted n;
+  FailsBy = NotAccepted n;
   answers = regrown;
   -- every refusal but 13 leaves all untouched; else the rows reached stand in the room, and what lies past them is as it was
   lent = room;

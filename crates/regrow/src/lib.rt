@@ -1,9 +1,10 @@
 // Growing back: a log's records undone on the table they led to, the last first.
 use refusal::Refusal;
 use refusal::Verdict;
-ghost use Rattle.refusal.specs.Tells.{Tells};
-ghost use Rattle.regrow.specs.Outcome.{GrowFits, GrownAs};
-ghost use Rattle.regrow.specs.Inner.{JudgedGrowing, CanGrow, GrownIn};
+ghost use Rattle.refusal.specs.InnerTells.{Tells};
+ghost use Rattle.follow.specs.Inner.{FollowedIn};
+ghost use Rattle.regrow.specs.Outcome.{GrowFits, growing, GrownAs};
+ghost use Rattle.regrow.specs.Inner.{JudgedGrowing, CanGrow};
 
 // What growing back and replay answer: all records done, those before one that fails, or the refusal.
 pub enum Regrown {
@@ -15,7 +16,7 @@ pub enum Regrown {
 // Grows a log back on the stage that stands in a room, from its last record on.
 fn grow_log(room: &mut [u32], rows: usize, corners: usize, log: &[u32]) -> Regrown
     requires { ⌜ CanGrow corners rows (now room) (now log) ⌝ }
-    ensures { λ a. ⌜ GrownIn corners rows (now (room .entry)) (now (log .entry)) a (now (room .exit)) ⌝ }
+    ensures { λ a. ⌜ FollowedIn (growing corners rows (now (room .entry)) (now (log .entry))) a (now (room .exit)) ⌝ }
 {
     let all = log.len() / record::WIDTH;
     let mut done: usize = 0;

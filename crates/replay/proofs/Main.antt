@@ -22,7 +22,7 @@ use Rattle.record.proofs.Log.{first-length}
 use Rattle.record.proofs.Front.{standing-front}
 use Rattle.regrow.specs.declared.Regrown.{Regrown}
 use Rattle.regrow.specs.declared.Regrown.the-variants.{Done, Refused}
-use Rattle.regrow.specs.Answer.{told, Did}
+use Rattle.regrow.specs.Answer.{told, CountTold}
 use Rattle.regrow.proofs.Counted.{regrown-apart, did}
 use Rattle.replay.specs.Outcome.{ReplayFits, replay-refusals, replaying, ReplayedAs}
 
@@ -57,7 +57,7 @@ replays-whole {n} {t} {log} fits s r w =
     (o .0 ∙ ap Done (first-length (count log) log), o .1)
 
 -- what is left is a stage, whatever the log: so many rows as stood, less two for each record done
-pub replay-leaves : {n : ℕ} {t log : List ℕ} {a : Regrown} {t′ : List ℕ} → ReplayedAs n t log a t′ → {k : ℕ} → Did k (told a) →
+pub replay-leaves : {n : ℕ} {t log : List ℕ} {a : Regrown} {t′ : List ℕ} → ReplayedAs n t log a t′ → {k : ℕ} → CountTold k (told a) →
     (length (standing (length (rows t) - 2 * k) t′) ≡ length (rows t) - 2 * k) × Stage n (standing (length (rows t) - 2 * k) t′)
 replay-leaves {n} {t} {log} {a} w {k} d =
     let o = outcome-reached (replaying n t log) regrown-apart (did a d) (w .outcome) in

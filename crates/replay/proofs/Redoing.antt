@@ -5,10 +5,11 @@ use mathlib.Core.List.{List}
 use Prim.Native.Nat.{ℕ, _+_, _-_, _*_, _/_, _≤_, _<_}
 use native.Mathlib.Omega.{arith}
 use lib.ListN.{length, replicate}
+use Rattle.follow.specs.Inner.{FollowedIn}
 use Rattle.follow.proofs.Upto.{Upto, upto-none, upto-all, upto-fails, upto-more}
 use Rattle.surface.specs.Rows.{Row, rows, flat}
 use Rattle.surface.specs.Stage.{Stage}
-use Rattle.surface.specs.StageTable.{StageTable}
+use Rattle.surface.specs.InnerStageTable.{StageTable}
 use Rattle.surface.specs.Record.{Record, Replays}
 use Rattle.run.proofs.Main.{replayed-stage, step-rows}
 use Rattle.refusal.specs.declared.Refusal.the-variants.{RecordFails}
@@ -21,7 +22,6 @@ use Rattle.record.proofs.Front.{front-stage, standing-front, zeroed-whole, zero
 use Rattle.redo.specs.Redo.{Redid}
 use Rattle.regrow.specs.declared.Regrown.the-variants.{Done, Stopped}
 use Rattle.replay.specs.Outcome.{replaying}
-use Rattle.replay.specs.Inner.{RedoneIn}
 
 -- after so many records
 pub record Redone (n : ℕ) (t log : List ℕ) (done : ℕ) (t′ : List ℕ) : Type 0 where
@@ -65,8 +65,8 @@ module _ (n : ℕ) (t log : List ℕ) (g : StageTable n t) where
     pub table-stands : StageTable n (front-rows (length t / 3 - 2 * done) t′)
     table-stands = rw (ap (front-rows here) (w .left)) (front-stage here (w .table) (replicate (length t - length (flat (w .table))) 0) many stage)
 
-    pub done-all : count log ≤ done → RedoneIn n t log (Done done) t′
-    done-all h = record { table = w .table; reached = upto-all (replaying n t log) (w .upto) (omega (arith, records-length log, h)); left = w .left }
+    pub done-all : count log ≤ done → FollowedIn (replaying n t log) (Done done) t′
+    done-all h = record { state = w .table; reached = upto-all (replaying n t log) (w .upto) (omega (arith, records-length log, h)); left = w .left }
 
     module _ (more : done < count log) where
       -- the record after those done
@@ -76,10 +76,10 @@ module _ (n : ℕ) (t log : List ℕ) (g : StageTable n t) where
       more-items : done < length (records log)
       more-items = omega (arith, records-length log, more)
 
-      pub next-fails : {t″ : List ℕ} → Redid (length t / 3 - 2 * done) next t′ false t″ → RedoneIn n t log (Stopped done) t″
+      pub next-fails : {t″ : List ℕ} → Redid (length t / 3 - 2 * done) next t′ false t″ → FollowedIn (replaying n t log) (Stopped done) t″
       unfolding Redid
       next-fails f = record {
-        table = w .table;
+        state = w .table;
         reached = upto-fails (replaying n t log) (w .upto) more-items next (first-at (count log) log done next more) {r = RecordFails} ((λ T r. f .0 (T, rw stands r)), refl);
         left = f .1 ∙ w .left;
       }

@@ -38,13 +38,13 @@ NotReplayed T k r = ((T₁ : List Row) → ¬ Replays T k T₁) × (r ≡ Record
 abbrev pub replaying : ℕ → List ℕ → List ℕ → Call (List Row) Record Refusal Refusal Regrown (List ℕ)
 replaying n t log = record {
   -- the first that holds; where none does, the table is a stage
-  Refuses = λ e. First (replay-refusals n t log) (verdict.Refused e);
-  Passes = First (replay-refusals n t log) verdict.Passes × Stage n (rows t);
+  Given = λ e. First (replay-refusals n t log) (verdict.Refused e);
+  Else = First (replay-refusals n t log) verdict.Passes × Stage n (rows t);
   -- replaying forward
   items = records log;
   start = rows t;
   Does = Replays;
-  Fails = NotReplayed;
+  FailsBy = NotReplayed;
   answers = regrown;
   -- every refusal but 13 leaves the table untouched; else the stage reached stands in front, and the rest of the table's length is zeroed
   lent = t;

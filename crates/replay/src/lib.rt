@@ -2,15 +2,16 @@
 use refusal::Refusal;
 use refusal::Verdict;
 use regrow::Regrown;
-ghost use Rattle.surface.specs.StageTable.{StageTable};
-ghost use Rattle.refusal.specs.Tells.{Tells};
-ghost use Rattle.replay.specs.Outcome.{ReplayFits, ReplayedAs};
-ghost use Rattle.replay.specs.Inner.{JudgedReplay, RedoneIn};
+ghost use Rattle.surface.specs.InnerStageTable.{StageTable};
+ghost use Rattle.refusal.specs.InnerTells.{Tells};
+ghost use Rattle.follow.specs.Inner.{FollowedIn};
+ghost use Rattle.replay.specs.Outcome.{ReplayFits, replaying, ReplayedAs};
+ghost use Rattle.replay.specs.Inner.{JudgedReplay};
 
 // Does a log's records on a stage's table, from the first on.
 fn replay_log(table: &mut [u32], n: usize, log: &[u32]) -> Regrown
     requires { ⌜ StageTable n (now table) ⌝ }
-    ensures { λ a. ⌜ RedoneIn n (now (table .entry)) (now (log .entry)) a (now (table .exit)) ⌝ }
+    ensures { λ a. ⌜ FollowedIn (replaying n (now (table .entry)) (now (log .entry))) a (now (table .exit)) ⌝ }
 {
     let all = log.len() / record::WIDTH;
     let rows = table.len() / 3;

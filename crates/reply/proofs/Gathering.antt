@@ -61,7 +61,7 @@ module _ (t log : List ℕ) (before after : ℤ) (g : CanTell t log) where
   unfolding told text-of run-text
   told-text =
       let r = g .threes in
-      let s = g .tens in
+      let s = g .whole in
       let n : length (map pos t) ≡ m * 3 = length-map t pos ∙ (omega arith) in
       let q : length (opening ++ map pos t) ≡ head + m * 3 = length-append opening (map pos t) ∙ ap (λ (j : ℕ). 4 + j) n in
       (λ i. line OK opening ++ (lines-front R 3 m (map pos t) (map pos log) n i ++ lines K width k (drop-at (opening ++ map pos t) (map pos log) (head + m * 3) q i)))
@@ -89,7 +89,7 @@ module _ (t log : List ℕ) (before after : ℤ) (g : CanTell t log) where
         let u = g .most-rows in
         let v = g .most-records in
         let r = g .threes in
-        let s = g .tens in
+        let s = g .whole in
         record { word = omega arith; count = omega arith; most = omega arith }
 
     pub gathered-text : text-of OK (take (head + length t + length log) z₂) head m k ≡ run-text t log before after

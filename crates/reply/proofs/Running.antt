@@ -108,7 +108,7 @@ module _ (xs : List ℤ) (t : List ℕ) (s : SheetSkin xs t) where
       can-tell = rw (last-stands, log-stands) (
           record {
             threes = omega (arith, flat-length (w .last));
-            tens = omega (arith, logged-numbers);
+            whole = omega (arith, logged-numbers);
             most-rows = let h = s .most in omega (arith, left-numbers);
             most-records = omega (arith, logged-numbers, log-room);
           }

@@ -6,7 +6,7 @@ use native.Mathlib.Omega.{arith}
 use lib.IntN.{ℤ}
 use lib.ListN.{length, length-append, take, drop, length-drop, take-append-drop}
 use lib.Seq.{take-add, take-all, drop-drop}
-use Rattle.text.specs.Reading.{Written}
+use Rattle.text.specs.InnerReading.{Written}
 use Rattle.record.specs.Layout.{width}
 use Rattle.lines.specs.Lines.{newline, fields, line, lines}
 use Rattle.lines.proofs.Cut.{fields-append}

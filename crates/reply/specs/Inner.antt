@@ -8,7 +8,7 @@ use Rattle.surface.specs.Limits.{least-corners}
 use Rattle.surface.specs.Rows.{rows}
 use Rattle.corners.specs.Skin.{Skin}
 use Rattle.faults.specs.Counts.{corners}
-use Rattle.record.specs.Layout.{width}
+use Rattle.record.specs.Layout.{width, count, WholeRecords}
 use Rattle.lines.specs.Lines.{line, lines}
 use Rattle.sheet.specs.Limits.{most-sheet-rows, most-sheet-corners}
 use Rattle.sheet.specs.Form.{R, row-lines}
@@ -44,15 +44,15 @@ text-of w zs h m k = line w (take h zs) ++ (lines R 3 m (drop h zs) ++ lines K w
 -- a table and a log that can be told
 pub record CanTell (t log : List ℕ) : Type 0 where
   pub threes : length t % 3 ≡ 0
-  pub tens : length log % width ≡ 0
+  pub whole : WholeRecords log
   pub most-rows : length t ≤ most-numbers
   pub most-records : length log ≤ most-logged
 
 -- their lines, with two figures
 unfoldable pub run-text : List ℕ → List ℕ → ℤ → ℤ → List ℕ
 run-text t log before after =
-    line OK (pos (length t / 3) ∷ pos (length log / width) ∷ before ∷ after ∷ [])
-    ++ (row-lines (length t / 3) t ++ record-lines (length log / width) log)
+    line OK (pos (length t / 3) ∷ pos (count log) ∷ before ∷ after ∷ [])
+    ++ (row-lines (length t / 3) t ++ record-lines (count log) log)
 
 -- a skin within a sheet's limits
 pub record SheetSkin (xs : List ℤ) (t : List ℕ) : Type 0 where

@@ -3,7 +3,7 @@ ghost use mathlib.Core.Path.{_≡_};
 ghost use Prim.Native.Nat.{_<_};
 ghost use lib.ListN.{length};
 ghost use Rattle.surface.specs.Rows.{rows};
-ghost use Rattle.refusal.specs.Tells.{Tells};
+ghost use Rattle.refusal.specs.InnerTells.{Tells};
 ghost use Rattle.faults.specs.Words.{NoReverse, BothWays};
 ghost use Rattle.slots.specs.Slot.{next-slot, most-slots, Whole, Under};
 ghost use Rattle.edges.specs.Sweep.{FoundTo};

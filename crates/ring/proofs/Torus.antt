@@ -12,6 +12,7 @@ use Rattle.ring.specs.declared.Trial.{Trial}
 use Rattle.ring.specs.declared.Trial.the-variants.{Number, Nothing}
 use Rattle.ring.specs.Ring.{corner, size, AnswerAt}
 use Rattle.ring.specs.Inner.{ring}
+use Rattle.ring.specs.Answer.{told}
 use Rattle.ring.specs.Torus.{first-row, second-row, OnGrid, Torus, TrialRing}
 use Rattle.ring.proofs.Rule.{ring-at, ring-length, ring-numbers, row-first, row-second, trial-one}
 use Rattle.ring.proofs.Closed.{ring-stage, ring-used, ring-euler}
@@ -62,7 +63,7 @@ ring-torus = record {
 }
 
 pub trial-ring : TrialRing
-trial-ring = record { answered = λ answers tells. (ring, record { inside = λ k h. there answers tells k (omega (arith, ring-numbers, h)); past = λ k h. trial-one k (answers k) Nothing (tells k) (omega (arith, ring-numbers, h)) }, ring-torus) }
+trial-ring = record { answered = λ answers tells. (ring, record { inside = λ k h. ap told (there answers tells k (omega (arith, ring-numbers, h))); past = λ k h. ap told (trial-one k (answers k) Nothing (tells k) (omega (arith, ring-numbers, h))) }, ring-torus) }
   where
     there : (answers : ℕ → Trial) → ((k : ℕ) → AnswerAt k (answers k)) → (k : ℕ) → k < size → answers k ≡ Number (getD ring k 0)
     there answers tells k h = trial-one k (answers k) (Number (getD ring k 0)) (tells k) (h, ring-at k h)

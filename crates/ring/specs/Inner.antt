@@ -1,4 +1,4 @@
--- What inner functions are asked on and give: no public contract names it.
+-- The table of the rule, as a list: proofs speak of it, and no public contract or promise names it.
 use mathlib.Core.List.{List, [], _∷_}
 use Prim.Native.Nat.{ℕ, zero, suc}
 use Rattle.ring.specs.Ring.{size, number-at}

@@ -1,7 +1,7 @@
 -- "That the whole stored table follows this rule and is closed is shown once": what holds of the table whose numbers are answered place by place.
 use mathlib.Core.Path.{_≡_}
 use mathlib.Core.Logic.{_⊎_}
-use mathlib.Core.List.{List}
+use mathlib.Core.List.{List, [], _∷_}
 use Prim.Native.Nat.{ℕ, _+_, _*_, _≤_, _<_}
 use lib.IntN.{pos}
 use lib.ListN.{length, getD}
@@ -11,7 +11,8 @@ use Rattle.surface.specs.Table.{Used}
 use Rattle.surface.specs.Stage.{Stage}
 use Rattle.surface.specs.Euler.{Euler}
 use Rattle.ring.specs.declared.Trial.{Trial}
-use Rattle.ring.specs.declared.Trial.the-variants.{Number, Nothing}
+use Rattle.refusal.specs.Told.{done}
+use Rattle.ring.specs.Answer.{told}
 use Rattle.ring.specs.Ring.{corner, size, AnswerAt}
 
 -- ((r,c), (r+1,c), (r+1,c+1)) and ((r,c), (r+1,c+1), (r,c+1))
@@ -38,10 +39,10 @@ pub record Torus (l : List ℕ) : Type 0 where
   pub used : {v : ℕ} → v < 64 → Used (rows l) v
   pub euler : Euler (rows l) (pos 0)
 
--- the answers are the numbers of l, place by place, and nothing past them
+-- the answers tell the numbers of l, place by place, and nothing past them
 pub record AnsweredBy (answers : ℕ → Trial) (l : List ℕ) : Type 0 where
-  pub inside : (k : ℕ) → k < length l → answers k ≡ Number (getD l k 0)
-  pub past : (k : ℕ) → length l ≤ k → answers k ≡ Nothing
+  pub inside : (k : ℕ) → k < length l → told (answers k) ≡ done (pos (getD l k 0) ∷ [])
+  pub past : (k : ℕ) → length l ≤ k → told (answers k) ≡ done []
 
 -- whatever answers each place as `trial_number`'s contract says answers the numbers of one table, and that is the torus of the rule
 pub record TrialRing : Type 0 where

@@ -2,7 +2,7 @@
 ghost use Prim.Native.Nat.{_≤_, _<_};
 ghost use lib.ListN.{length};
 ghost use Rattle.surface.specs.Rows.{rows};
-ghost use Rattle.refusal.specs.Tells.{Tells};
+ghost use Rattle.refusal.specs.InnerTells.{Tells};
 ghost use Rattle.faults.specs.Words.{Closed, ManyRings, OneRing};
 ghost use Rattle.slots.specs.Marks.{Blank};
 ghost use Rattle.rings.specs.Walk.{CanWalk, Sound, HandedOn, Walked, AllWalked};

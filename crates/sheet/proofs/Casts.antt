@@ -16,7 +16,7 @@ use Rattle.text.specs.Decimal.{decimal}
 use Rattle.lines.specs.Lines.{FewDigits}
 use Rattle.lines.proofs.Turns.{sets-append}
 use Rattle.sheet.specs.Limits.{most-digits}
-use Rattle.sheet.specs.Body.{Naturals, NoNaturals}
+use Rattle.sheet.specs.InnerBody.{Naturals, NoNaturals}
 use Rattle.sheet.proofs.Heading.{six-digits, six-fits, no-count, count-is}
 
 -- ---- lists

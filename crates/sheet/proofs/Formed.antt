@@ -13,7 +13,7 @@ use Rattle.lines.specs.Lines.{LineAt}
 use Rattle.lines.proofs.Cut.{line-unique}
 use Rattle.sheet.specs.Limits.{most-sheet-bytes, most-digits}
 use Rattle.sheet.specs.Form.{SKIN, first-line, corner-lines, row-lines, Begins, CountsIn, SheetOf, NoFirstLine, CountsOut, NoSheet, form-refusals}
-use Rattle.sheet.specs.Body.{BodyAt, BodyRead, NoBody}
+use Rattle.sheet.specs.InnerBody.{BodyAt, BodyRead, NoBody}
 use Rattle.sheet.specs.Inner.{FormRead}
 
 pub too-long : (b : List ℕ) → most-sheet-bytes < length b → First (form-refusals b) (Refused SheetForm)

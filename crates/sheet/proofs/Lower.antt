@@ -11,7 +11,7 @@ use Rattle.lines.specs.Inner.{LinesAt, PutFrom}
 use Rattle.lines.proofs.Cut.{lines-unique}
 use Rattle.sheet.specs.Limits.{most-digits}
 use Rattle.sheet.specs.Form.{C, R, corner-lines, row-lines}
-use Rattle.sheet.specs.Body.{Naturals, NoNaturals, BodyAt, BodyRead, NoBody}
+use Rattle.sheet.specs.InnerBody.{Naturals, NoNaturals, BodyAt, BodyRead, NoBody}
 use Rattle.sheet.proofs.Casts.{front}
 
 module _ (s : List ℕ) (at n m : ℕ) where

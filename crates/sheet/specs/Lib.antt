@@ -1,6 +1,6 @@
 pub mod Limits
 pub mod Form
-pub mod Body
+pub mod InnerBody
 pub mod Outcome
 pub mod Answer
 pub mod Inner

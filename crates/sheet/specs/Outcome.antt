@@ -33,5 +33,3 @@ pub data ReadSheet (b : List ℕ) (troom troom′ : List ℕ) (croom croom′ : 
   bad-skin : {n m : ℕ} {xs : List ℤ} {t : List ℕ} {r : Refusal} → First (form-refusals b) verdict.Passes → SheetOf b n m xs t → First (skin-refusals troom croom xs t) (verdict.Refused r) → a ≡ Refused r → troom′ ≡ troom → croom′ ≡ croom → ReadSheet b troom troom′ croom croom′ a
   -- done: a skin, its table and corners in front of their rooms, the rest as it was
   read : {n m : ℕ} {xs : List ℤ} {t : List ℕ} → First (form-refusals b) verdict.Passes → SheetOf b n m xs t → First (skin-refusals troom croom xs t) verdict.Passes → Skin n (rows t) xs → a ≡ Read n m → troom′ ≡ t ++ drop (length t) troom → croom′ ≡ xs ++ drop (length xs) croom → ReadSheet b troom troom′ croom croom′ a
-
--- ---- its two halves, for the inner functions

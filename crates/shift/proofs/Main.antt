@@ -23,7 +23,7 @@ use Rattle.record.proofs.Log.{log-length, records-log}
 use Rattle.faults.specs.Counts.{corners}
 use Rattle.faults.proofs.Opposites.{skin-corners, stage-corners}
 use Rattle.figure.specs.Corners.{Short, squared-distance}
-use Rattle.figure.specs.Chain.{Chain, chain-none, chain-more}
+use Rattle.figure.specs.InnerChain.{Chain, chain-none, chain-more}
 use Rattle.figure.proofs.Shift.{chain-bound, distance-back}
 use Rattle.run.specs.Run.{Taken}
 use Rattle.run.proofs.Main.{step-stage, taken-allowed, taken-cut, taken-replayed}
@@ -138,9 +138,9 @@ pub log-shift-bound : {P : ℕ → ℕ → Type 0} {n : ℕ} {T T′ : List Row}
 log-shift-bound {xs = xs} L s within l m t {v} h a p =
     let c = taken-cut l t in
     record {
-      corner = record { 0 = stand-in v l };
+      corner = stand-in v l;
       k = moves v l;
       squared = squared-distance xs v (stand-in v l);
-      is = log-shift s (taken-replayed (c .1)) v h a p;
+      tells = ap told (log-shift s (taken-replayed (c .1)) v h a p);
       bound = shift-bound xs L within (c .1) v;
     }

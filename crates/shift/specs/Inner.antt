@@ -13,12 +13,12 @@ use Rattle.record.specs.Layout.{records}
 use Rattle.faults.specs.Counts.{corners}
 use Rattle.shift.specs.Order.{ShiftFits, shift-refusals}
 
--- all of them are below it
+-- the numbers kept and removed of all records are below the count
 pub record BelowIn (n : ℕ) (l : List Record) : Type 0 where
   pub kept : {k : Record} → k ∈ l → k .kept < n
   pub removed : {k : Record} → k ∈ l → k .removed < n
 
--- none of them holds
+-- none of 2, 4 and 5 holds
 pub record Clear (xs : List ℤ) (log : List ℕ) (v : ℕ) : Type 0 where
   pub fits : ShiftFits xs log
   pub in-range : InRange xs

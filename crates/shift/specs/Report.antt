@@ -5,13 +5,12 @@ use Prim.Native.Nat.{ℕ, _*_, _≤_}
 use lib.IntN.{ℤ, pos}
 use Rattle.refusal.specs.declared.Verdict.{Verdict}
 use Rattle.refusal.specs.First.{First}
-use Rattle.refusal.specs.Told.{Told}
+use Rattle.refusal.specs.Told.{Told, done}
 use Rattle.refusal.specs.Outcome.{outcome}
-use Rattle.record.specs.declared.Corner.{Corner}
 use Rattle.record.specs.Layout.{records}
 use Rattle.figure.specs.Corners.{squared-distance}
 use Rattle.shift.specs.declared.Shifted.{Shifted}
-use Rattle.shift.specs.declared.Shifted.the-variants.{StandIn}
+use Rattle.shift.specs.Answer.{told}
 use Rattle.shift.specs.StandIn.{stand-in, moves}
 use Rattle.shift.specs.Order.{shift-refusals}
 
@@ -25,10 +24,10 @@ pub record ShiftReport (xs : List ℤ) (log : List ℕ) (v : ℕ) (a : Told) : T
   pub first : First (shift-refusals xs log v) verdict
   pub tells : a ≡ outcome verdict (shift-of xs log v)
 
--- the answer is a stand-in whose squared distance is at most k x k x L x L, k being the count
+-- the answer tells 0, a stand-in, a count k and a squared distance, which is at most k x k x L x L
 pub record Bounded (L : ℕ) (a : Shifted) : Type 0 where
-  pub corner : Corner
+  pub corner : ℕ
   pub k : ℕ
   pub squared : ℕ
-  pub is : a ≡ StandIn corner k squared
+  pub tells : told a ≡ done (pos corner ∷ pos k ∷ pos squared ∷ [])
   pub bound : squared ≤ k * k * L * L

@@ -1,7 +1,7 @@
 // The shift report: where a log has led a corner, in how many steps, and how far. Nothing is written.
 ghost use mathlib.Core.Path.{_≡_};
 ghost use Rattle.record.specs.Layout.{records};
-ghost use Rattle.refusal.specs.Tells.{Tells};
+ghost use Rattle.refusal.specs.InnerTells.{Tells};
 ghost use Rattle.shift.specs.StandIn.{stand-in, moves};
 ghost use Rattle.shift.specs.Order.{ShiftFits, PastIn};
 ghost use Rattle.shift.specs.Inner.{BelowIn, CheckedShift};

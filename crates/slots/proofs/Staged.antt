@@ -7,7 +7,7 @@ use lib.ListN.{length}
 use Rattle.surface.specs.Limits.{most-rows}
 use Rattle.surface.specs.Rows.{rows}
 use Rattle.surface.specs.Stage.{Stage}
-use Rattle.surface.specs.StageTable.{StageTable}
+use Rattle.surface.specs.InnerStageTable.{StageTable}
 use Rattle.slots.specs.Slot.{Whole, Under}
 use Rattle.slots.proofs.Slots.{whole-rows, at-follows}
 

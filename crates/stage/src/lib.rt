@@ -5,7 +5,7 @@ ghost use Prim.Native.Nat.{_≤_};
 ghost use lib.ListN.{length};
 ghost use Rattle.surface.specs.Rows.{rows};
 ghost use Rattle.faults.specs.Counts.{CountsFit};
-ghost use Rattle.refusal.specs.Tells.{Tells};
+ghost use Rattle.refusal.specs.InnerTells.{Tells};
 ghost use Rattle.faults.specs.Words.{Unused, AllUsed};
 ghost use Rattle.faults.specs.Inner.{CheckedRows};
 ghost use Rattle.slots.specs.Slot.{Whole};

@@ -7,7 +7,7 @@ use lib.ListN.{length, take, drop, replicate, take-append-drop, replicate-append
 use lib.Seq.{take-at, drop-at, take-take, length-take-le, drop-append-le}
 use Rattle.surface.specs.Rows.{Row, rows, flat}
 use Rattle.surface.specs.Stage.{Stage}
-use Rattle.surface.specs.StageTable.{StageTable}
+use Rattle.surface.specs.InnerStageTable.{StageTable}
 use Rattle.surface.specs.Record.{Replays}
 use Rattle.surface.proofs.Flat.{flat-rows, rows-length}
 use Rattle.surface.proofs.Main.{contraction}

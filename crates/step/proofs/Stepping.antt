@@ -7,7 +7,7 @@ use native.Mathlib.Omega.{arith}
 use lib.ListN.{length, getD, take, drop, replicate}
 use lib.Seq.{take-at, drop-at, length-take-le}
 use Rattle.surface.specs.Limits.{most-rows}
-use Rattle.surface.specs.StageTable.{StageTable}
+use Rattle.surface.specs.InnerStageTable.{StageTable}
 use Rattle.surface.specs.Rows.{Row, row, rows}
 use Rattle.surface.specs.Contract.{Stays, contract}
 use Rattle.surface.specs.Record.{at, leaving}

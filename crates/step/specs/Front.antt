@@ -3,7 +3,7 @@ use mathlib.Core.Path.{_≡_}
 use mathlib.Core.List.{List, _++_}
 use Prim.Native.Nat.{ℕ, _-_, _*_, _≤_}
 use lib.ListN.{length, drop, replicate}
-use Rattle.surface.specs.StageTable.{StageTable}
+use Rattle.surface.specs.InnerStageTable.{StageTable}
 use Rattle.record.specs.declared.Record.{Record}
 use Rattle.record.specs.Front.{front-rows}
 use Rattle.step.specs.Step.{Stepped}

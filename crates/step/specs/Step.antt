@@ -4,7 +4,7 @@ use mathlib.Core.List.{List}
 use Prim.Native.Nat.{ℕ, _+_, _-_, _*_, _≤_, _<_}
 use lib.ListN.{length, getD, take, drop, replicate}
 use Rattle.surface.specs.Rows.{Row, row, rows}
-use Rattle.surface.specs.StageTable.{StageTable}
+use Rattle.surface.specs.InnerStageTable.{StageTable}
 use Rattle.surface.specs.Link.{Meets}
 use Rattle.surface.specs.Contract.{Stays}
 use Rattle.surface.specs.Record.{leaving, placed, Replays}

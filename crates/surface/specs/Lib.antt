@@ -3,7 +3,7 @@ pub mod Lists
 pub mod Rows
 pub mod Table
 pub mod Stage
-pub mod StageTable
+pub mod InnerStageTable
 pub mod Link
 pub mod Contract
 pub mod Record

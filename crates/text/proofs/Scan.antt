@@ -7,7 +7,7 @@ use lib.ListN.{length, length-append, drop, getD, drop-of-length-le}
 use lib.Seq.{drop-cons}
 use Rattle.text.specs.Decimal.{digit, decimal}
 use Rattle.text.specs.Inner.{Digit, NoDigit}
-use Rattle.text.specs.Reading.{NumberAt, DigitAt}
+use Rattle.text.specs.InnerReading.{NumberAt, DigitAt}
 use Rattle.text.proofs.Digits.{decimal-one, decimal-more, AllDigits, is-digit, one-more, all-digits, head, digits-below, Left, left, same-digits}
 
 -- ---- the digit at a place

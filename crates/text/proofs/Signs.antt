@@ -14,7 +14,7 @@ use Rattle.ints.proofs.Machine.{Is, lit, var, less, fits, kept}
 use Rattle.ints.proofs.Short.{below, not-below}
 use Rattle.text.specs.Decimal.{minus, decimal, signed}
 use Rattle.text.specs.Inner.{Digit, NoDigit}
-use Rattle.text.specs.Reading.{NumberAt, SignedAt, ReadNumber, ReadSigned, below-zero, above-zero, Fits63}
+use Rattle.text.specs.InnerReading.{NumberAt, SignedAt, ReadNumber, ReadSigned, below-zero, above-zero, Fits63}
 use Rattle.text.specs.declared.Cursor.{Cursor}
 use Rattle.text.specs.declared.Number.{Number}
 use Rattle.text.specs.declared.Number.the-variants as number

@@ -6,7 +6,7 @@ use native.Mathlib.Omega.{arith}
 use lib.ListN.{length, length-append, set}
 use lib.Seq.{sets}
 use Rattle.text.specs.Decimal.{digit, minus, decimal}
-use Rattle.text.specs.Reading.{Written}
+use Rattle.text.specs.InnerReading.{Written}
 use Rattle.text.proofs.Digits.{decimal-one, decimal-more, below-digits}
 
 pub decimal-split : (v : ℕ) → 10 ≤ v → decimal v ≡ decimal (v / 10) ++ (digit (v % 10) ∷ [])

@@ -1,3 +1,3 @@
 pub mod Decimal
-pub mod Reading
+pub mod InnerReading
 pub mod Inner

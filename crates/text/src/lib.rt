@@ -3,7 +3,7 @@ ghost use mathlib.Core.Path.{_≡_};
 ghost use Prim.Native.Nat.{_+_, _≤_, _<_};
 ghost use lib.ListN.{length};
 ghost use Rattle.text.specs.Decimal.{decimal, signed};
-ghost use Rattle.text.specs.Reading.{ReadNumber, ReadSigned, Expected, DigitAt, below-zero, above-zero, Fits63, Written};
+ghost use Rattle.text.specs.InnerReading.{ReadNumber, ReadSigned, Expected, DigitAt, below-zero, above-zero, Fits63, Written};
 
 // A place in a text.
 pub struct Cursor {

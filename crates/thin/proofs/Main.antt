@@ -6,8 +6,8 @@ use mathlib.Core.Bool.{true}
 use Prim.Native.Nat.{ℕ, _-_, _*_, _%_, _≤_}
 use native.Mathlib.Decide.{ℕ-discrete}
 use native.Mathlib.Omega.{arith}
-use lib.IntN.{ℤ, pos}
-use lib.ListN.{length, drop, replicate}
+use lib.IntN.{ℤ, pos, natAbs}
+use lib.ListN.{length, drop, replicate, getD}
 use Rattle.surface.specs.Rows.{Row, rows, flat}
 use Rattle.surface.specs.Stage.{Stage}
 use Rattle.surface.specs.Record.{Record, Replayed}
@@ -18,6 +18,7 @@ use Rattle.refusal.specs.declared.Verdict.the-variants.{Passes}
 use Rattle.refusal.specs.declared.Verdict.the-variants as verdict
 use Rattle.refusal.specs.First.{First}
 use Rattle.refusal.specs.Told as answers
+use Rattle.refusal.proofs.Outcome.{refused-done}
 use Rattle.refusal.proofs.Laws.{first-one, refused-one, refused-passes, verdicts, rest-decides, passed, none-yet, _nor_}
 use Rattle.faults.specs.Counts.{CountsFitAt, corners}
 use Rattle.faults.proofs.Opposites.{stage-rows, stage-corners}
@@ -122,6 +123,11 @@ pub thin-told : {a : Asked} {xs : List ℤ} {t l : List ℕ} {r : Thinning} {t�
     ⊎ (First (thin-refusals a xs t (length l)) Passes × (k : ℕ) × (r ≡ Done k) × (told r ≡ answers.done (pos k ∷ [])))
 thin-told (refused {e = e} f er et el) = inl (e, f, ap told er)
 thin-told (done {log = log} f s eb r er et el) = inr (f, length log, er, ap told er)
+
+-- 0 and a number tell that so many records were written
+pub told-done : (a : Thinning) {k : ℕ} → told a ≡ answers.done (pos k ∷ []) → a ≡ Done k
+told-done (Done j) e = ap Done (ap (λ (v : answers.Told). natAbs (getD (v .values) 0 (pos 0))) e)
+told-done (Refused r) e = absurd (refused-done r e)
 
 -- a refused thinning changes nothing
 pub refused-same : {a : Asked} {xs : List ℤ} {t l : List ℕ} {r : Refusal} {t′ l′ : List ℕ} → ThinnedAs a xs t l (Refused r) t′ l′ → (t′ ≡ t) × (l′ ≡ l)

@@ -6,7 +6,7 @@ use length::Reading;
 use refusal::Refusal;
 use refusal::Verdict;
 ghost use mathlib.Core.Path.{_≡_};
-ghost use Rattle.refusal.specs.Tells.{Tells};
+ghost use Rattle.refusal.specs.InnerTells.{Tells};
 ghost use Rattle.thin.specs.declared.Asked.the-variants.{NoUse};
 ghost use Rattle.thin.specs.Order.{asked-by};
 ghost use Rattle.thin.specs.Thin.{ThinnedAs, Thinned};

@@ -409,7 +409,7 @@ fn too_many_records() {
     copy(&first, &mut log);
     show_regrown(
         b"M with five records: ",
-        replay::replay(&mut m, 7, &log[..50]),
+        replay::replay(&mut m, 7, &log[..5 * record::WIDTH]),
     );
     show_regrown(b"M with six records: ", replay::replay(&mut m, 7, &log));
     show_numbers(b"M then:", &m);

@@ -7,7 +7,7 @@ use lib.IntN.{ℤ, _-ℤ_}
 use lib.ListN.{length}
 use Rattle.surface.specs.Rows.{Row, rows, flat}
 use Rattle.surface.specs.Stage.{Stage}
-use Rattle.surface.specs.StageTable.{StageTable}
+use Rattle.surface.specs.InnerStageTable.{StageTable}
 use Rattle.surface.specs.Record.{Record, Replayed}
 use Rattle.surface.proofs.Flat.{rows-flat, flat-length}
 use Rattle.corners.specs.Skin.{InRange, Skin}
@@ -65,7 +65,7 @@ module _ {n : ℕ} {xs : List ℤ} (e : length xs ≡ 3 * n) (r : InRange xs) wh
 
   -- and lies within half a cubic metre of the exact one
   pub volume-near : {t : List ℕ} → StageTable n t → (a : Measured) → VolumeReport xs t (told a) → Near (sixfold xs (rows t)) a
-  volume-near {t} s a p = record { f = figure (sixfold xs (rows t)); is = volume-one a _ p (volume-there s); near = rounded.figure-near (sixfold xs (rows t)) }
+  volume-near {t} s a p = record { f = figure (sixfold xs (rows t)); tells = ap told (volume-one a _ p (volume-there s)); near = rounded.figure-near (sixfold xs (rows t)) }
 
   -- the same of the change between two
   pub change-there : {t s : List ℕ} → StageTable n t → StageTable n s → ChangeReport xs t s (told (Figure (change (sixfold xs (rows t)) (sixfold xs (rows s)))))
@@ -74,7 +74,7 @@ module _ {n : ℕ} {xs : List ℤ} (e : length xs ≡ 3 * n) (r : InRange xs) wh
 
   pub change-near : {t s : List ℕ} → StageTable n t → StageTable n s → (a : Measured) → ChangeReport xs t s (told a) → Near (sixfold xs (rows s) -ℤ sixfold xs (rows t)) a
   change-near {t} {s} p q a c =
-      record { f = change (sixfold xs (rows t)) (sixfold xs (rows s)); is = change-one a _ c (change-there p q); near = rounded.change-near (sixfold xs (rows t)) (sixfold xs (rows s)) }
+      record { f = change (sixfold xs (rows t)) (sixfold xs (rows s)); tells = ap told (change-one a _ c (change-there p q)); near = rounded.change-near (sixfold xs (rows t)) (sixfold xs (rows s)) }
 
 -- the stages of a log over a skin, whoever wrote it
 module _ {n : ℕ} {T : List Row} {xs : List ℤ} (k : Skin n T xs) where

@@ -10,7 +10,7 @@ use Rattle.corners.specs.Skin.{InRange}
 use Rattle.refusal.specs.declared.Verdict.{Verdict}
 use Rattle.refusal.specs.declared.Verdict.the-variants.{Passes}
 use Rattle.refusal.specs.First.{First}
-use Rattle.refusal.specs.Told.{Told}
+use Rattle.refusal.specs.Told.{Told, done}
 use Rattle.refusal.specs.Lesser.{either}
 use Rattle.refusal.specs.Outcome.{outcome}
 use Rattle.faults.specs.Counts.{corners}
@@ -18,7 +18,7 @@ use Rattle.faults.specs.Order.{refusals-at, CheckedStageAt}
 use Rattle.figure.specs.Sum.{sixfold}
 use Rattle.figure.specs.Rounding.{figure, change, WithinHalf}
 use Rattle.volume.specs.declared.Measured.{Measured}
-use Rattle.volume.specs.declared.Measured.the-variants.{Figure}
+use Rattle.volume.specs.Answer.{told}
 
 -- a volume is asked of one stage with its coordinates: the first of 2, 4 to 8, 10 and 11 that holds, and where none does, the table is a stage
 -- and the answer the figure of its exact sum
@@ -37,8 +37,8 @@ pub record ChangeReport (xs : List ℤ) (earlier later : List ℕ) (a : Told) : 
   pub in-range : verdict ≡ Passes → InRange xs
   pub tells : a ≡ outcome verdict (change (sixfold xs (rows earlier)) (sixfold xs (rows later)) ∷ [])
 
--- the answer is a figure, within half a cubic metre of the exact sum s over 6,000,000
+-- the answer tells 0 and a figure, within half a cubic metre of the exact sum s over 6,000,000
 pub record Near (s : ℤ) (a : Measured) : Type 0 where
   pub f : ℤ
-  pub is : a ≡ Figure f
+  pub tells : told a ≡ done (f ∷ [])
   pub near : WithinHalf s f

@@ -9,7 +9,7 @@ use lib.IntN.{ℤ, pos}
 use lib.ListN.{length, length-append, take, drop, getD, set, length-drop}
 use lib.Seq.{sets, length-sets, drop-cons, drop-drop}
 use Rattle.text.specs.Decimal.{signed}
-use Rattle.text.specs.Reading.{Written}
+use Rattle.text.specs.InnerReading.{Written}
 use Rattle.text.proofs.Spell.{write-after}
 use Rattle.lines.specs.Lines.{tab, newline, fields, line, lines}
 use Rattle.lines.proofs.Turns.{sets-append}

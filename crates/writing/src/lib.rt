@@ -2,7 +2,7 @@
 ghost use mathlib.Core.Path.{_≡_};
 ghost use Prim.Native.Nat.{_+_, _*_, _≤_};
 ghost use lib.ListN.{length};
-ghost use Rattle.text.specs.Reading.{Written};
+ghost use Rattle.text.specs.InnerReading.{Written};
 ghost use Rattle.lines.specs.Lines.{fields, line, lines};
 ghost use Rattle.writing.specs.Limits.{most-fields};
 

@@ -5,7 +5,7 @@ use borrow.Author.Count.{below-more}
 use lib.ListN.{length, getD}
 use Rattle.surface.specs.Rows.{rows}
 use Rattle.surface.specs.Table.{Used}
-use Rattle.refusal.specs.Tells.{Tells}
+use Rattle.refusal.specs.InnerTells.{Tells}
 use Rattle.refusal.proofs.Tells.{tells-true, tells-false}
 use Rattle.accept.proofs.Notes.{held-used, not-held}
 use native.Mathlib.Omega.{arith}

@@ -1,6 +1,6 @@
 -- `above` meets its contract.
 use mathlib.Core.Path.{refl}
-use Rattle.least.specs.Search.{is, none}
+use Rattle.least.specs.InnerSearch.{is, none}
 use native.Mathlib.Omega.{arith}
 use Rattle.least.proofs.above.Statement.{statement}
 use Rattle.least.proofs.above.Tie as tie

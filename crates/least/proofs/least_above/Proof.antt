@@ -1,7 +1,7 @@
 -- `least_above` meets its contract.
 use Prim.Native.Nat.{_-_, _≤_}
 use lib.ListN.{length, take}
-use Rattle.least.specs.Search.{NextAbove}
+use Rattle.least.specs.InnerSearch.{NextAbove}
 use Rattle.least.proofs.Rising.{next-none, next-more, next-end}
 use native.Mathlib.Omega.{arith}
 use borrow.Author.Needs.{needs}

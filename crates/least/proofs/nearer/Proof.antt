@@ -2,7 +2,7 @@
 use mathlib.Core.Path.{refl}
 use Prim.Native.Nat.{ℕ, _≤_, _<_}
 use Rattle.surface.specs.Limits.{most-corners}
-use Rattle.least.specs.Search.{Above, is, none, Better, old, new}
+use Rattle.least.specs.InnerSearch.{Above, is, none, Better, old, new}
 use native.Mathlib.Omega.{arith}
 use borrow.Author.Needs.{needs}
 use Rattle.least.proofs.nearer.Statement.{statement}

@@ -1,7 +1,7 @@
 -- `read_field` meets its contract.
 use mathlib.Core.Path.{subst}
 use mathlib.Core.List.{[], _∷_}
-use Rattle.text.specs.Reading.{Expected}
+use Rattle.text.specs.InnerReading.{Expected}
 use Rattle.lines.specs.Lines.{tab}
 use Rattle.lines.proofs.Turns.{field-read, field-none}
 use borrow.Author.Needs.{needs}

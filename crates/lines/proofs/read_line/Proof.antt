@@ -1,7 +1,7 @@
 -- `read_line` meets its contract.
 use mathlib.Core.Path.{subst}
 use lib.ListN.{drop}
-use Rattle.text.specs.Reading.{Expected}
+use Rattle.text.specs.InnerReading.{Expected}
 use Rattle.lines.specs.Inner.{FieldsAt, ReadInto}
 use Rattle.lines.proofs.Turns.{no-word, no-fields, line-end}
 use borrow.Author.Needs.{needs}

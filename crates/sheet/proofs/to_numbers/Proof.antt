@@ -3,7 +3,7 @@ use mathlib.Core.Path.{_≡_, subst}
 use Prim.Native.Nat.{ℕ, _-_, _≤_}
 use lib.ListN.{take}
 use Rattle.refusal.proofs.Tells.{tells-true, tells-false}
-use Rattle.sheet.specs.Body.{Naturals}
+use Rattle.sheet.specs.InnerBody.{Naturals}
 use Rattle.sheet.proofs.Casts.{minus-there, number-fits, number-stored, naturals-start, naturals-length}
 use native.Mathlib.Omega.{arith}
 use borrow.Author.Needs.{needs}

@@ -1,6 +1,6 @@
 -- `above_zero` meets its contract.
 use mathlib.Core.Path.{sym, _∙_, ap, subst}
-use Rattle.text.specs.Reading.{Fits63, above-zero}
+use Rattle.text.specs.InnerReading.{Fits63, above-zero}
 use Rattle.text.proofs.Signs.{fits-above, read-above}
 use borrow.Author.Needs.{needs}
 use Rattle.text.proofs.above_zero.Statement.{statement}

@@ -1,6 +1,6 @@
 -- `below_zero` meets its contract.
 use mathlib.Core.Path.{sym, _∙_, ap, subst}
-use Rattle.text.specs.Reading.{Fits63, below-zero}
+use Rattle.text.specs.InnerReading.{Fits63, below-zero}
 use Rattle.text.proofs.Signs.{fits-above, fits-below, read-below}
 use borrow.Author.Needs.{needs}
 use Rattle.text.proofs.below_zero.Statement.{statement}

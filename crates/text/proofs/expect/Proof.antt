@@ -1,7 +1,7 @@
 -- `expect` meets its contract.
 use Prim.Native.Nat.{_-_}
 use lib.ListN.{length}
-use Rattle.text.specs.Reading.{Expected}
+use Rattle.text.specs.InnerReading.{Expected}
 use Rattle.text.proofs.Words.{Compared, compare-start, compare-past, compare-other, compare-more, compare-end}
 use borrow.Author.Needs.{needs}
 use Rattle.text.proofs.expect.Statement.{statement}

@@ -1,7 +1,7 @@
 -- `read_number` meets its contract.
 use Prim.Native.Nat.{_-_}
 use lib.ListN.{length}
-use Rattle.text.specs.Reading.{ReadNumber}
+use Rattle.text.specs.InnerReading.{ReadNumber}
 use Rattle.text.proofs.Scan.{Scanned, none-there, scan-start, scan-end, scan-needless, scan-many, scan-fits, scan-more}
 use native.Mathlib.Omega.{arith}
 use borrow.Author.Needs.{needs}

@@ -2,7 +2,7 @@
 use mathlib.Core.Path.{sym, subst}
 use mathlib.Core.List.{[], _∷_}
 use Rattle.text.specs.Decimal.{minus}
-use Rattle.text.specs.Reading.{Expected, ReadSigned}
+use Rattle.text.specs.InnerReading.{Expected, ReadSigned}
 use Rattle.text.proofs.Signs.{signed-below, signed-above, small-enough}
 use borrow.Author.Needs.{needs}
 use Rattle.text.proofs.read_signed.Statement.{statement}

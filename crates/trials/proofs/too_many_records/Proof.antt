@@ -1,10 +1,12 @@
--- The log keeps its sixty numbers.
+-- The log keeps the numbers of its six records.
 use mathlib.Core.Path.{sym}
+use Prim.Native.Nat.{_*_}
 use lib.Seq.{length-take-le}
 use native.Mathlib.Omega.{arith}
 use borrow.Author.Needs.{needs}
 use Rattle.trials.proofs.too_many_records.Statement.{statement}
 use Rattle.trials.proofs.too_many_records.Tie as tie
+use Rattle.record.specs.Layout.{width}
 
 slice-aggregate-show-regrown : tie.Need-slice-aggregate-show-regrown
 slice-aggregate-show-regrown c = search needs
@@ -46,7 +48,7 @@ slice-aggregate-replay-4 : tie.Need-slice-aggregate-replay-4
 slice-aggregate-replay-4 c =
     let copy = c .before .before .before .before .copy in
     let log2 = c .before .before .before .log2 in
-    sym (length-take-le 50 (copy .last .1 .0) (omega (arith, log2 .given)))
+    sym (length-take-le (5 * width) (copy .last .1 .0) (omega (arith, log2 .given)))
 
 replay-requires-2 : tie.Need-replay-requires-2
 replay-requires-2 c κs = search needs

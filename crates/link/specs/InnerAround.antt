@@ -8,11 +8,11 @@ use Rattle.surface.specs.Limits.{most-corners}
 use Rattle.surface.specs.Lists.{_∈_, Distinct}
 use Rattle.surface.specs.Rows.{Row}
 use Rattle.surface.specs.Table.{Edge}
-use Rattle.surface.specs.StageTable.{StageTable}
+use Rattle.surface.specs.InnerStageTable.{StageTable}
 use Rattle.surface.specs.Link.{Meets}
 use Rattle.slots.specs.Chain.{Chained}
 use Rattle.slots.specs.Marks.{Blank}
-use Rattle.refusal.specs.Tells.{Tells}
+use Rattle.refusal.specs.InnerTells.{Tells}
 
 -- the flat table t is a stage, and last and prev are the chains of its slots
 pub record Charted (t last prev : List ℕ) : Type 0 where
