@@ -6,16 +6,9 @@
  *
  * A row is three corner numbers; corners are three coordinates each, in centimetres; a record is ten numbers of a log.
  *
- * status: 0 done, else the number of the first refusal that holds:
- *    1 limit unusable                       8 a reverse missing
- *    2 counts outside limits                9 a corner unused
- *    3 lent room short                     10 more than one ring round a corner
- *    4 a coordinate out of range           11 not connected
- *    5 a corner number not below the count 12 sheet not in its form, or too long
- *    6 a number twice in a row             13 a record does not grow back or replay
- *    7 a directed edge twice
- * A refused call leaves every list that it was lent as it was, and each of its values is 0, those in lent numbers too. But 13 tells how many
- * records were done before it, and leaves the stage that they led to.
+ * status: 0 done, else the number of the first refusal that holds, FLAXGLIMMER_LIMIT_UNUSABLE to FLAXGLIMMER_RECORD_FAILS below; a later
+ * archive may answer further numbers. A refused call leaves every list that it was lent as it was, and each of its values is 0, those in lent
+ * numbers too. But FLAXGLIMMER_RECORD_FAILS tells how many records were done before it, and leaves the stage that they led to.
  */
 #ifndef FLAXGLIMMER_H
 #define FLAXGLIMMER_H
@@ -26,6 +19,44 @@
 #ifdef __cplusplus
 extern "C" {
 #endif
+
+/* The limits of a table and its corners, by name: counts outside them are FLAXGLIMMER_COUNTS_OUTSIDE. */
+#define FLAXGLIMMER_LEAST_ROWS 4
+#define FLAXGLIMMER_MOST_ROWS 1024
+#define FLAXGLIMMER_LEAST_CORNERS 4
+#define FLAXGLIMMER_MOST_CORNERS 514
+
+/* Coordinates go from -FLAXGLIMMER_MOST_COORDINATE to FLAXGLIMMER_MOST_COORDINATE, in centimetres. */
+#define FLAXGLIMMER_MOST_COORDINATE 50000
+
+/* How many numbers of a log a record is. */
+#define FLAXGLIMMER_WIDTH 10
+
+/* The limits of a sheet; its least rows and corners are a table's. A longer sheet is FLAXGLIMMER_SHEET_FORM. */
+#define FLAXGLIMMER_MOST_SHEET_BYTES 65536
+#define FLAXGLIMMER_MOST_SHEET_ROWS 1024
+#define FLAXGLIMMER_MOST_SHEET_CORNERS 514
+
+/* Bytes that suffice for the desk's answer to any sheet. */
+#define FLAXGLIMMER_MOST_TEXT 65536
+
+/* What a status says. */
+enum {
+    FLAXGLIMMER_DONE = 0,
+    FLAXGLIMMER_LIMIT_UNUSABLE = 1,          /* limit unusable */
+    FLAXGLIMMER_COUNTS_OUTSIDE = 2,          /* counts outside limits; a length no multiple; rows that would pass the limits */
+    FLAXGLIMMER_ROOM_SHORT = 3,              /* lent room short */
+    FLAXGLIMMER_COORDINATE_OUT_OF_RANGE = 4, /* a coordinate out of range */
+    FLAXGLIMMER_NUMBER_NOT_BELOW = 5,        /* a corner number not below the count */
+    FLAXGLIMMER_NUMBER_TWICE = 6,            /* a number twice in a row */
+    FLAXGLIMMER_EDGE_TWICE = 7,              /* a directed edge twice */
+    FLAXGLIMMER_REVERSE_MISSING = 8,         /* a reverse missing */
+    FLAXGLIMMER_CORNER_UNUSED = 9,           /* a corner unused */
+    FLAXGLIMMER_RINGS_MANY = 10,             /* more than one ring round a corner */
+    FLAXGLIMMER_NOT_CONNECTED = 11,          /* not connected */
+    FLAXGLIMMER_SHEET_FORM = 12,             /* sheet not in its form, or too long */
+    FLAXGLIMMER_RECORD_FAILS = 13            /* a record does not grow back or replay */
+};
 
 /* Units of a limit. Any other number stands for a limit that is unusable, as does FLAXGLIMMER_NO_LIMIT where a limit is read. */
 enum {
@@ -106,7 +137,8 @@ uint64_t flaxglimmer_read_sheet(const uint8_t *bytes, size_t bytes_length, uint3
 /* The trial ring's number at a place of its table of 384. */
 struct flaxglimmer_stored flaxglimmer_trial_number(size_t at);
 
-/* The desk's whole answer to a sheet, in front of the text; 65,536 bytes always suffice, and 3 is its only refusal. */
+/* The desk's whole answer to a sheet, in front of the text; FLAXGLIMMER_MOST_TEXT bytes always suffice, and FLAXGLIMMER_ROOM_SHORT is its only
+ * refusal. */
 struct flaxglimmer_written flaxglimmer_reply(const uint8_t *sheet, size_t sheet_length, uint8_t *text, size_t text_length);
 
 #ifdef __cplusplus
