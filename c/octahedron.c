@@ -34,6 +34,39 @@ static void limit(const char *name, uint32_t unit, double figure)
     printf("%s %" PRIu64 " %" PRIu64 "\n", name, a.status, a.whole);
 }
 
+/* Every list that may be empty, as NULL: first in calls that are done, on document 01's tetrahedron, which has no record; then everywhere. */
+static void empty(void)
+{
+    static const int32_t at[12] = {0, 0, 0, 300, 0, 0, 0, 300, 0, 0, 0, 300};
+    uint32_t table[12] = {0, 1, 2, 0, 2, 3, 0, 3, 1, 1, 3, 2};
+    uint64_t a, b, c;
+    counted("no log to thin", flaxglimmer_thin(FLAXGLIMMER_NO_LIMIT, 0, table, 12, at, 12, NULL, 0));
+    counted("no log to grow back", flaxglimmer_grow_back(4, 4, table, 12, NULL, 0));
+    counted("no log to replay", flaxglimmer_replay(4, table, 12, NULL, 0));
+    uint64_t status = flaxglimmer_shift(3, at, 12, NULL, 0, &a, &b, &c);
+    printf("no log to shift by %" PRIu64 " %" PRIu64 " %" PRIu64 " %" PRIu64 "\n", status, a, b, c);
+    status = flaxglimmer_catch_up(NULL, 0, table, 12, &a, &b);
+    printf("no log to catch up %" PRIu64 " %" PRIu64 " %" PRIu64 "\n", status, a, b);
+
+    counted("nothing to thin", flaxglimmer_thin(FLAXGLIMMER_NO_LIMIT, 0, NULL, 0, NULL, 0, NULL, 0));
+    counted("nothing to grow back", flaxglimmer_grow_back(4, 4, NULL, 0, NULL, 0));
+    counted("nothing to replay", flaxglimmer_replay(4, NULL, 0, NULL, 0));
+    measure("nothing's volume", flaxglimmer_volume(NULL, 0, NULL, 0));
+    measure("nothing's change", flaxglimmer_change(NULL, 0, NULL, 0, NULL, 0));
+    a = b = c = 7;
+    status = flaxglimmer_shift(0, NULL, 0, NULL, 0, &a, &b, &c);
+    printf("nothing to shift %" PRIu64 " %" PRIu64 " %" PRIu64 " %" PRIu64 "\n", status, a, b, c);
+    a = b = 7;
+    status = flaxglimmer_catch_up(NULL, 0, NULL, 0, &a, &b);
+    printf("nothing to catch up %" PRIu64 " %" PRIu64 " %" PRIu64 "\n", status, a, b);
+    printf("no rings %" PRIu32 "\n", flaxglimmer_shorter_ring(NULL, 0, NULL, 0));
+    a = b = 7;
+    status = flaxglimmer_read_sheet(NULL, 0, NULL, 0, NULL, 0, &a, &b);
+    printf("no sheet %" PRIu64 " %" PRIu64 " %" PRIu64 "\n", status, a, b);
+    struct flaxglimmer_written written = flaxglimmer_reply(NULL, 0, NULL, 0);
+    printf("no text %" PRIu64 " %" PRIu64 "\n", written.status, written.bytes);
+}
+
 int main(void)
 {
     uint32_t table[24], log[20];
@@ -59,7 +92,7 @@ int main(void)
     limit("another unit", 4, 0.3);
     counted("another unit's limit", flaxglimmer_thin(4, 0.3, table, 24, corners, 18, log, 20));
     counted("a short log", flaxglimmer_thin(FLAXGLIMMER_FEET, 1, table, 24, corners, 18, log, 19));
-    counted("nothing", flaxglimmer_replay(6, NULL, 0, NULL, 0));
+    empty();
 
     uint64_t from, to;
     uint64_t which = flaxglimmer_catch_up(first, 6, first, 24, &from, &to);

@@ -1,21 +1,27 @@
-/* Flaxglimmer for C: every public call. The functions are those of the proved crate `bridge`; link libbridge.a.
+/* Flaxglimmer for C and C++: every public call. The functions are those of the proved crate `bridge`; link libbridge.a, which calls nothing
+ * of other libraries but memcpy, memmove and memset.
  *
- * A list is a pointer and how many numbers stand there. It is lent for the call alone. A list or a number without `const` is lent to be written
- * and may overlap nothing else that is lent to the same call. An empty list has length 0, and nothing is read through its pointer. No other
- * demand is made: every number and every length has an answer.
+ * A row is three corner numbers; corners are three coordinates each, in centimetres; a record is FLAXGLIMMER_WIDTH numbers of a log.
  *
- * A row is three corner numbers; corners are three coordinates each, in centimetres; a record is ten numbers of a log.
+ * status: 0 done, else the number of the first refusal that holds, FLAXGLIMMER_LIMIT_UNUSABLE to FLAXGLIMMER_RECORD_FAILS below; a later
+ * archive may answer further numbers. A refused call leaves every list that it was lent as it was, and each of its values is 0, those in lent
+ * numbers too. But FLAXGLIMMER_RECORD_FAILS tells how many records were done before it, and leaves the stage that they led to.
  *
- * status: 0 done, else the number of the first refusal that holds:
- *    1 limit unusable                       8 a reverse missing
- *    2 counts outside limits                9 a corner unused
- *    3 lent room short                     10 more than one ring round a corner
- *    4 a coordinate out of range           11 not connected
- *    5 a corner number not below the count 12 sheet not in its form, or too long
- *    6 a number twice in a row             13 a record does not grow back or replay
- *    7 a directed edge twice
- * A refused call leaves every list that it was lent as it was, and each of its values is 0, those in lent numbers too. But 13 tells how many
- * records were done before it, and leaves the stage that they led to.
+ * What is lent. A list is a pointer and how many numbers (of a sheet or a text: bytes) stand there, its length. It is lent for the call alone:
+ * nothing is kept, and nothing is freed.
+ * - A list with `const` is only read, and may overlap other lists with `const`, or be one of them.
+ * - A list without `const` is lent to be written, as is each uint64_t by itself, a lent number. What is lent to be written overlaps nothing else
+ *   that is lent to the same call. It need not be cleared first.
+ * - A list of length 0 may have any pointer, NULL too: nothing is read or written through it. Of any other length it is no NULL, and so many
+ *   numbers of its type stand there. A lent number is never NULL, and is written whatever the status.
+ * - Every pointer is aligned as its type is: 4 bytes for uint32_t and int32_t, 8 for uint64_t.
+ * Nothing else is asked of a caller: every number and every length has an answer, and every call ends.
+ *
+ * Threads. No call keeps anything, allocates, reads or writes a file, or waits: it works in what it is lent and on the stack of the thread that
+ * makes it. So calls may be made on any threads at once, and by a signal handler, where nothing that one call is lent to be written is lent to
+ * another at the same time.
+ *
+ * Stack. A call takes at most so many bytes of its thread's stack as FLAXGLIMMER_STACK_ has for it below.
  */
 #ifndef FLAXGLIMMER_H
 #define FLAXGLIMMER_H
@@ -23,9 +29,64 @@
 #include <stddef.h>
 #include <stdint.h>
 
+#if SIZE_MAX < UINT64_MAX
+#error "the proved functions count in 64 bits"
+#endif
+
 #ifdef __cplusplus
 extern "C" {
 #endif
+
+/* The limits of a table and its corners, by name: counts outside them are FLAXGLIMMER_COUNTS_OUTSIDE. */
+#define FLAXGLIMMER_LEAST_ROWS 4
+#define FLAXGLIMMER_MOST_ROWS 1024
+#define FLAXGLIMMER_LEAST_CORNERS 4
+#define FLAXGLIMMER_MOST_CORNERS 514
+
+/* Coordinates go from -FLAXGLIMMER_MOST_COORDINATE to FLAXGLIMMER_MOST_COORDINATE, in centimetres. */
+#define FLAXGLIMMER_MOST_COORDINATE 50000
+
+/* How many numbers of a log a record is. */
+#define FLAXGLIMMER_WIDTH 10
+
+/* The limits of a sheet; its least rows and corners are a table's. A longer sheet is FLAXGLIMMER_SHEET_FORM. */
+#define FLAXGLIMMER_MOST_SHEET_BYTES 65536
+#define FLAXGLIMMER_MOST_SHEET_ROWS 1024
+#define FLAXGLIMMER_MOST_SHEET_CORNERS 514
+
+/* Bytes that suffice for the desk's answer to any sheet. */
+#define FLAXGLIMMER_MOST_TEXT 65536
+
+/* How many bytes of stack a call takes at most; a call that has no name here takes FLAXGLIMMER_STACK_OTHER. No proof bounds a stack: these are
+ * what c/stack.c measured on Arm, and on x86-64 under the kit's emulator, on skins at the limits, with at least an eighth more and rounded up to
+ * 16 KiB; tests/bridge measures again and compares.
+ * The arrays on the stack have the length of the limits whatever is lent, and no function calls itself but by the digits of a number. */
+#define FLAXGLIMMER_STACK_THIN 114688
+#define FLAXGLIMMER_STACK_GROW_BACK 81920
+#define FLAXGLIMMER_STACK_REPLAY 114688
+#define FLAXGLIMMER_STACK_VOLUME 81920
+#define FLAXGLIMMER_STACK_CHANGE 81920
+#define FLAXGLIMMER_STACK_READ_SHEET 147456
+#define FLAXGLIMMER_STACK_REPLY 262144
+#define FLAXGLIMMER_STACK_OTHER 16384
+
+/* What a status says. */
+enum {
+    FLAXGLIMMER_DONE = 0,
+    FLAXGLIMMER_LIMIT_UNUSABLE = 1,          /* limit unusable */
+    FLAXGLIMMER_COUNTS_OUTSIDE = 2,          /* counts outside limits; a length no multiple; rows that would pass the limits */
+    FLAXGLIMMER_ROOM_SHORT = 3,              /* lent room short */
+    FLAXGLIMMER_COORDINATE_OUT_OF_RANGE = 4, /* a coordinate out of range */
+    FLAXGLIMMER_NUMBER_NOT_BELOW = 5,        /* a corner number not below the count */
+    FLAXGLIMMER_NUMBER_TWICE = 6,            /* a number twice in a row */
+    FLAXGLIMMER_EDGE_TWICE = 7,              /* a directed edge twice */
+    FLAXGLIMMER_REVERSE_MISSING = 8,         /* a reverse missing */
+    FLAXGLIMMER_CORNER_UNUSED = 9,           /* a corner unused */
+    FLAXGLIMMER_RINGS_MANY = 10,             /* more than one ring round a corner */
+    FLAXGLIMMER_NOT_CONNECTED = 11,          /* not connected */
+    FLAXGLIMMER_SHEET_FORM = 12,             /* sheet not in its form, or too long */
+    FLAXGLIMMER_RECORD_FAILS = 13            /* a record does not grow back or replay */
+};
 
 /* Units of a limit. Any other number stands for a limit that is unusable, as does FLAXGLIMMER_NO_LIMIT where a limit is read. */
 enum {
@@ -65,48 +126,65 @@ struct flaxglimmer_stored {
     uint64_t number;
 };
 
-/* Thins a first table under an order: the last stage is left in front and zeros behind it, the records in front of the log.
- * The log has room for 10 numbers for each corner past the fourth. Where there is no limit the figure is not looked at. */
+/* Thins a first table under an order: the last stage is left in front of the table and zeros behind it, the records in front of the log, which
+ * stays as it was past them. Where there is no limit the figure is not looked at.
+ * table: its rows; written. corners: their coordinates; read. log: room for FLAXGLIMMER_WIDTH numbers for each corner past
+ * FLAXGLIMMER_LEAST_CORNERS, so none for that many; written. */
 struct flaxglimmer_counted flaxglimmer_thin(uint32_t unit, double figure, uint32_t *table, size_t table_length, const int32_t *corners,
                                             size_t corners_length, uint32_t *log, size_t log_length);
 
-/* Grows a log back, the last record first, on the rows that stand in front of a room, over so many corners. Each record adds two rows. */
+/* Grows a log back, the last record first, on the rows that stand in front of a room, over so many corners. Each record adds two rows; what lies
+ * past the grown rows stays as it was.
+ * room: the rows, with room for all that will stand, of any length past that; written. log: whole records; read. */
 struct flaxglimmer_counted flaxglimmer_grow_back(size_t rows, size_t corners, uint32_t *room, size_t room_length, const uint32_t *log,
                                                  size_t log_length);
 
-/* Replays a log forward on a table over so many corners; the stage reached is left in front and zeros behind it. */
+/* Replays a log forward on a table over so many corners; the stage reached is left in front and zeros behind it.
+ * table: its rows; written. log: whole records; read. */
 struct flaxglimmer_counted flaxglimmer_replay(size_t corners, uint32_t *table, size_t table_length, const uint32_t *log, size_t log_length);
 
-/* The volume of a stage with its coordinates. */
+/* The volume of a stage with its coordinates.
+ * table: its rows; read. corners: their coordinates; read. */
 struct flaxglimmer_measure flaxglimmer_volume(const uint32_t *table, size_t table_length, const int32_t *corners, size_t corners_length);
 
-/* The change from an earlier stage to a later one over the same coordinates, rounded once. */
+/* The change from an earlier stage to a later one over the same coordinates, rounded once.
+ * earlier, later: their rows; read. corners: their coordinates; read. */
 struct flaxglimmer_measure flaxglimmer_change(const uint32_t *earlier, size_t earlier_length, const uint32_t *later, size_t later_length,
                                               const int32_t *corners, size_t corners_length);
 
-/* The shift of a corner by a log that was written over these coordinates: the status, and stand-in, count and squared distance. */
+/* The shift of a corner by a log that was written over these coordinates; its value is the status.
+ * corners: their coordinates; read. log: whole records; read. stand_in, count, squared: lent numbers, for the stand-in, how many records moved it
+ * and the squared distance in square centimetres. */
 uint64_t flaxglimmer_shift(uint32_t corner, const int32_t *corners, size_t corners_length, const uint32_t *log, size_t log_length,
                            uint64_t *stand_in, uint64_t *count, uint64_t *squared);
 
 /* A typed limit in whole centimetres. */
 struct flaxglimmer_centimetres flaxglimmer_limit(uint32_t unit, double figure);
 
-/* The shorter of two lent rings: 0 the first, also when they are equally long, or 1 the second. */
+/* The shorter of two lent rings: 0 the first, also when they are equally long, or 1 the second. Its value is no status: nothing is refused.
+ * first, second: rings; read. */
 uint32_t flaxglimmer_shorter_ring(const uint32_t *first, size_t first_length, const uint32_t *second, size_t second_length);
 
 /* The catch-up part: if one log is a beginning of the other, the rest of the longer; otherwise, or if they are equal, an empty part of the first.
- * Hands back 0 for a part of the first log or 1 for one of the second; the part is its numbers at the places from `from` up to, not with, `to`. */
+ * Its value is 0 for a part of the first log or 1 for one of the second, and no status: nothing is refused. The part is the log's numbers at the
+ * places from `from` up to, not with, `to`.
+ * first, second: any numbers; read. from, to: lent numbers. */
 uint64_t flaxglimmer_catch_up(const uint32_t *first, size_t first_length, const uint32_t *second, size_t second_length, uint64_t *from,
                               uint64_t *to);
 
-/* Reads a sheet: its rows in front of the table, its coordinates in front of the corners; the status, and corner count and row count. */
+/* Reads a sheet: its rows in front of the table, its coordinates in front of the corners, which stay as they were past those; its value is the
+ * status.
+ * bytes: the sheet; read. table, corners: room for its rows and its coordinates, three numbers each; written. count, rows: lent numbers, for how
+ * many corners and rows it has. */
 uint64_t flaxglimmer_read_sheet(const uint8_t *bytes, size_t bytes_length, uint32_t *table, size_t table_length, int32_t *corners,
                                 size_t corners_length, uint64_t *count, uint64_t *rows);
 
 /* The trial ring's number at a place of its table of 384. */
 struct flaxglimmer_stored flaxglimmer_trial_number(size_t at);
 
-/* The desk's whole answer to a sheet, in front of the text; 65,536 bytes always suffice, and 3 is its only refusal. */
+/* The desk's whole answer to a sheet, in front of the text, which stays as it was past it; FLAXGLIMMER_MOST_TEXT bytes always suffice, and
+ * FLAXGLIMMER_ROOM_SHORT is its only refusal.
+ * sheet: the sheet; read. text: room for the answer; written. */
 struct flaxglimmer_written flaxglimmer_reply(const uint8_t *sheet, size_t sheet_length, uint8_t *text, size_t text_length);
 
 #ifdef __cplusplus

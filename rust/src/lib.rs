@@ -4,6 +4,10 @@
 #[cfg(not(target_pointer_width = "64"))]
 compile_error!("the proved functions count in 64 bits");
 
+mod numbers;
+
+pub use numbers::*;
+
 /// The functions of the proved crate `bridge`, as `include/flaxglimmer.h` declares them.
 mod proved {
     #[repr(C)]
@@ -49,52 +53,6 @@ mod proved {
         pub fn flaxglimmer_read_sheet(bytes: *const u8, bytes_length: usize, table: *mut u32, table_length: usize, corners: *mut i32, corners_length: usize, count: *mut u64, rows: *mut u64) -> u64;
         pub fn flaxglimmer_trial_number(at: usize) -> Stored;
         pub fn flaxglimmer_reply(sheet: *const u8, sheet_length: usize, text: *mut u8, text_length: usize) -> Written;
-    }
-}
-
-/// The refusals, in the order of their numbers.
-#[derive(Clone, Copy, Debug, PartialEq, Eq)]
-pub enum Refusal {
-    LimitUnusable = 1,
-    CountsOutside,
-    RoomShort,
-    CoordinateOutOfRange,
-    NumberNotBelow,
-    NumberTwice,
-    EdgeTwice,
-    ReverseMissing,
-    CornerUnused,
-    RingsMany,
-    NotConnected,
-    SheetForm,
-    RecordFails,
-}
-
-impl Refusal {
-    const ALL: [Refusal; 13] = [
-        Refusal::LimitUnusable,
-        Refusal::CountsOutside,
-        Refusal::RoomShort,
-        Refusal::CoordinateOutOfRange,
-        Refusal::NumberNotBelow,
-        Refusal::NumberTwice,
-        Refusal::EdgeTwice,
-        Refusal::ReverseMissing,
-        Refusal::CornerUnused,
-        Refusal::RingsMany,
-        Refusal::NotConnected,
-        Refusal::SheetForm,
-        Refusal::RecordFails,
-    ];
-
-    /// The refusal of a status that is not 0. The proved functions answer with no other number than these.
-    fn of(status: u64) -> Refusal {
-        Refusal::ALL[status as usize - 1]
-    }
-
-    /// Its number.
-    pub fn number(self) -> u32 {
-        self as u32
     }
 }
 
@@ -153,8 +111,8 @@ fn regrown(a: proved::Counted) -> Result<usize, Unfinished> {
     })
 }
 
-/// Thins a first table under a limit or none; answers how many records were written to the front of the log. The last stage is left in front of
-/// the table and zeros behind it.
+/// Thins a first table under a limit or none; answers how many records were written to the front of the log, which needs `WIDTH` numbers for
+/// each corner past `LEAST_CORNERS`. The last stage is left in front of the table and zeros behind it.
 pub fn thin(table: &mut [u32], corners: &[i32], limit: Option<Length>, log: &mut [u32]) -> Result<usize, Refusal> {
     let (unit, figure) = limit.map_or((0, 0.0), Length::crossing);
     let a = unsafe { proved::flaxglimmer_thin(unit, figure, table.as_mut_ptr(), table.len(), corners.as_ptr(), corners.len(), log.as_mut_ptr(), log.len()) };
@@ -228,7 +186,7 @@ pub fn trial_number(at: usize) -> Option<u32> {
     (a.there == 1).then_some(a.number as u32)
 }
 
-/// The desk's whole answer to a sheet, in front of the text; how many bytes it has.
+/// The desk's whole answer to a sheet, in front of the text; how many bytes it has. `MOST_TEXT` bytes always suffice.
 pub fn reply(sheet: &[u8], text: &mut [u8]) -> Result<usize, Refusal> {
     let a = unsafe { proved::flaxglimmer_reply(sheet.as_ptr(), sheet.len(), text.as_mut_ptr(), text.len()) };
     answered(a.status, a.bytes as usize)

@@ -104,8 +104,8 @@ fn tells_the_trial_ring() {
 
 #[test]
 fn answers_as_the_desk() {
-    let mut text = [0; 65536];
-    let n = reply(SHEET, &mut text).expect("65,536 bytes suffice");
+    let mut text = [0; MOST_TEXT];
+    let n = reply(SHEET, &mut text).expect("so many bytes suffice");
     let expected = "OK 4 2 1 0\nR 0 3 4\nR 5 3 0\nR 5 4 3\nR 5 0 4\nK 0 1 0 0 1 2 3 0 4 1\nK 0 2 0 0 2 3 2 5 2 0\n";
     assert_eq!(std::str::from_utf8(&text[..n]).unwrap().replace('\t', " "), expected);
     assert_eq!(reply(SHEET, &mut []), Err(Refusal::RoomShort));
