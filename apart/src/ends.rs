@@ -1,7 +1,6 @@
 //! The ends of the protocol and of the desk's input: words outside their type, lists over their limit, other calls
 //! and units, requests cut short, input in pieces, input that is too long or never ends.
 
-use crate::answers::answer;
 use crate::bench::{Bench, END};
 use crate::chance::Chance;
 use crate::desk;
@@ -53,7 +52,6 @@ fn must_end(bench: &mut Bench, kind: &str, bad: &[u8], behind: Behind, chance: &
         return;
     }
     let honest = small_request(chance.pick(&[THIN, VOLUME, LIMIT, CATCH_UP]), chance);
-    let expected = bytes_of(&answer(&honest).words());
     let words = bytes_of(&honest.words());
     let more: &[u8] = if behind == Behind::More { &words } else { &[] };
     let sent = [&words, bad, more].concat();
@@ -63,7 +61,7 @@ fn must_end(bench: &mut Bench, kind: &str, bad: &[u8], behind: Behind, chance: &
             calls.close();
         }
     });
-    bench.ends_verdict(kind, &sent, &expected, found);
+    bench.ends_verdict(kind, &sent, &[honest], found);
 }
 
 fn outside(kind: Kind) -> &'static [Word] {
@@ -150,7 +148,6 @@ fn at_the_limits(bench: &mut Bench, chance: &mut Chance) {
 fn pieces(bench: &mut Bench, chance: &mut Chance) {
     for round in 0..6 {
         let requests: Vec<Request> = (0..12).map(|_| small_request(1 + chance.below(CALLS.len()), chance)).collect();
-        let expected: Vec<u8> = requests.iter().flat_map(|r| bytes_of(&answer(r).words())).collect();
         let sent: Vec<u8> = requests.iter().flat_map(|r| bytes_of(&r.words())).collect();
         let mut cuts: Vec<usize> = (0..if round < 3 { 40 } else { 0 }).map(|_| chance.below(sent.len())).collect();
         cuts.extend([0, sent.len()]);
@@ -162,7 +159,7 @@ fn pieces(bench: &mut Bench, chance: &mut Chance) {
             }
             calls.close();
         });
-        bench.ends_verdict("ends: requests in pieces or at once", &sent, &expected, found);
+        bench.ends_verdict("ends: requests in pieces or at once", &sent, &requests, found);
     }
 }
 

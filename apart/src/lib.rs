@@ -25,6 +25,7 @@ pub mod serve;
 pub mod sheet;
 pub mod sheets;
 pub mod skin;
+pub mod spoil;
 pub mod step;
 pub mod sums;
 pub mod sweep;

@@ -4,10 +4,11 @@ use crate::answers::answer;
 use crate::desk;
 use crate::protocol::{bytes_of, Request};
 use crate::sheet::LONGEST;
+use crate::spoil::Spoiler;
 use std::io::{self, BufReader, Read, Write};
 
-/// Answers requests until the input ends or a request is none.
-pub fn calls() -> io::Result<()> {
+/// Answers requests until the input ends or a request is none; a spoiler, where there is one, has each response before it goes out.
+pub fn calls(spoiler: Option<Spoiler>) -> io::Result<()> {
     let mut input = BufReader::new(io::stdin().lock());
     let mut output = io::stdout().lock();
     let mut next = || {
@@ -15,7 +16,11 @@ pub fn calls() -> io::Result<()> {
         input.read_exact(&mut word).ok().map(|()| i64::from_le_bytes(word))
     };
     while let Some(request) = Request::read(&mut next) {
-        output.write_all(&bytes_of(&answer(&request).words()))?;
+        let mut response = answer(&request);
+        if let Some(spoiler) = &spoiler {
+            spoiler.pass(&request, &mut response)?;
+        }
+        output.write_all(&bytes_of(&response.words()))?;
         output.flush()?;
     }
     Ok(())

@@ -166,13 +166,8 @@ pub fn difference(request: &Request, expected: &Response, found: &Response) -> O
         let at = (0..expected.len().max(found.len())).find(|&at| expected.get(at) != found.get(at));
         if let Some(at) = at {
             let say = |word: Option<&Word>| word.map_or("nothing".to_string(), Word::to_string);
-            return Some(format!(
-                "{} (call {}): word {at} of {name}: expected {}, found {}",
-                request.shape().name,
-                request.call,
-                say(expected.get(at)),
-                say(found.get(at))
-            ));
+            let (named, expected, found) = (request.named(), say(expected.get(at)), say(found.get(at)));
+            return Some(format!("{named}: word {at} of {name}: expected {expected}, found {found}"));
         }
     }
     None
