@@ -20,6 +20,7 @@ pub mod parts;
 pub mod pipe;
 pub mod place;
 pub mod protocol;
+pub mod refusal;
 pub mod round;
 pub mod serve;
 pub mod sheet;

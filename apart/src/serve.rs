@@ -3,7 +3,7 @@
 use crate::answers::answer;
 use crate::desk;
 use crate::protocol::{bytes_of, Request};
-use crate::sheet::LONGEST;
+use crate::sheet::MOST_BYTES;
 use crate::spoil::Spoiler;
 use std::io::{self, BufReader, Read, Write};
 
@@ -29,6 +29,6 @@ pub fn calls(spoiler: Option<Spoiler>) -> io::Result<()> {
 /// Reads one sheet, no further than it takes to see that it is too long, and writes the desk's text.
 pub fn desk() -> io::Result<()> {
     let mut bytes = Vec::new();
-    io::stdin().lock().take(LONGEST as u64 + 1).read_to_end(&mut bytes)?;
+    io::stdin().lock().take(MOST_BYTES as u64 + 1).read_to_end(&mut bytes)?;
     io::stdout().lock().write_all(desk::text(&bytes).as_bytes())
 }
