@@ -6,6 +6,7 @@ use crate::grow::{grow_back, records_of, replay, Reached};
 use crate::limit::whole_centimetres;
 use crate::parts::{catch_up, grid, shorter_ring};
 use crate::protocol::*;
+use crate::refusal::FAILS;
 use crate::sheet;
 use crate::skin::*;
 use crate::step::{thin, WIDTH};
@@ -104,7 +105,7 @@ fn thin_questions(request: &Request) -> Vec<Question<'_>> {
     let mut questions: Vec<Question> = vec![
         (1, Box::new(move || !unlimited && limit(request).is_none())),
         (2, Box::new(move || table_length_refused(&table) || corner_length_refused(&corners))),
-        (3, Box::new(move || request.arguments[4].len() < WIDTH * count.saturating_sub(4))),
+        (3, Box::new(move || request.arguments[4].len() < WIDTH * count.saturating_sub(FEWEST))),
         (4, Box::new(move || coordinate_refused(&given))),
     ];
     questions.extend(table_questions(rows, count, Table::First));
@@ -123,9 +124,9 @@ fn thinned(request: &Request) -> Response {
 fn grow_questions(request: &Request) -> Vec<Question<'_>> {
     let (told, count, room, log) =
         (whole(request, 0), whole(request, 1), numbers(request, 2), request.arguments[3].len());
-    // A count past every limit is refused by it; 2,000 keeps the sums small and is past it too.
-    let grown = told.min(2_000) + 2 * (log / WIDTH);
-    let counts = ROWS.contains(&told) && CORNERS.contains(&count) && log % WIDTH == 0 && grown <= *ROWS.end();
+    // A count past the limit is refused by it; one more than the most keeps the sums small and is past it too.
+    let grown = told.min(MOST_ROWS + 1) + 2 * (log / WIDTH);
+    let counts = ROWS.contains(&told) && CORNERS.contains(&count) && log % WIDTH == 0 && grown <= MOST_ROWS;
     let rows: Vec<Row> = rows_of(&room).into_iter().take(told).collect();
     let mut questions: Vec<Question> =
         vec![(2, Box::new(move || !counts)), (3, Box::new(move || room.len() < 3 * grown))];
@@ -135,7 +136,7 @@ fn grow_questions(request: &Request) -> Vec<Question<'_>> {
 
 /// Done, or 13 with the records done; the stage reached is left either way.
 fn reached(request: &Request, stage: &Reached) -> Response {
-    Response::untouched(request, vec![if stage.whole { 0 } else { 13 }, stage.done as Word])
+    Response::untouched(request, vec![if stage.whole { 0 } else { FAILS }, stage.done as Word])
 }
 
 fn grown_back(request: &Request) -> Response {

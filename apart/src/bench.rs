@@ -91,7 +91,7 @@ impl Bench {
         self.tally.note(request, expected);
         let (wrong, found) = match self.ask(request) {
             Ok(found) => (difference(request, expected, &found), Some(found)),
-            Err(why) => (Some(format!("{} (call {}): {why}", request.shape().name, request.call)), None),
+            Err(why) => (Some(format!("{}: {why}", request.named())), None),
         };
         if wrong.is_some() {
             // What a program that errs has still to write must not be read as its next answer.
@@ -128,15 +128,11 @@ impl Bench {
         self.tally.verdict(kind, wrong, || again.to_string());
     }
 
-    /// Notes what came of bytes sent to a `calls` of their own.
-    pub fn ends_verdict(&mut self, kind: &str, sent: &[u8], expected: &[u8], found: Result<Vec<u8>, String>) {
+    /// Notes what came of bytes sent to a `calls` of their own: the answers to these requests were to come, and the end.
+    pub fn ends_verdict(&mut self, kind: &str, sent: &[u8], answered: &[Request], found: Result<Vec<u8>, String>) {
         self.tally.calls += 1;
         let wrong = match found {
-            Ok(found) if found == expected => None,
-            Ok(found) => {
-                let at = (0..).find(|&at| expected.get(at) != found.get(at)).unwrap_or(0);
-                Some(format!("wrote {} bytes where {} were to come; byte {at} differs", found.len(), expected.len()))
-            }
+            Ok(found) => bytes_difference(answered, &found),
             Err(why) => Some(format!("the program must end: {why}")),
         };
         let words = sent.chunks_exact(8).map(|word| Word::from_le_bytes(word.try_into().expect("eight bytes")));
@@ -151,10 +147,26 @@ impl Bench {
 
     /// Notes a property that needs no second working out.
     pub fn property(&mut self, kind: &str, holds: bool, what: &str, request: &Request) {
-        let wrong = (!holds).then(|| what.to_string());
+        let wrong = (!holds).then(|| format!("{}: {what}", request.named()));
         let whole = self.whole.clone();
         self.tally.verdict(kind, wrong, || format!("{whole}, the call '{}'", written(&request.words())));
     }
+}
+
+/// The first request whose response does not stand at its place among the bytes, or what stands behind them all.
+fn bytes_difference(answered: &[Request], found: &[u8]) -> Option<String> {
+    let mut left = found;
+    for request in answered {
+        let expected = bytes_of(&answer(request).words());
+        match left.strip_prefix(&expected[..]) {
+            Some(rest) => left = rest,
+            None => {
+                let at = (0..).find(|&at| expected.get(at) != left.get(at)).unwrap_or(0);
+                return Some(format!("{}: byte {at} of its response differs", request.named()));
+            }
+        }
+    }
+    (!left.is_empty()).then(|| format!("{} bytes were written where none were to come", left.len()))
 }
 
 pub fn desk_difference(expected: &str, found: Result<Vec<u8>, String>) -> Option<String> {

@@ -9,7 +9,7 @@ use crate::harm::{scribble, words, Input};
 use crate::limit::whole_centimetres;
 use crate::make::Skin;
 use crate::protocol::*;
-use crate::skin::{is_stage, rows_of, Edges, Row};
+use crate::skin::{is_stage, rows_of, Edges, Row, MOST_CORNERS};
 use crate::step::{contract, meets_link_condition, WIDTH};
 
 /// A run as the driven program left it.
@@ -60,7 +60,7 @@ pub fn run(bench: &mut Bench, skin: &Skin, order: (i64, u64), chance: &mut Chanc
 /// A skin that this program's own rules refuse, but for the limit, was made wrongly.
 fn is_honest(bench: &mut Bench, skin: &Skin, request: &Request) {
     bench.tally.meet(skin.name);
-    bench.tally.meet_if(skin.corners.len() == 514, "514 corners");
+    bench.tally.meet_if(skin.corners.len() == MOST_CORNERS, "the most corners");
     let status = answer(request).answer[0];
     if status > 1 {
         bench.tally.fail("the maker", &format!("{} made is refused by {status}", skin.name), "");

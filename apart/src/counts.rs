@@ -5,9 +5,13 @@ use crate::chance::Chance;
 use crate::harm::{scribble, words};
 use crate::make::{octahedron, tetrahedron};
 use crate::protocol::*;
+use crate::skin::{FEWEST, MOST_CORNERS, MOST_ROWS};
 use crate::step::WIDTH;
 
 const KIND: &str = "sweep: counts at their limits";
+/// The limits as words.
+const ROWS: Word = MOST_ROWS as Word;
+const CORNERS: Word = MOST_CORNERS as Word;
 /// Whole words outside every limit; cut to fewer bits, or taken three times, some would come back inside.
 const PAST: [Word; 6] = [1 << 32 | 4, 1 << 32 | 6, 1 << 62, Word::MIN, -1, Word::MAX / 3 + 5];
 
@@ -30,10 +34,10 @@ fn attempt<const N: usize>(bench: &mut Bench, call: usize, arguments: [&[Word]; 
 
 /// Coordinates for too few corners, enough and too many, and one or two numbers over.
 fn corners(bench: &mut Bench, chance: &mut Chance) {
-    for count in [0, 1, 3, 4, 5, 513, 514, 515, 516, 1_024] {
+    for count in [0, 1, 3, 4, 5, CORNERS - 1, CORNERS, CORNERS + 1, CORNERS + 2, ROWS] {
         for over in 0..3 {
             let coordinates: Vec<Word> = (0..3 * count + over).map(|_| chance.between(-300, 300)).collect();
-            let room = scribble(WIDTH as i64 * (count - 4), chance);
+            let room = scribble(WIDTH as i64 * (count - FEWEST as i64), chance);
             attempt(bench, THIN, [&[0], &[0], &t(), &coordinates, &room]);
             attempt(bench, VOLUME, [&t(), &coordinates]);
             attempt(bench, CHANGE, [&t(), &t(), &coordinates]);
@@ -44,7 +48,7 @@ fn corners(bench: &mut Bench, chance: &mut Chance) {
 
 /// Corner counts for growing back and replay.
 fn counts(bench: &mut Bench) {
-    for count in [0, 1, 3, 4, 5, 513, 514, 515].into_iter().chain(PAST) {
+    for count in [0, 1, 3, 4, 5, CORNERS - 1, CORNERS, CORNERS + 1].into_iter().chain(PAST) {
         attempt(bench, GROW_BACK, [&[4], &[count], &t(), &[]]);
         attempt(bench, REPLAY, [&[count], &t(), &[]]);
     }
@@ -52,9 +56,10 @@ fn counts(bench: &mut Bench) {
 
 /// Rows told, over a room of T again and again: four rows are a stage, more have their edges twice.
 fn rows_told(bench: &mut Bench, chance: &mut Chance) {
-    let long: Vec<Word> = t().into_iter().cycle().take(3 * 1_030).collect();
-    for told in [0, 1, 3, 4, 5, 8, 1_023, 1_024, 1_025, 1_030].into_iter().chain(PAST) {
-        let exact = usize::try_from(told).unwrap_or(0).min(1_030) * 3;
+    let over = MOST_ROWS + 6;
+    let long: Vec<Word> = t().into_iter().cycle().take(3 * over).collect();
+    for told in [0, 1, 3, 4, 5, 8, ROWS - 1, ROWS, ROWS + 1, over as Word].into_iter().chain(PAST) {
+        let exact = usize::try_from(told).unwrap_or(0).min(over) * 3;
         for length in [exact.saturating_sub(1), exact, exact + 1, long.len()] {
             let room = &long[..length.min(long.len())];
             attempt(bench, GROW_BACK, [&[told], &[chance.pick(&[4, 9])], room, &[]]);
@@ -64,12 +69,13 @@ fn rows_told(bench: &mut Bench, chance: &mut Chance) {
 
 /// Logs that grow T to the most rows and past it, in rooms just short and just enough.
 fn records_grown(bench: &mut Bench, chance: &mut Chance) {
-    for records in [1, 2, 509, 510, 511, 512, LONGEST_LIST / WIDTH] {
+    let most = (MOST_ROWS - FEWEST) / 2;
+    for records in [1, 2, most - 1, most, most + 1, most + 2, LONGEST_LIST / WIDTH] {
         let log = vec![0; WIDTH * records];
         for spare in [-1, 0, 1] {
             let length = (3 * (4 + 2 * records) as i64 + spare).min(LONGEST_LIST as i64);
             let room = [t(), scribble(length - 12, chance)].concat();
-            attempt(bench, GROW_BACK, [&[4], &[514], &room, &log]);
+            attempt(bench, GROW_BACK, [&[4], &[CORNERS], &room, &log]);
         }
     }
 }

@@ -1,13 +1,13 @@
 //! The ends of the protocol and of the desk's input: words outside their type, lists over their limit, other calls
 //! and units, requests cut short, input in pieces, input that is too long or never ends.
 
-use crate::answers::answer;
 use crate::bench::{Bench, END};
 use crate::chance::Chance;
 use crate::desk;
 use crate::harm::{asked, Input};
 use crate::make;
 use crate::protocol::*;
+use crate::refusal::BAD_FORM;
 use crate::sheet;
 use std::thread;
 use std::time::Duration;
@@ -53,7 +53,6 @@ fn must_end(bench: &mut Bench, kind: &str, bad: &[u8], behind: Behind, chance: &
         return;
     }
     let honest = small_request(chance.pick(&[THIN, VOLUME, LIMIT, CATCH_UP]), chance);
-    let expected = bytes_of(&answer(&honest).words());
     let words = bytes_of(&honest.words());
     let more: &[u8] = if behind == Behind::More { &words } else { &[] };
     let sent = [&words, bad, more].concat();
@@ -63,7 +62,7 @@ fn must_end(bench: &mut Bench, kind: &str, bad: &[u8], behind: Behind, chance: &
             calls.close();
         }
     });
-    bench.ends_verdict(kind, &sent, &expected, found);
+    bench.ends_verdict(kind, &sent, &[honest], found);
 }
 
 fn outside(kind: Kind) -> &'static [Word] {
@@ -150,7 +149,6 @@ fn at_the_limits(bench: &mut Bench, chance: &mut Chance) {
 fn pieces(bench: &mut Bench, chance: &mut Chance) {
     for round in 0..6 {
         let requests: Vec<Request> = (0..12).map(|_| small_request(1 + chance.below(CALLS.len()), chance)).collect();
-        let expected: Vec<u8> = requests.iter().flat_map(|r| bytes_of(&answer(r).words())).collect();
         let sent: Vec<u8> = requests.iter().flat_map(|r| bytes_of(&r.words())).collect();
         let mut cuts: Vec<usize> = (0..if round < 3 { 40 } else { 0 }).map(|_| chance.below(sent.len())).collect();
         cuts.extend([0, sent.len()]);
@@ -162,7 +160,7 @@ fn pieces(bench: &mut Bench, chance: &mut Chance) {
             }
             calls.close();
         });
-        bench.ends_verdict("ends: requests in pieces or at once", &sent, &expected, found);
+        bench.ends_verdict("ends: requests in pieces or at once", &sent, &requests, found);
     }
 }
 
@@ -170,17 +168,18 @@ fn pieces(bench: &mut Bench, chance: &mut Chance) {
 fn desk_ends(bench: &mut Bench, chance: &mut Chance) {
     let honest = Input::new(&make::skin_of_genus(1, 40, chance), &[]).sheet(chance);
     let honest: Vec<u8> = honest.into_iter().map(|word| word as u8).collect();
-    let line = b"SKIN\t6\t1025\n".to_vec();
-    for length in [sheet::LONGEST, sheet::LONGEST + 1, 70_000, 1 << 20] {
-        // With counts that are refused, 65,536 bytes give 2 and one more gives 12.
+    let line = format!("SKIN\t6\t{}\n", sheet::MOST_ROWS + 1).into_bytes();
+    for length in [sheet::MOST_BYTES, sheet::MOST_BYTES + 1, 70_000, 1 << 20] {
+        // With counts that are refused, the most bytes give 2 and one more gives 12.
         for front in [&honest, &line] {
             let mut long = front.clone();
             long.resize(length, b'\n');
             bench.try_desk("ends: a long sheet on the desk", &long);
-            if length <= 70_000 {
+            if length <= Kind::Bytes.longest() {
                 let bytes: Vec<Word> = long.iter().map(|&byte| byte.into()).collect();
-                let read = Request { call: READ_SHEET, arguments: vec![bytes.clone(), vec![0; 3_072], vec![0; 1_542]] };
-                bench.try_call("ends: a long sheet", &read);
+                let rooms = [vec![0; 3 * sheet::MOST_ROWS], vec![0; 3 * sheet::MOST_CORNERS]];
+                let arguments = [vec![bytes.clone()], rooms.to_vec()].concat();
+                bench.try_call("ends: a long sheet", &Request { call: READ_SHEET, arguments });
                 bench.try_call(
                     "ends: a long sheet",
                     &Request { call: DESK_ANSWER, arguments: vec![bytes, vec![7; 99]] },
@@ -220,5 +219,5 @@ fn desk_without_end(bench: &mut Bench, front: &[u8]) {
             }
         });
     });
-    bench.sent_verdict("ends: a sheet without end on the desk", "NO\t12\n", found);
+    bench.sent_verdict("ends: a sheet without end on the desk", &desk::no(BAD_FORM), found);
 }

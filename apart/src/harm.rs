@@ -3,8 +3,9 @@
 use crate::chance::Chance;
 use crate::make::{tetrahedron, Skin};
 use crate::protocol::*;
+use crate::refusal::{BAD_FORM, FAILS};
 use crate::sheet;
-use crate::skin::{corners_of, rows_of, Edges};
+use crate::skin::{corners_of, rows_of, Edges, FARTHEST, FEWEST, MOST_CORNERS, MOST_ROWS};
 use crate::step::{Record, WIDTH};
 use crate::typed;
 use std::collections::BTreeSet;
@@ -45,8 +46,8 @@ impl Harm {
             Unused => 9,
             Rings => 10,
             Connected => 11,
-            SheetSize | SheetFirstLine | SheetLines => 12,
-            Log => 13,
+            SheetSize | SheetFirstLine | SheetLines => BAD_FORM,
+            Log => FAILS,
         }
     }
 }
@@ -112,7 +113,7 @@ impl Input {
         let (unit, bits) = (self.order.0, self.order.1 as Word);
         let arguments = match call {
             THIN => {
-                let need = WIDTH as i64 * (self.coordinates.len() as i64 / 3 - 4);
+                let need = WIDTH as i64 * (self.coordinates.len() as i64 / 3 - FEWEST as i64);
                 vec![vec![unit], vec![bits], table, coordinates, scribble(need + self.spare, chance)]
             }
             GROW_BACK => {
@@ -214,15 +215,17 @@ pub fn harm(input: &mut Input, call: usize, harm: Harm, chance: &mut Chance) {
 
 fn coordinate_outside(on_sheet: bool, chance: &mut Chance) -> i32 {
     match on_sheet {
-        true => chance.pick(&[50_001, -50_001, 65_536, 999_999, -999_999]),
-        false => chance.pick(&[50_001, -50_001, 65_536, 115_536, i32::MAX, i32::MIN, i32::MIN + 1]),
+        true => chance.pick(&[FARTHEST + 1, -FARTHEST - 1, 1 << 16, sheet::GREATEST, -sheet::GREATEST]),
+        false => {
+            chance.pick(&[FARTHEST + 1, -FARTHEST - 1, 1 << 16, (1 << 16) + FARTHEST, i32::MAX, i32::MIN, i32::MIN + 1])
+        }
     }
 }
 
 fn number_outside(count: u32, on_sheet: bool, chance: &mut Chance) -> u32 {
     match on_sheet {
-        true => chance.pick(&[count, count + 1, 256 + count, 65_536, 999_999]),
-        false => chance.pick(&[count, count + 1, 65_536, 1 << 31, u32::MAX, u32::MAX - 1]),
+        true => chance.pick(&[count, count + 1, 256 + count, 1 << 16, sheet::GREATEST as u32]),
+        false => chance.pick(&[count, count + 1, 1 << 16, 1 << 31, u32::MAX, u32::MAX - 1]),
     }
 }
 
@@ -297,13 +300,13 @@ fn harm_counts(input: &mut Input, call: usize, chance: &mut Chance) {
         match chance.below(9) {
             0 if tables => drop(input.table.split_off(input.table.len() - 1 - chance.below(2))),
             1 if tables => input.table.extend(vec![0; 1 + chance.below(2)]),
-            2 if tables => input.table = input.table.iter().copied().cycle().take(3 * 1_025).collect(),
+            2 if tables => input.table = input.table.iter().copied().cycle().take(3 * (MOST_ROWS + 1)).collect(),
             3 if lists => drop(input.coordinates.split_off(input.coordinates.len() - 1 - chance.below(2))),
-            4 if lists => input.coordinates.resize(3 * 515, 0),
+            4 if lists => input.coordinates.resize(3 * (MOST_CORNERS + 1), 0),
             5 if lists => input.coordinates.push(0),
             6 if logs && chance.one_in(2) => input.log.extend(vec![0; 1 + chance.below(WIDTH - 1)]),
             6 if call == GROW_BACK => {
-                input.log.resize(WIDTH * (1_024usize.saturating_sub(input.table.len() / 3) / 2 + 1), 0)
+                input.log.resize(WIDTH * (MOST_ROWS.saturating_sub(input.table.len() / 3) / 2 + 1), 0)
             }
             7 if call == GROW_BACK => input.told = Some(hostile_count(input.table.len() as u64 / 3, chance)),
             7 if call == REPLAY => input.log.resize(WIDTH * (input.table.len() / 6 - 1), 0),
@@ -316,8 +319,9 @@ fn harm_counts(input: &mut Input, call: usize, chance: &mut Chance) {
 
 /// A count outside every limit; some come back inside when cut to 8 or 32 bits, or make three times it small.
 fn hostile_count(honest: u64, chance: &mut Chance) -> u64 {
-    let third = u64::MAX / 3 + 1;
-    chance.pick(&[0, 1, 3, 1_025, 4_096 + honest, (1 << 32) + honest, 1 << 62, 1 << 63, third + honest, u64::MAX])
+    let (most, third) = (MOST_ROWS as u64, u64::MAX / 3 + 1);
+    let cut = [4 * most + honest, (1 << 32) + honest];
+    chance.pick(&[0, 1, 3, most + 1, cut[0], cut[1], 1 << 62, 1 << 63, third + honest, u64::MAX])
 }
 
 /// Spoils the kept or removed number of a record so that it can't be accepted.
@@ -355,7 +359,7 @@ pub fn harm_log(log: &mut [u32], count: u32, chance: &mut Chance) {
 fn harm_text(text: &mut Vec<u8>, harm: Harm, chance: &mut Chance) {
     let first = text.iter().position(|&b| b == b'\n').map_or(0, |n| n + 1);
     match harm {
-        SheetSize => text.resize(sheet::LONGEST + 1 + chance.below(3), b'\n'),
+        SheetSize => text.resize(sheet::MOST_BYTES + 1 + chance.below(3), b'\n'),
         // The counts stay in the line, so that both can be wrong at once.
         SheetFirstLine => match chance.below(5) {
             0 => text[4] = b' ',
@@ -365,9 +369,9 @@ fn harm_text(text: &mut Vec<u8>, harm: Harm, chance: &mut Chance) {
             _ => text.insert(first - 1, b'\r'),
         },
         Counts => {
-            let line =
-                chance.pick(&["SKIN\t3\t8\n", "SKIN\t515\t8\n", "SKIN\t6\t3\n", "SKIN\t6\t1025\n", "SKIN\t0\t0\n"]);
-            text.splice(..first, line.bytes());
+            let counts = [(3, 8), (sheet::MOST_CORNERS + 1, 8), (6, 3), (6, sheet::MOST_ROWS + 1), (0, 0)];
+            let (corners, rows) = chance.pick(&counts);
+            text.splice(..first, format!("SKIN\t{corners}\t{rows}\n").bytes());
         }
         _ => {
             let at = first + chance.below(text.len() - first);

@@ -5,7 +5,7 @@ use crate::chance::Chance;
 use crate::harm::Input;
 use crate::make::Skin;
 use crate::protocol::*;
-use crate::skin::Row;
+use crate::skin::{Row, FARTHEST, MOST_CORNERS, MOST_ROWS};
 use crate::step::WIDTH;
 
 /// Small tables of any numbers, closed now and then by chance.
@@ -38,8 +38,9 @@ pub fn words(bench: &mut Bench, chance: &mut Chance) {
 
 fn any_words(kind: Kind, chance: &mut Chance) -> Vec<Word> {
     // Whole records, whole rows and whole corners are among them.
-    let length =
-        chance.pick(&[0, 1, 9, WIDTH, 12, 12, 15, 2 * WIDTH, 24, 3 * WIDTH, 10 * WIDTH, 1_542, 1_545, 3_072, 3_075]);
+    let few = [0, 1, 9, WIDTH, 12, 12, 15, 2 * WIDTH, 24, 3 * WIDTH, 10 * WIDTH];
+    let most = [3 * MOST_CORNERS, 3 * MOST_CORNERS + 3, 3 * MOST_ROWS, 3 * MOST_ROWS + 3];
+    let length = chance.pick(&[&few[..], &most].concat());
     let mut one = |ends: &[Word], most: usize| match chance.one_in(4) {
         true => chance.pick(ends),
         false => chance.below(most) as Word,
@@ -47,14 +48,19 @@ fn any_words(kind: Kind, chance: &mut Chance) -> Vec<Word> {
     match kind {
         Kind::OrderUnit => vec![chance.between(0, LAST_UNIT)],
         Kind::LimitUnit => vec![chance.between(1, LAST_UNIT)],
-        Kind::Whole => vec![one(&[0, 3, 4, 514, 515, 1_024, 1_025, -1, Word::MIN, 1 << 32, 1 << 62], 600)],
+        Kind::Whole => {
+            let (rows, corners) = (MOST_ROWS as Word, MOST_CORNERS as Word);
+            let ends = [0, 3, 4, corners, corners + 1, rows, rows + 1, -1, Word::MIN, 1 << 32, 1 << 62];
+            vec![one(&ends, 600)]
+        }
         Kind::Number => vec![one(&[u32::MAX.into(), 1 << 31], 20)],
         Kind::Numbers => (0..length).map(|_| one(&[u32::MAX.into(), 1 << 31, 0], 6)).collect(),
         Kind::Coordinates => {
-            let ends = [i32::MAX.into(), i32::MIN.into(), 50_000, -50_000, 50_001];
-            let few = [50_000, -50_000];
+            let far = Word::from(FARTHEST);
+            let ends = [i32::MAX.into(), i32::MIN.into(), far, -far, far + 1];
+            let few = [far, -far];
             let wild = one(&[1], 2) == 1;
-            (0..length).map(|_| one(if wild { &ends } else { &few }, 50_000)).collect()
+            (0..length).map(|_| one(if wild { &ends } else { &few }, FARTHEST as usize)).collect()
         }
         Kind::Bytes => (0..length).map(|_| one(&[0, 255, 9, 10], 256)).collect(),
     }

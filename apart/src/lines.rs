@@ -5,15 +5,15 @@ use crate::bench::{Bench, PATIENCE};
 use crate::harm::words;
 use crate::limit::{CENTIMETRES, FEET, METRES};
 use crate::make::{octahedron, seven_corner_torus, tetrahedron};
-use crate::parts::grid;
+use crate::parts::{grid, MOST_ROWS_GRID};
 use crate::place::largest_sum;
 use crate::protocol::*;
-use crate::skin::{Corner, Row};
+use crate::refusal::FAILS;
+use crate::skin::{Corner, Row, FARTHEST, FEWEST};
 use crate::step::{Record, WIDTH};
 use crate::trial::{coordinates, O_CORNERS, O_LEFT, O_LOG};
 
 const NO_LIMIT: (i64, f64) = (0, 0.0);
-const FAILS: Word = 13;
 
 /// Compares what the program writes with the lines worked out.
 pub fn run(bench: &mut Bench, path: &str) {
@@ -95,10 +95,12 @@ fn tables() -> Vec<String> {
     };
     let (o, t) = (octahedron(), tetrahedron());
     let at_o = || coordinates(&O_CORNERS);
-    let torus = grid(32, 16);
+    let (down, across) = MOST_ROWS_GRID;
+    let torus = grid(down, across);
     let under_zero = |name: &str, rows: &[Row]| {
-        let room = vec![0; 508 * WIDTH];
-        thinned(name, &thin((CENTIMETRES, 0.0), &rows.concat(), coordinates(&largest_sum(32, 16)), room))
+        let corners = largest_sum(down, across);
+        let room = vec![0; WIDTH * (corners.len() - FEWEST)];
+        thinned(name, &thin((CENTIMETRES, 0.0), &rows.concat(), coordinates(&corners), room))
     };
     let far = |x: i32, z: i32| coordinates(&[[0; 3], [x, 0, 0], [0, 300, 0], [0, 0, z]]);
     let moved =
@@ -110,10 +112,10 @@ fn tables() -> Vec<String> {
         line("O's first three rows", &o[..3], at_o()),
         line("O without its last coordinate", &o, at_o()[..17].to_vec()),
         under_zero("1,024 rows", &torus),
-        under_zero("1,025 rows", &[torus.clone(), vec![[0, 16, 17]]].concat()),
-        line("T to 50,000 and -50,000", &t, far(50_000, -50_000)),
-        line("T to 50,001", &t, far(50_001, 300)),
-        line("T to -50,001", &t, far(300, -50_001)),
+        under_zero("1,025 rows", &[torus.clone(), torus[..1].to_vec()].concat()),
+        line("T to 50,000 and -50,000", &t, far(FARTHEST, -FARTHEST)),
+        line("T to 50,001", &t, far(FARTHEST + 1, 300)),
+        line("T to -50,001", &t, far(300, -FARTHEST - 1)),
         line("two tetrahedra that share a corner", &shared, zeros(7)),
         line("and a corner that no row uses", &shared, zeros(8)),
         line("two tetrahedra apart", &apart, zeros(8)),
@@ -206,7 +208,8 @@ fn the_trial_ring() -> Vec<String> {
 
 /// The largest sum that a table can have, and the same with the sign turned.
 fn largest_sums() -> Vec<String> {
-    let corners = largest_sum(32, 16);
+    let (down, across) = MOST_ROWS_GRID;
+    let (rows, corners) = (grid(down, across), largest_sum(down, across));
     let mirrored: Vec<Corner> = corners.iter().map(|&[x, y, z]| [-x, y, z]).collect();
-    vec![volume("1,024 rows at the limits", &grid(32, 16), &corners), volume("and mirrored", &grid(32, 16), &mirrored)]
+    vec![volume("1,024 rows at the limits", &rows, &corners), volume("and mirrored", &rows, &mirrored)]
 }

@@ -4,6 +4,7 @@
 use apart::bench::{desk_difference, Bench, END, PATIENCE};
 use apart::chance::Chance;
 use apart::protocol::{bytes_of, Request};
+use apart::spoil::Spoiler;
 use apart::tally::{difference, words_of};
 use apart::{answers, counts, desk, ends, lines, order, round, serve, sheets, sums, sweep, trial};
 use std::io::Read;
@@ -11,7 +12,9 @@ use std::process::ExitCode;
 
 const USAGE: &str = "usage: apart CALLS DESK TRIALS [COUNT] [SEED]
        apart again CALLS WORDS | apart again-desk DESK WORDS   (- reads the words from standard input)
-       apart serve | apart desk";
+       apart part NAME CALLS DESK COUNT SEED   (one part of the run; `apart parts` lists them)
+       apart serve | apart desk   (the two programs, answered by this one's rules)
+       apart spoiled SEED RESPONSES FOLDER   (the first of them, one word of one of so many responses spoiled)";
 /// A run of this many calls must have met every refusal.
 const WHOLE_RUN: usize = 20_000;
 const SEED: u64 = 2_024;
@@ -22,7 +25,22 @@ fn main() -> ExitCode {
     let arguments: Vec<String> = std::env::args().skip(1).collect();
     let given: Vec<&str> = arguments.iter().map(String::as_str).collect();
     match given[..] {
-        ["serve"] => code(serve::calls().is_ok()),
+        ["serve"] => code(serve::calls(None).is_ok()),
+        ["spoiled", seed, responses, folder] => match (number(seed), number(responses)) {
+            (Some(seed), Some(n)) => code(serve::calls(Some(Spoiler::new(seed, n as usize, folder))).is_ok()),
+            _ => usage(),
+        },
+        ["parts"] => {
+            PARTS.iter().for_each(|(name, _)| println!("{name}"));
+            ExitCode::SUCCESS
+        }
+        ["part", name, calls, desk, count, seed] => {
+            let part = PARTS.iter().position(|(known, _)| known == &name);
+            match (part, number(count), number(seed)) {
+                (Some(part), Some(count), Some(seed)) => code(one_part(part, [calls, desk], count as usize, seed)),
+                _ => usage(),
+            }
+        }
         ["desk"] => code(serve::desk().is_ok()),
         ["again", path, words] => code(again(path, words)),
         ["again-desk", path, words] => code(again_desk(path, words)),
@@ -55,38 +73,60 @@ fn number(text: &str) -> Option<u64> {
     text.replace(',', "").parse().ok()
 }
 
-/// The whole run: the lines of `trials`, 01's cases, the ends, the order of refusals, the sweeps, then rounds of chance up to the count.
+/// A part of the run, from a seed.
+type Part = fn(&mut Bench, u64);
+
+/// The parts after the lines of `trials`: 01's cases, the order of refusals, the sweeps, the ends, then rounds of chance up to the count.
+const PARTS: [(&str, Part); 11] = [
+    ("trial", |bench, seed| trial::run(bench, &mut own(seed, 0))),
+    ("alone", |bench, seed| order::alone(bench, &mut own(seed, 1))),
+    ("order", |bench, seed| order::run(bench, 3, &mut own(seed, 2))),
+    ("counts", |bench, seed| counts::run(bench, &mut own(seed, 3))),
+    ("sweep", |bench, seed| sweep::run(bench, &mut own(seed, 4))),
+    ("sums", |bench, seed| sums::run(bench, &mut own(seed, 5))),
+    ("sheets", |bench, seed| sheets::run(bench, &mut own(seed, 6))),
+    ("ends", |bench, seed| ends::run(bench, &mut own(seed, 7))),
+    ("returning", |bench, seed| round::returning(bench, &mut own(seed, 8))),
+    ("greatest", |bench, seed| round::greatest(bench, &mut own(seed, 9))),
+    ("rounds", rounds),
+];
+
+/// A part has chance of its own, so that it does not hang on those before it.
+fn own(seed: u64, part: u64) -> Chance {
+    Chance::new(seed ^ part << 56)
+}
+
+/// Each round has chance of its own, so that it can be made again without those before it.
+fn rounds(bench: &mut Bench, seed: u64) {
+    let mut number = 0;
+    while !bench.enough() {
+        let mut chance = Chance::new(seed.wrapping_mul(0x0100_0000_01b3) ^ number);
+        round::run(bench, number % LARGE_ROUNDS == LARGE_ROUNDS - 1, &mut chance);
+        number += 1;
+    }
+}
+
+/// The whole run: the lines of `trials`, then every part.
 fn run([calls, desk, trials]: [&str; 3], count: usize, seed: u64) -> bool {
     let mut bench = Bench::new(calls, desk, count, format!("apart {calls} {desk} {trials} {count} {seed}"));
     println!("seed {seed}");
     lines::run(&mut bench, trials);
-    let parts: [fn(&mut Bench, &mut Chance); 10] = [
-        trial::run,
-        order::alone,
-        |bench, chance| order::run(bench, 3, chance),
-        counts::run,
-        sweep::run,
-        sums::run,
-        sheets::run,
-        ends::run,
-        round::returning,
-        round::greatest,
-    ];
-    for (at, part) in parts.into_iter().enumerate() {
+    for (_, part) in PARTS {
         if !bench.enough() {
-            part(&mut bench, &mut Chance::new(seed ^ (at as u64) << 56));
+            part(&mut bench, seed);
         }
-    }
-    // Each round has chance of its own, so that it can be made again without those before it.
-    let mut number = 0;
-    while !bench.enough() {
-        let mut chance = Chance::new(seed.wrapping_mul(0x0100_0000_01b3) ^ number);
-        round::run(&mut bench, number % LARGE_ROUNDS == LARGE_ROUNDS - 1, &mut chance);
-        number += 1;
     }
     if count >= WHOLE_RUN {
         bench.tally.ask_for_all();
     }
+    bench.tally.close()
+}
+
+/// One part alone.
+fn one_part(part: usize, [calls, desk]: [&str; 2], count: usize, seed: u64) -> bool {
+    let (name, part) = PARTS[part];
+    let mut bench = Bench::new(calls, desk, count, format!("apart part {name} {calls} {desk} {count} {seed}"));
+    part(&mut bench, seed);
     bench.tally.close()
 }
 

@@ -3,7 +3,9 @@
 use crate::chance::Chance;
 use crate::parts::grid;
 use crate::place;
+use crate::sheet;
 use crate::skin::{Corner, Row};
+use crate::tally::MANY_ROWS;
 use std::collections::HashMap;
 
 #[derive(Clone)]
@@ -272,10 +274,10 @@ pub fn size(chance: &mut Chance) -> usize {
     }
 }
 
-/// How many rows of a large skin.
+/// How many rows of a large skin, up to what a sheet holds: its calls are tried on large skins too.
 pub fn large_size(chance: &mut Chance) -> usize {
     match chance.below(4) {
-        0 => 1_024 - chance.below(6),
-        _ => 257 + chance.below(768),
+        0 => sheet::MOST_ROWS - chance.below(6),
+        _ => MANY_ROWS + 1 + chance.below(sheet::MOST_ROWS - MANY_ROWS),
     }
 }

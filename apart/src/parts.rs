@@ -1,6 +1,10 @@
 //! The smaller parts: the ring chooser, the catch-up part, the trial ring.
 
-use crate::skin::Row;
+use crate::skin::{Row, MOST_ROWS};
+
+/// The sides of a torus with the most rows.
+pub const MOST_ROWS_GRID: (u32, u32) = (32, 16);
+const _: () = assert!(2 * (MOST_ROWS_GRID.0 * MOST_ROWS_GRID.1) as usize == MOST_ROWS);
 
 /// The shorter ring, the first when they are equally long.
 pub fn shorter_ring<'a>(first: &'a [i64], second: &'a [i64]) -> &'a [i64] {

@@ -137,6 +137,11 @@ impl Request {
         &CALLS[self.call - 1]
     }
 
+    /// What a failure calls it.
+    pub fn named(&self) -> String {
+        format!("{} (call {})", self.shape().name, self.call)
+    }
+
     pub fn words(&self) -> Vec<Word> {
         let mut words = vec![self.call as Word];
         for (argument, given) in self.shape().arguments.iter().zip(&self.arguments) {

@@ -9,7 +9,7 @@ use crate::logs::{growth, some_edge, steps};
 use crate::make::{self, Skin};
 use crate::protocol::*;
 use crate::sheets;
-use crate::skin::Row;
+use crate::skin::{Row, FARTHEST, MOST_CORNERS, MOST_ROWS};
 use crate::step::{contract, thin, Record, EARLIER, LATER, WIDTH};
 use crate::typed;
 
@@ -114,7 +114,7 @@ fn grown(bench: &mut Bench, skin: &Skin, chance: &mut Chance) {
     let mut input = Input::new(skin, &log);
     if chance.one_in(2) {
         // Corners that no table has used so far may come in as well.
-        let count = skin.corners.len() + chance.below(515 - skin.corners.len());
+        let count = skin.corners.len() + chance.below(MOST_CORNERS + 1 - skin.corners.len());
         let free = growth(&left, count, 1 + chance.below(log.len() + 2), chance);
         bench.tally.meet_if(!free.is_empty(), "a stage grown freely");
         input.log = free.concat();
@@ -206,10 +206,10 @@ fn measured(bench: &mut Bench, skin: &Skin, chance: &mut Chance) {
     }
     if chance.one_in(3) {
         // Corners that no row uses: only their range is asked.
-        let more = chance.below(515 - skin.corners.len());
-        let far = chance.pick(&[0, 50_000, -50_000, 50_001]);
+        let more = chance.below(MOST_CORNERS + 1 - skin.corners.len());
+        let far = chance.pick(&[0, FARTHEST, -FARTHEST, FARTHEST + 1]);
         input.coordinates.extend(vec![far; 3 * more]);
-        bench.tally.meet_if(more > 0 && far != 50_001, "an accepted stage with unused corners");
+        bench.tally.meet_if(more > 0 && far <= FARTHEST, "an accepted stage with unused corners");
     }
     bench.try_call("chance: measured", &input.request(VOLUME, chance));
     bench.try_call("chance: measured", &input.request(CHANGE, chance));
@@ -268,7 +268,7 @@ fn parts(bench: &mut Bench, chance: &mut Chance) {
 /// Whole runs at the greatest size, down to the end and back.
 pub fn greatest(bench: &mut Bench, chance: &mut Chance) {
     for genus in [0, 1] {
-        let skin = make::skin_of_genus(genus, 1_024, chance);
+        let skin = make::skin_of_genus(genus, MOST_ROWS, chance);
         check::run(bench, &skin, (0, 0), chance);
     }
 }

@@ -3,11 +3,12 @@
 use crate::answers::answer;
 use crate::desk;
 use crate::protocol::{bytes_of, Request};
-use crate::sheet::LONGEST;
+use crate::sheet::MOST_BYTES;
+use crate::spoil::Spoiler;
 use std::io::{self, BufReader, Read, Write};
 
-/// Answers requests until the input ends or a request is none.
-pub fn calls() -> io::Result<()> {
+/// Answers requests until the input ends or a request is none; a spoiler, where there is one, has each response before it goes out.
+pub fn calls(spoiler: Option<Spoiler>) -> io::Result<()> {
     let mut input = BufReader::new(io::stdin().lock());
     let mut output = io::stdout().lock();
     let mut next = || {
@@ -15,7 +16,11 @@ pub fn calls() -> io::Result<()> {
         input.read_exact(&mut word).ok().map(|()| i64::from_le_bytes(word))
     };
     while let Some(request) = Request::read(&mut next) {
-        output.write_all(&bytes_of(&answer(&request).words()))?;
+        let mut response = answer(&request);
+        if let Some(spoiler) = &spoiler {
+            spoiler.pass(&request, &mut response)?;
+        }
+        output.write_all(&bytes_of(&response.words()))?;
         output.flush()?;
     }
     Ok(())
@@ -24,6 +29,6 @@ pub fn calls() -> io::Result<()> {
 /// Reads one sheet, no further than it takes to see that it is too long, and writes the desk's text.
 pub fn desk() -> io::Result<()> {
     let mut bytes = Vec::new();
-    io::stdin().lock().take(LONGEST as u64 + 1).read_to_end(&mut bytes)?;
+    io::stdin().lock().take(MOST_BYTES as u64 + 1).read_to_end(&mut bytes)?;
     io::stdout().lock().write_all(desk::text(&bytes).as_bytes())
 }

@@ -1,22 +1,28 @@
 //! The sheet: its form, read strictly by lines and fields, and written.
 
-use crate::skin::{Corner, Row, CORNERS, ROWS};
+use crate::refusal::BAD_FORM;
+use crate::skin::{Corner, Row, FEWEST};
 
-pub const LONGEST: usize = 65_536;
-const BAD_FORM: i64 = 12;
+/// The sheet's own limits: it is held in memory whole, and does not grow with what the library takes.
+pub const MOST_ROWS: usize = 1_024;
+pub const MOST_CORNERS: usize = 514;
+pub const MOST_BYTES: usize = 65_536;
+pub const MOST_DIGITS: usize = 6;
+/// The greatest number that so many digits can write.
+pub const GREATEST: i32 = 10i32.pow(MOST_DIGITS as u32) - 1;
 
 pub struct Sheet {
     pub corners: Vec<Corner>,
     pub rows: Vec<Row>,
 }
 
-/// One to six digits, no needless zero in front, a minus only before a nonzero coordinate.
+/// One digit to the most, no needless zero in front, a minus only before a nonzero coordinate.
 fn number(field: &[u8], coordinate: bool) -> Option<i32> {
     let (minus, digits) = match field.strip_prefix(b"-") {
         Some(digits) => (true, digits),
         None => (false, field),
     };
-    let plain = (1..=6).contains(&digits.len()) && digits.iter().all(u8::is_ascii_digit);
+    let plain = (1..=MOST_DIGITS).contains(&digits.len()) && digits.iter().all(u8::is_ascii_digit);
     let needless = digits.len() > 1 && digits[0] == b'0';
     if !plain || needless || (minus && (!coordinate || digits == b"0")) {
         return None;
@@ -39,12 +45,12 @@ fn line<const N: usize>(bytes: &mut &[u8], name: &[u8], coordinates: bool) -> Op
 
 /// Size, first line (12), counts (2), other lines (12).
 pub fn read(bytes: &[u8]) -> Result<Sheet, i64> {
-    if bytes.len() > LONGEST {
+    if bytes.len() > MOST_BYTES {
         return Err(BAD_FORM);
     }
     let mut left = bytes;
     let [corners, rows] = line::<2>(&mut left, b"SKIN", false).ok_or(BAD_FORM)?;
-    if !CORNERS.contains(&(corners as usize)) || !ROWS.contains(&(rows as usize)) {
+    if !(FEWEST..=MOST_CORNERS).contains(&(corners as usize)) || !(FEWEST..=MOST_ROWS).contains(&(rows as usize)) {
         return Err(2);
     }
     let corners: Option<Vec<Corner>> = (0..corners).map(|_| line(&mut left, b"C", true)).collect();

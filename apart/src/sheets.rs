@@ -7,6 +7,7 @@ use crate::harm::{asked, harm, scribble, scribble_bytes, Input};
 use crate::make::{tetrahedron, Skin};
 use crate::protocol::*;
 use crate::sheet;
+use crate::skin::FARTHEST;
 
 pub fn run(bench: &mut Bench, chance: &mut Chance) {
     bytes(bench, chance);
@@ -29,7 +30,7 @@ fn try_sheet(bench: &mut Bench, kind: &str, text: &[u8], chance: &mut Chance) {
 }
 
 fn small_sheet() -> Vec<u8> {
-    sheet::write(&[[0, 0, 0], [300, -5, 0], [0, 12, 0], [0, 0, -50_000]], &tetrahedron())
+    sheet::write(&[[0, 0, 0], [300, -5, 0], [0, 12, 0], [0, 0, -FARTHEST]], &tetrahedron())
 }
 
 /// Every byte of T's sheet replaced, left out, doubled, and everything after it cut off.
@@ -126,7 +127,8 @@ pub fn spoiled(bench: &mut Bench, skin: &Skin, chance: &mut Chance) {
         }
     }
     let bytes: Vec<Word> = text.iter().map(|&byte| byte.into()).collect();
-    let rooms = [scribble(3_072, chance), (0..1_542).map(|_| Word::from(chance.next() as i32)).collect()];
+    let (table, corners) = (3 * sheet::MOST_ROWS as i64, 3 * sheet::MOST_CORNERS);
+    let rooms = [scribble(table, chance), (0..corners).map(|_| Word::from(chance.next() as i32)).collect()];
     let arguments = [vec![bytes], rooms.to_vec()].concat();
     bench.try_call("chance: spoiled sheets", &Request { call: READ_SHEET, arguments });
 }

@@ -7,9 +7,14 @@ use std::rc::Rc;
 pub type Row = [u32; 3];
 pub type Corner = [i32; 3];
 
-pub const ROWS: RangeInclusive<usize> = 4..=1_024;
-pub const CORNERS: RangeInclusive<usize> = 4..=514;
+/// The library's limits; a sheet has its own. The fewest rows are also the fewest corners.
+pub const FEWEST: usize = 4;
+pub const MOST_ROWS: usize = 1_024;
+pub const MOST_CORNERS: usize = 514;
+/// How far a coordinate may lie from zero.
 pub const FARTHEST: i32 = 50_000;
+pub const ROWS: RangeInclusive<usize> = FEWEST..=MOST_ROWS;
+pub const CORNERS: RangeInclusive<usize> = FEWEST..=MOST_CORNERS;
 
 /// A first table uses every corner; a stage need not.
 #[derive(Clone, Copy, PartialEq)]

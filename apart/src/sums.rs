@@ -6,10 +6,10 @@ use crate::check::nearest;
 use crate::figures::sixfold_volume;
 use crate::harm::words;
 use crate::make::tetrahedron;
-use crate::parts::grid;
+use crate::parts::{grid, MOST_ROWS_GRID};
 use crate::place;
 use crate::protocol::*;
-use crate::skin::{Corner, Row};
+use crate::skin::{Corner, Row, FARTHEST};
 
 /// A quarter of a cubic metre, sixfold: a table turned inside out changes by a half.
 const QUARTER: i128 = 1_500_000;
@@ -68,13 +68,14 @@ fn halves(bench: &mut Bench, chance: &mut Chance) {
     }
 }
 
-/// The largest sums and changes that tables can have: up to 1,024 rows of 4 x 50,000^3 each.
+/// The largest sums and changes that tables can have: up to the most rows, each of four times the farthest coordinate's cube.
 fn largest(bench: &mut Bench) {
-    for (down, across) in [(4, 4), (8, 8), (16, 32), (32, 16), (8, 64)] {
+    let (long, short) = MOST_ROWS_GRID;
+    for (down, across) in [(4, 4), (8, 8), (short, long), (long, short), (short / 2, 2 * long)] {
         let rows = grid(down, across);
         let corners = place::largest_sum(down, across);
         let sum = sixfold_volume(&rows, &corners);
-        let wanted = sum.signum() * rows.len() as i128 * 4 * 50_000i128.pow(3);
+        let wanted = sum.signum() * rows.len() as i128 * 4 * i128::from(FARTHEST).pow(3);
         measure(bench, "sums: the largest", &rows, &corners, wanted);
     }
 }

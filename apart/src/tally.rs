@@ -3,6 +3,8 @@
 use crate::protocol::{
     Request, Response, Word, CALLS, CHANGE, DESK_ANSWER, GROW_BACK, READ_SHEET, REPLAY, THIN, VOLUME,
 };
+use crate::refusal;
+use crate::skin::MOST_ROWS;
 use crate::step::WIDTH;
 use std::collections::BTreeMap;
 
@@ -34,8 +36,8 @@ const MUST_MEET: [&str; 16] = [
     "genus 4",
     "genus 5",
     "a shaft",
-    "1,024 rows",
-    "514 corners",
+    "the most rows",
+    "the most corners",
     "a limit that returned to a lower corner",
     "a sum at a half above zero",
     "a sum at a half below zero",
@@ -81,11 +83,11 @@ impl Tally {
             *self.refusals.entry(status).or_default() += 1;
         }
         let rows = rows_worked(request);
-        if ![1, 2, 3, 12].contains(&status) {
+        if !refusal::BEFORE_ROWS.contains(&status) {
             self.many_rows += usize::from(rows > MANY_ROWS);
-            self.meet_if(rows == 1_024, "1,024 rows");
+            self.meet_if(rows == MOST_ROWS, "the most rows");
         }
-        let partly = status == 13 && expected.answer[1] > 0;
+        let partly = status == refusal::FAILS && expected.answer[1] > 0;
         self.meet_if(partly && request.call == GROW_BACK, "growing back that did some records before 13");
         self.meet_if(partly && request.call == REPLAY, "replay that did some records before 13");
     }
@@ -108,7 +110,7 @@ impl Tally {
 
     /// A refusal, or another kind of input, that a whole run never met is a failure of its own.
     pub fn ask_for_all(&mut self) {
-        for number in 1..=13 {
+        for number in refusal::ALL {
             let never = !self.refusals.contains_key(&number);
             self.verdict("every refusal met", never.then(|| format!("refusal {number} never occurred")), String::new);
         }
@@ -166,13 +168,8 @@ pub fn difference(request: &Request, expected: &Response, found: &Response) -> O
         let at = (0..expected.len().max(found.len())).find(|&at| expected.get(at) != found.get(at));
         if let Some(at) = at {
             let say = |word: Option<&Word>| word.map_or("nothing".to_string(), Word::to_string);
-            return Some(format!(
-                "{} (call {}): word {at} of {name}: expected {}, found {}",
-                request.shape().name,
-                request.call,
-                say(expected.get(at)),
-                say(found.get(at))
-            ));
+            let (named, expected, found) = (request.named(), say(expected.get(at)), say(found.get(at)));
+            return Some(format!("{named}: word {at} of {name}: expected {expected}, found {found}"));
         }
     }
     None

@@ -1,8 +1,11 @@
 //! Growing back and replay in ordinary Rust.
 
-use crate::check::{self, next, Chains, Refused, CORNERS, ROWS};
-use crate::thin::{contract, may_contract, record, WIDTH};
+use crate::check::{self, next, Chains, Refused};
+use crate::thin::{contract, may_contract, record};
 use crate::work::Work;
+use apart::refusal::FAILS;
+use apart::skin::{CORNERS, FEWEST, MOST_CORNERS, MOST_ROWS, ROWS};
+use apart::step::WIDTH;
 
 /// How many records were done, and whether that is all of them.
 pub type Done = Result<usize, (Refused, usize)>;
@@ -30,7 +33,7 @@ fn put_row(room: &mut [u32], rows: usize, placed: &[u32], work: &mut impl Work) 
 /// Grows one record back where it is accepted.
 fn grow(room: &mut [u32], rows: usize, corners: usize, record: &[u32], work: &mut impl Work) -> Option<()> {
     let (table, kept, removed) = (&mut room[..3 * rows], record[0], record[1]);
-    let mut round = [0; CORNERS];
+    let mut round = [0; MOST_CORNERS];
     for slot in 0..table.len() {
         if table[slot] == kept {
             round[table[next(slot)] as usize] = slot + 1;
@@ -39,7 +42,7 @@ fn grow(room: &mut [u32], rows: usize, corners: usize, record: &[u32], work: &mu
     work.slots(2 * table.len());
     let (earlier, later) = (record[2] as usize, record[6] as usize);
     let sound =
-        kept < removed && (removed as usize) < corners && earlier < later && later < rows + 2 && rows + 2 <= ROWS;
+        kept < removed && (removed as usize) < corners && earlier < later && later < rows + 2 && rows + 2 <= MOST_ROWS;
     if !sound || table.contains(&removed) {
         return None;
     }
@@ -63,10 +66,8 @@ fn grow(room: &mut [u32], rows: usize, corners: usize, record: &[u32], work: &mu
 /// The call: the log's records undone on the rows that stand in front of a room, the last first.
 pub fn grow_back(room: &mut [u32], rows: usize, corners: usize, log: &[u32], work: &mut impl Work) -> Done {
     let records = log.len() / WIDTH;
-    let fits = (4..=ROWS).contains(&rows)
-        && (4..=CORNERS).contains(&corners)
-        && log.len() % WIDTH == 0
-        && rows + 2 * records <= ROWS;
+    let fits =
+        ROWS.contains(&rows) && CORNERS.contains(&corners) && log.len() % WIDTH == 0 && rows + 2 * records <= MOST_ROWS;
     if !fits {
         return Err((2, 0));
     }
@@ -75,7 +76,7 @@ pub fn grow_back(room: &mut [u32], rows: usize, corners: usize, log: &[u32], wor
     }
     check::stage(&room[..3 * rows], corners, work).map_err(|refusal| (refusal, 0))?;
     for (done, record) in log.chunks_exact(WIDTH).rev().enumerate() {
-        grow(room, rows + 2 * done, corners, record, work).ok_or((13, done))?;
+        grow(room, rows + 2 * done, corners, record, work).ok_or((FAILS as Refused, done))?;
     }
     Ok(records)
 }
@@ -94,14 +95,14 @@ fn accepts(table: &[u32], corners: usize, wanted: &[u32], work: &mut impl Work) 
 /// The call: the log's records done again, the first first.
 pub fn replay(table: &mut [u32], corners: usize, log: &[u32], work: &mut impl Work) -> Done {
     let records = log.len() / WIDTH;
-    if !check::counts_fit(table, corners) || log.len() % WIDTH != 0 || table.len() / 3 < 4 + 2 * records {
+    if !check::counts_fit(table, corners) || log.len() % WIDTH != 0 || table.len() / 3 < FEWEST + 2 * records {
         return Err((2, 0));
     }
     check::stage(table, corners, work).map_err(|refusal| (refusal, 0))?;
     let mut end = table.len();
     for (done, wanted) in log.chunks_exact(WIDTH).enumerate() {
         if !accepts(&table[..end], corners, wanted, work) {
-            return Err((13, done));
+            return Err((FAILS as Refused, done));
         }
         // The step tells its record once more, as the proved one does.
         std::hint::black_box(record(&table[..end], wanted[0], wanted[1], work));

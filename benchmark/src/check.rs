@@ -1,23 +1,21 @@
 //! The check of a table in ordinary Rust: counts, ranges, each directed edge once and with its reverse, one ring round each corner, connected.
 
 use crate::work::Work;
+use apart::skin::{CORNERS, FARTHEST, MOST_CORNERS, MOST_ROWS, ROWS};
 
-pub const ROWS: usize = 1_024;
-pub const CORNERS: usize = 514;
-pub const SLOTS: usize = 3 * ROWS;
-const FARTHEST: i32 = 50_000;
+pub const SLOTS: usize = 3 * MOST_ROWS;
 
 /// A refusal's number.
 pub type Refused = u32;
 
 /// For each corner one more than its last slot, and for each slot the same of the one before it with the same corner; 0 is none.
 pub struct Chains {
-    pub last: [usize; CORNERS],
+    pub last: [usize; MOST_CORNERS],
     pub prev: [usize; SLOTS],
 }
 
 impl Chains {
-    pub const EMPTY: Chains = Chains { last: [0; CORNERS], prev: [0; SLOTS] };
+    pub const EMPTY: Chains = Chains { last: [0; MOST_CORNERS], prev: [0; SLOTS] };
 
     pub fn link(&mut self, table: &[u32], work: &mut impl Work) {
         for (slot, &corner) in table.iter().enumerate() {
@@ -52,7 +50,7 @@ fn reverses(
     reverse: &mut [usize; SLOTS],
     work: &mut impl Work,
 ) -> Result<(), Refused> {
-    let mut ends = [0; CORNERS];
+    let mut ends = [0; MOST_CORNERS];
     for corner in 0..corners {
         let found = |end: usize| if end > 0 && table[end - 1] as usize == corner { end } else { 0 };
         for slot in chains.slots(corner) {
@@ -90,8 +88,8 @@ fn one_ring(table: &[u32], corners: usize, chains: &Chains, reverse: &[usize; SL
 
 /// Whether any used corner is reached from any other.
 fn connected(table: &[u32], chains: &Chains, work: &mut impl Work) -> bool {
-    let mut marked = [false; CORNERS];
-    let mut queue = [0; CORNERS];
+    let mut marked = [false; MOST_CORNERS];
+    let mut queue = [0; MOST_CORNERS];
     let start = table[0] as usize;
     marked[start] = true;
     queue[0] = start;
@@ -127,7 +125,7 @@ fn rows(table: &[u32], corners: usize, first: bool, work: &mut impl Work) -> Res
 }
 
 pub fn counts_fit(table: &[u32], corners: usize) -> bool {
-    table.len() % 3 == 0 && (4..=ROWS).contains(&(table.len() / 3)) && (4..=CORNERS).contains(&corners)
+    table.len() % 3 == 0 && ROWS.contains(&(table.len() / 3)) && CORNERS.contains(&corners)
 }
 
 /// A stage's table with a told corner count.

@@ -10,6 +10,8 @@ mod thin;
 mod work;
 
 use apart::make::Skin;
+use apart::skin::FEWEST;
+use apart::step::WIDTH;
 use flaxglimmer as proved;
 use flaxglimmer::Length;
 use std::hint::black_box;
@@ -54,9 +56,9 @@ impl Input {
     fn of(skin: &Skin) -> Input {
         let (table, corners) = (skin.table(), skin.coordinates());
         let mut last = table.clone();
-        let mut log = vec![0; thin::WIDTH * (skin.corners.len() - 4)];
+        let mut log = vec![0; WIDTH * (skin.corners.len() - FEWEST)];
         let records = proved::thin(&mut last, &corners, None, &mut log).expect("a skin is thinned");
-        log.truncate(thin::WIDTH * records);
+        log.truncate(WIDTH * records);
         last.truncate(table.len() - 6 * records);
         Input {
             limit: skins::middling_limit(skin),
@@ -92,7 +94,7 @@ impl Input {
 
     fn thin(&self, call: &'static str, limit: Option<u64>) -> Pair<'_> {
         let length = limit.map(|limit| Length::Centimetres(limit as f64));
-        let fresh = || (self.table.clone(), vec![0; thin::WIDTH * (self.count() - 4)]);
+        let fresh = || (self.table.clone(), vec![0; WIDTH * (self.count() - FEWEST)]);
         let ((mut table, mut log), mut work) = (fresh(), Counted::default());
         let answer = thin::thin(&mut table, &self.corners, limit, &mut log, &mut work);
         let ((mut here, mut mine), (mut there, mut theirs)) = (fresh(), fresh());

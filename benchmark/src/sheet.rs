@@ -1,11 +1,12 @@
 //! Reading a sheet in ordinary Rust: a cursor over the bytes, then the check.
 
-use crate::check::{self, Refused, CORNERS, ROWS, SLOTS};
+use crate::check::{self, Refused};
 use crate::work::Work;
+use apart::refusal::BAD_FORM;
+use apart::sheet::{MOST_BYTES, MOST_CORNERS, MOST_DIGITS, MOST_ROWS};
+use apart::skin::FEWEST;
 
-const BYTES: usize = 65_536;
-const DIGITS: usize = 6;
-const FORM: Refused = 12;
+const FORM: Refused = BAD_FORM as Refused;
 
 struct Reader<'a> {
     left: &'a [u8],
@@ -22,7 +23,7 @@ impl Reader<'_> {
         let mut digits = 0;
         let mut value = 0;
         while let Some(digit @ b'0'..=b'9') = self.left.get(digits) {
-            if (digits > 0 && value == 0) || digits == DIGITS {
+            if (digits > 0 && value == 0) || digits == MOST_DIGITS {
                 return Err(FORM);
             }
             value = 10 * value + i64::from(digit - b'0');
@@ -52,7 +53,7 @@ pub fn read_sheet(
     corners: &mut [i32],
     work: &mut impl Work,
 ) -> Result<(usize, usize), Refused> {
-    if bytes.len() > BYTES {
+    if bytes.len() > MOST_BYTES {
         return Err(FORM);
     }
     work.bytes(bytes.len());
@@ -64,21 +65,21 @@ pub fn read_sheet(
         return Err(FORM);
     }
     let (n, m) = (n as usize, m as usize);
-    if !(4..=CORNERS).contains(&n) || !(4..=ROWS).contains(&m) {
+    if !(FEWEST..=MOST_CORNERS).contains(&n) || !(FEWEST..=MOST_ROWS).contains(&m) {
         return Err(2);
     }
-    let mut coordinates = [0; 3 * CORNERS];
+    let mut coordinates = [0; 3 * MOST_CORNERS];
     for line in coordinates[..3 * n].chunks_exact_mut(3) {
         reader.line(b"C", line)?;
     }
-    let mut numbers = [0; SLOTS];
+    let mut numbers = [0; 3 * MOST_ROWS];
     for line in numbers[..3 * m].chunks_exact_mut(3) {
         reader.line(b"R", line)?;
     }
     if !reader.left.is_empty() || numbers[..3 * m].iter().any(|&number| number < 0) {
         return Err(FORM);
     }
-    let (mut xs, mut rows) = ([0; 3 * CORNERS], [0; SLOTS]);
+    let (mut xs, mut rows) = ([0; 3 * MOST_CORNERS], [0; 3 * MOST_ROWS]);
     for (x, &z) in xs[..3 * n].iter_mut().zip(&coordinates) {
         *x = z as i32;
     }

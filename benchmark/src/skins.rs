@@ -4,9 +4,11 @@ use apart::chance::Chance;
 use apart::make::{relabel, roughened, shaft_rows, tetrahedron, turn_rows, Skin};
 use apart::parts::grid;
 use apart::place;
+use apart::sheet;
 use apart::skin::Corner;
 
-pub const SIZES: [usize; 4] = [128, 256, 512, 1_024];
+/// Up to what a sheet holds, as its reading is measured too.
+pub const SIZES: [usize; 4] = [128, 256, 512, sheet::MOST_ROWS];
 const AROUND: usize = 8;
 const FLIPS: usize = 2;
 /// Half the side of the box, in centimetres, in which corners lie by chance.

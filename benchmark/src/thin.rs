@@ -1,17 +1,18 @@
 //! Thinning in ordinary Rust: the least edge that qualifies is contracted, until none is left. The chains are built anew for each step.
 
-use crate::check::{self, next, Chains, Refused, CORNERS};
+use crate::check::{self, next, Chains, Refused};
 use crate::work::Work;
+use apart::skin::{FEWEST, MOST_CORNERS};
+use apart::step::WIDTH;
 
-pub const WIDTH: usize = 10;
-const FOUR_ROWS: usize = 12;
+const FOUR_ROWS: usize = 3 * FEWEST;
 
 /// The neighbours of a corner, put in front of a room.
 fn gather<'a>(
     table: &[u32],
     chains: &Chains,
     corner: u32,
-    room: &'a mut [u32; CORNERS],
+    room: &'a mut [u32; MOST_CORNERS],
     work: &mut impl Work,
 ) -> &'a [u32] {
     let mut count = 0;
@@ -25,19 +26,23 @@ fn gather<'a>(
 
 /// Room for the rings of an edge's two corners, and marks for each that are blank before and after an edge or a corner is asked.
 struct Scratch {
-    first: [u32; CORNERS],
-    near: [bool; CORNERS],
-    second: [u32; CORNERS],
-    far: [bool; CORNERS],
+    first: [u32; MOST_CORNERS],
+    near: [bool; MOST_CORNERS],
+    second: [u32; MOST_CORNERS],
+    far: [bool; MOST_CORNERS],
 }
 
 impl Scratch {
-    const EMPTY: Scratch =
-        Scratch { first: [0; CORNERS], near: [false; CORNERS], second: [0; CORNERS], far: [false; CORNERS] };
+    const EMPTY: Scratch = Scratch {
+        first: [0; MOST_CORNERS],
+        near: [false; MOST_CORNERS],
+        second: [0; MOST_CORNERS],
+        far: [false; MOST_CORNERS],
+    };
 }
 
 /// Marks the numbers of a ring.
-fn mark(ring: &[u32], marks: &mut [bool; CORNERS], work: &mut impl Work) {
+fn mark(ring: &[u32], marks: &mut [bool; MOST_CORNERS], work: &mut impl Work) {
     for &corner in ring {
         marks[corner as usize] = true;
     }
@@ -45,7 +50,7 @@ fn mark(ring: &[u32], marks: &mut [bool; CORNERS], work: &mut impl Work) {
 }
 
 /// Takes the marks of a ring away again.
-fn unmark(ring: &[u32], marks: &mut [bool; CORNERS]) {
+fn unmark(ring: &[u32], marks: &mut [bool; MOST_CORNERS]) {
     for &corner in ring {
         marks[corner as usize] = false;
     }
@@ -56,10 +61,10 @@ fn meets_round(
     table: &[u32],
     chains: &Chains,
     first: &[u32],
-    near: &[bool; CORNERS],
+    near: &[bool; MOST_CORNERS],
     removed: u32,
-    room: &mut [u32; CORNERS],
-    far: &mut [bool; CORNERS],
+    room: &mut [u32; MOST_CORNERS],
+    far: &mut [bool; MOST_CORNERS],
     work: &mut impl Work,
 ) -> bool {
     work.link_test();
@@ -90,9 +95,9 @@ pub fn may_contract(table: &[u32], chains: &Chains, kept: u32, removed: u32, wor
 }
 
 /// The least neighbour above a number: mostly one of the next few that are marked, else by a look through the ring.
-fn next_above(ring: &[u32], near: &[bool; CORNERS], past: u32, work: &mut impl Work) -> Option<u32> {
+fn next_above(ring: &[u32], near: &[bool; MOST_CORNERS], past: u32, work: &mut impl Work) -> Option<u32> {
     let from = past as usize + 1;
-    let few = &near[from..CORNERS.min(from + ring.len())];
+    let few = &near[from..MOST_CORNERS.min(from + ring.len())];
     match few.iter().position(|&mark| mark) {
         Some(at) => {
             work.ring_entries(at + 1);
@@ -118,9 +123,9 @@ fn least_marked(
     most: Option<u64>,
     kept: u32,
     ring: &[u32],
-    near: &[bool; CORNERS],
-    second: &mut [u32; CORNERS],
-    far: &mut [bool; CORNERS],
+    near: &[bool; MOST_CORNERS],
+    second: &mut [u32; MOST_CORNERS],
+    far: &mut [bool; MOST_CORNERS],
     work: &mut impl Work,
 ) -> Option<(u32, u32)> {
     let mut past = kept;
@@ -207,7 +212,7 @@ pub fn thin(
     if corners.len() % 3 != 0 || !check::counts_fit(table, corners.len() / 3) {
         return Err(2);
     }
-    if log.len() < WIDTH * (corners.len() / 3 - 4) {
+    if log.len() < WIDTH * (corners.len() / 3 - FEWEST) {
         return Err(3);
     }
     check::with_coordinates(table, corners, true, work)?;
