@@ -8,6 +8,8 @@ use Rattle.surface.specs.Record.{Placed, at, Record, Replays}
 use Rattle.record.specs.declared.Leaving.{Leaving}
 use Rattle.record.specs.Front.{standing}
 use Rattle.record.specs.Inner.{lowered}
+-- what is asked of the scratch that a caller lends
+pub use Rattle.link.specs.InnerAround.{Unmarked}
 
 -- a leaving row with its place
 abbrev pub placed-as : Leaving → Placed

@@ -5,12 +5,14 @@ use record::Record;
 ghost use mathlib.Core.Path.{_≡_};
 ghost use Prim.Native.Nat.{_*_, _≤_, _<_};
 ghost use lib.ListN.{length};
+ghost use Rattle.surface.specs.Limits.{most-corners};
 ghost use Rattle.surface.specs.Rows.{rows};
 ghost use Rattle.surface.specs.InnerStageTable.{StageTable};
 ghost use Rattle.surface.specs.Link.{Meets};
 ghost use Rattle.refusal.specs.InnerTells.{Tells};
 ghost use Rattle.record.specs.Inner.{meant};
 ghost use Rattle.record.specs.Front.{front-rows};
+ghost use Rattle.link.specs.InnerAround.{Unmarked};
 ghost use Rattle.redo.specs.Redo.{placed-as, Accepts, Redid};
 
 // Whether two rows with their places are the same.
@@ -29,36 +31,45 @@ fn same_leaving(a: Leaving, b: Leaving) -> bool
     a.c.0 == b.c.0
 }
 
-// Whether the edge ab of a stage may be contracted.
-fn meets(t: &[u32], n: usize, a: Corner, b: Corner) -> bool
+// Whether the edge ab of a stage may be contracted. The chains round its corners are built anew for each record; the rest is the link test's scratch.
+fn meets(
+    t: &[u32],
+    n: usize,
+    a: Corner,
+    b: Corner,
+    first: &mut [u32],
+    near: &mut [u8],
+    second: &mut [u32],
+    far: &mut [u8],
+) -> bool
     requires { ⌜ StageTable n (now t) ⌝ }
     requires { ⌜ (a .0 < n) × (b .0 < n) ⌝ }
+    requires { ⌜ (most-corners ≤ length (now first)) × (most-corners ≤ length (now second)) ⌝ }
+    requires { ⌜ Unmarked (now near) × Unmarked (now far) ⌝ }
     ensures { λ r. ⌜ Tells r (Meets (rows (now (t .entry))) (a .0) (b .0)) (¬ Meets (rows (now (t .entry))) (a .0) (b .0)) ⌝ }
+    ensures { λ _. ⌜ Unmarked (now (near .exit)) × Unmarked (now (far .exit)) ⌝ }
 {
     let mut last = [0usize; surface::MOST_CORNERS];
     let mut prev = [0usize; slots::MOST_SLOTS];
     slots::chains(t, &mut last, &mut prev);
-    let mut first = [0u32; surface::MOST_CORNERS];
-    let mut near = [0u8; surface::MOST_CORNERS];
-    let mut second = [0u32; surface::MOST_CORNERS];
-    let mut far = [0u8; surface::MOST_CORNERS];
-    link::may_contract(
-        t,
-        &last,
-        &prev,
-        a,
-        b,
-        &mut first,
-        &mut near,
-        &mut second,
-        &mut far,
-    )
+    link::may_contract(t, &last, &prev, a, b, first, near, second, far)
 }
 
 // Whether a record is accepted on a stage: its step may be done, and writes this record.
-fn accepts(t: &[u32], n: usize, r: Record) -> bool
+fn accepts(
+    t: &[u32],
+    n: usize,
+    r: Record,
+    first: &mut [u32],
+    near: &mut [u8],
+    second: &mut [u32],
+    far: &mut [u8],
+) -> bool
     requires { ⌜ StageTable n (now t) ⌝ }
+    requires { ⌜ (most-corners ≤ length (now first)) × (most-corners ≤ length (now second)) ⌝ }
+    requires { ⌜ Unmarked (now near) × Unmarked (now far) ⌝ }
     ensures { λ b. ⌜ Tells b (Accepts (rows (now (t .entry))) (meant r)) (¬ Accepts (rows (now (t .entry))) (meant r)) ⌝ }
+    ensures { λ _. ⌜ Unmarked (now (near .exit)) × Unmarked (now (far .exit)) ⌝ }
 {
     if r.removed.0 <= r.kept.0 {
         return false;
@@ -66,7 +77,7 @@ fn accepts(t: &[u32], n: usize, r: Record) -> bool
     if n <= r.removed.0 as usize {
         return false;
     }
-    if !meets(t, n, r.kept, r.removed) {
+    if !meets(t, n, r.kept, r.removed, first, near, second, far) {
         return false;
     }
     let e = step::record_of(t, r.kept, r.removed);
@@ -76,14 +87,27 @@ fn accepts(t: &[u32], n: usize, r: Record) -> bool
     same_leaving(e.later, r.later)
 }
 
-// Inner: does a record again on the first rows of a lent table where it is accepted, and tells whether it is.
-pub fn redo(table: &mut [u32], rows: usize, corners: usize, r: Record) -> bool
+// Inner: does a record again on the first rows of a lent table where it is accepted, and tells whether it is. The rest is the link test's
+// scratch: room for two rings, and marks for each, blank again when it is told.
+pub fn redo(
+    table: &mut [u32],
+    rows: usize,
+    corners: usize,
+    r: Record,
+    first: &mut [u32],
+    near: &mut [u8],
+    second: &mut [u32],
+    far: &mut [u8],
+) -> bool
     requires { ⌜ StageTable corners (front-rows rows (now table)) ⌝ }
     requires { ⌜ 3 * rows ≤ length (now table) ⌝ }
+    requires { ⌜ (most-corners ≤ length (now first)) × (most-corners ≤ length (now second)) ⌝ }
+    requires { ⌜ Unmarked (now near) × Unmarked (now far) ⌝ }
     ensures { λ b. ⌜ Redid rows (meant r) (now (table .entry)) b (now (table .exit)) ⌝ }
+    ensures { λ _. ⌜ Unmarked (now (near .exit)) × Unmarked (now (far .exit)) ⌝ }
 {
     let end = 3 * rows;
-    if !accepts(&table[..end], corners, r) {
+    if !accepts(&table[..end], corners, r, first, near, second, far) {
         return false;
     }
     step::contract_front(table, rows, r.kept, r.removed);

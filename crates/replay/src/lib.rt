@@ -8,17 +8,30 @@ ghost use Rattle.follow.specs.Inner.{FollowedIn};
 ghost use Rattle.replay.specs.Outcome.{ReplayFits, replaying, ReplayedAs};
 ghost use Rattle.replay.specs.Inner.{JudgedReplay};
 
-// Does a log's records on a stage's table, from the first on.
+// Does a log's records on a stage's table, from the first on. The link test's scratch is made once for all records.
 fn replay_log(table: &mut [u32], n: usize, log: &[u32]) -> Regrown
     requires { ⌜ StageTable n (now table) ⌝ }
     ensures { λ a. ⌜ FollowedIn (replaying n (now (table .entry)) (now (log .entry))) a (now (table .exit)) ⌝ }
 {
+    let mut first = [0u32; surface::MOST_CORNERS];
+    let mut near = [0u8; surface::MOST_CORNERS];
+    let mut second = [0u32; surface::MOST_CORNERS];
+    let mut far = [0u8; surface::MOST_CORNERS];
     let all = log.len() / record::WIDTH;
     let rows = table.len() / 3;
     let mut done: usize = 0;
     while done < all {
         let r = record::read_record(log, record::WIDTH * done);
-        if !redo::redo(table, rows - 2 * done, n, r) {
+        if !redo::redo(
+            table,
+            rows - 2 * done,
+            n,
+            r,
+            &mut first,
+            &mut near,
+            &mut second,
+            &mut far,
+        ) {
             return Regrown::Stopped(done);
         }
         done += 1;
