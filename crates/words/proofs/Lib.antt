@@ -1,2 +1,3 @@
-pub mod Below
+pub mod Bytes
 pub mod Parts
+pub mod Twos

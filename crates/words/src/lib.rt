@@ -1,8 +1,11 @@
 // Lists of numbers as words on standard input and standard output: eight bytes each, the lowest first, two's complement.
 ghost use mathlib.Core.Path.{_≡_};
-ghost use Prim.Native.Nat.{_+_, _≤_};
+ghost use Prim.Native.Nat.{_+_, _%_, _^_, _≤_, _<_};
 ghost use lib.ListN.{length};
+ghost use lib.Seq.{sets};
+ghost use Rattle.words.specs.Bytes.{bytes-at, bytes-of};
 ghost use Rattle.words.specs.Part.{PartOf};
+ghost use Rattle.words.specs.Twos.{twos, ReadNarrow};
 
 // The most numbers that a list may have, and the most bytes.
 const MOST_NUMBERS: usize = 16384;
@@ -70,29 +73,40 @@ enum Signed {
     Nothing,
 }
 
-fn wide(x: u8) -> u64 {
+// A byte, to be counted in a word; its bound is told for the sums.
+fn wide(x: u8) -> u64
+    ensures { λ r. ⌜ (r ≡ x) × (r < 256) ⌝ }
+{
     x as u64
+}
+
+// The half of a word whose bytes stand from place i on.
+fn half_at(b: &[u8], i: usize) -> u64
+    requires { ⌜ i + 4 ≤ length (now b) ⌝ }
+    ensures { λ r. ⌜ (r ≡ bytes-at 4 (now (b .entry)) i) × (r < 2 ^ 32) ⌝ }
+{
+    wide(b[i]) + wide(b[i + 1]) * 256 + wide(b[i + 2]) * 65536 + wide(b[i + 3]) * 16777216
 }
 
 // The word whose bytes stand from place i on.
 fn word_at(b: &[u8], i: usize) -> u64
     requires { ⌜ i + 8 ≤ length (now b) ⌝ }
+    ensures { λ r. ⌜ r ≡ bytes-at 8 (now (b .entry)) i ⌝ }
 {
-    let low = wide(b[i]) | (wide(b[i + 1]) << 8) | (wide(b[i + 2]) << 16) | (wide(b[i + 3]) << 24);
-    let high = wide(b[i + 4])
-        | (wide(b[i + 5]) << 8)
-        | (wide(b[i + 6]) << 16)
-        | (wide(b[i + 7]) << 24);
-    low | (high << 32)
+    half_at(b, i) + half_at(b, i + 4) * 4294967296
 }
 
-fn lowest(w: u64) -> u8 {
+// The lowest byte of a word.
+fn lowest(w: u64) -> u8
+    ensures { λ r. ⌜ r ≡ w % 256 ⌝ }
+{
     (w % 256) as u8
 }
 
 // Writes a word's bytes from place i on.
 fn put_word(b: &mut [u8], i: usize, w: u64)
     requires { ⌜ i + 8 ≤ length (now b) ⌝ }
+    ensures { λ _. ⌜ now (b .exit) ≡ sets (now (b .entry)) i (bytes-of 8 w) ⌝ }
 {
     let mut left = w;
     let mut k: usize = 0;
@@ -104,7 +118,9 @@ fn put_word(b: &mut [u8], i: usize, w: u64)
 }
 
 // Inner: the word of a signed number.
-pub fn word_of(x: i64) -> u64 {
+pub fn word_of(x: i64) -> u64
+    ensures { λ r. ⌜ r ≡ twos x ⌝ }
+{
     if x < 0 {
         return std::num::wrapping_sub_u64(0, ints::size(x));
     }
@@ -112,19 +128,19 @@ pub fn word_of(x: i64) -> u64 {
 }
 
 // The signed number that a word is.
-fn signed_of(w: u64) -> Signed {
+fn signed_of(w: u64) -> Signed
+    ensures { λ r. ⌜ ReadNarrow w r ⌝ }
+{
     if w < 2147483648 {
         return Signed::Is(w as i32);
     }
-    let size = std::num::wrapping_sub_u64(0, w);
-    if size == 2147483648 {
-        return Signed::Is(-2147483648);
-    }
-    if 2147483648 < size {
+    // one short of the size of a number below zero: it fits where the size may not
+    let short = u64::MAX - w;
+    if 2147483648 <= short {
         return Signed::Nothing;
     }
-    let s = size as i32;
-    Signed::Is(-s)
+    let s = short as i32;
+    Signed::Is(-1 - s)
 }
 
 // The next word of the input.

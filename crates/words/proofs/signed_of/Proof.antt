@@ -1,5 +1,11 @@
--- A size below 2,147,483,648 has its number below zero.
-use Rattle.words.proofs.Below.{fits-below}
+-- Below zero, one short of the size fits where the size may not.
+use mathlib.Core.Path.{refl}
+use Prim.Native.Nat.{_-_, _^_, _<_}
+use lib.IntN.{pos, negsuc}
+use mir.Syntax.{w32}
+use mir.ValLaws.{toZ-pos}
+use Rattle.words.specs.Twos.{ReadNarrow, twos}
+use Rattle.words.proofs.Twos.{narrow, none, short-fits, short-kept}
 use native.Mathlib.Omega.{arith}
 use borrow.Author.Needs.{needs}
 use Rattle.words.proofs.signed_of.Statement.{statement}
@@ -9,39 +15,32 @@ cast-t5 : tie.Need-cast-t5
 cast-t5 c = search needs
 
 returns : tie.Need-returns
-returns c = search needs
+unfolding ReadNarrow twos
+returns c =
+    let w = c .before .args .w in
+    let h : w < 2 ^ 31 = omega arith in
+    rw (toZ-pos w32 w h) (narrow (pos w) h refl)
 
-wrapping-sub-u64-requires : tie.Need-wrapping-sub-u64-requires
-wrapping-sub-u64-requires c κs = search needs
+sub-short : tie.Need-sub-short
+sub-short c = search needs
 
 returns-2 : tie.Need-returns-2
-returns-2 c = search needs
-
-returns-3 : tie.Need-returns-3
-returns-3 c = search needs
+unfolding ReadNarrow
+returns-2 c = none (c .before .before .args .w) (omega arith) (omega arith)
 
 cast-s : tie.Need-cast-s
 cast-s c = search needs
 
 sub-t6 : tie.Need-sub-t6
-sub-t6 c =
-    let wrapping-sub-u64 = c .before .before .wrapping-sub-u64 in
-    let if2 = c .before .if2 in
-    let if3 = c .if3 in
-    fits-below (wrapping-sub-u64 .result) (omega (arith, if2 .left, if3 .left))
+sub-t6 c = short-fits (18446744073709551615 - c .before .before .args .w) (omega arith)
 
-returns-4 : tie.Need-returns-4
-returns-4 c = search needs
+returns-3 : tie.Need-returns-3
+unfolding ReadNarrow twos
+returns-3 c =
+    let w = c .before .before .args .w in
+    let n = 18446744073709551615 - w in
+    let h : n < 2 ^ 31 = omega arith in
+    rw (short-kept n h) (narrow (negsuc n) h (omega arith))
 
 pub signed-of-spec : {M : Type 1} → statement M
-signed-of-spec =
-    tie.close
-    (tie.spec
-    cast-t5
-    returns
-    wrapping-sub-u64-requires
-    returns-2
-    returns-3
-    cast-s
-    sub-t6
-    returns-4)
+signed-of-spec = tie.close (tie.spec cast-t5 returns sub-short returns-2 cast-s sub-t6 returns-3)
