@@ -55,7 +55,7 @@ mod proved {
 /// The refusals, in the order of their numbers.
 #[derive(Clone, Copy, Debug, PartialEq, Eq)]
 pub enum Refusal {
-    LimitUnusable = 1,
+    LimitUnusable,
     CountsOutside,
     RoomShort,
     CoordinateOutOfRange,
@@ -68,10 +68,12 @@ pub enum Refusal {
     NotConnected,
     SheetForm,
     RecordFails,
+    /// A number that has no name here. The functions so far answer with none.
+    Other(u32),
 }
 
 impl Refusal {
-    const ALL: [Refusal; 13] = [
+    const NAMED: [Refusal; 13] = [
         Refusal::LimitUnusable,
         Refusal::CountsOutside,
         Refusal::RoomShort,
@@ -87,14 +89,29 @@ impl Refusal {
         Refusal::RecordFails,
     ];
 
-    /// The refusal of a status that is not 0. The proved functions answer with no other number than these.
-    fn of(status: u64) -> Refusal {
-        Refusal::ALL[status as usize - 1]
+    /// The refusal with a number.
+    pub fn of(number: u32) -> Refusal {
+        Refusal::NAMED.into_iter().find(|refusal| refusal.number() == number).unwrap_or(Refusal::Other(number))
     }
 
     /// Its number.
     pub fn number(self) -> u32 {
-        self as u32
+        match self {
+            Refusal::LimitUnusable => 1,
+            Refusal::CountsOutside => 2,
+            Refusal::RoomShort => 3,
+            Refusal::CoordinateOutOfRange => 4,
+            Refusal::NumberNotBelow => 5,
+            Refusal::NumberTwice => 6,
+            Refusal::EdgeTwice => 7,
+            Refusal::ReverseMissing => 8,
+            Refusal::CornerUnused => 9,
+            Refusal::RingsMany => 10,
+            Refusal::NotConnected => 11,
+            Refusal::SheetForm => 12,
+            Refusal::RecordFails => 13,
+            Refusal::Other(number) => number,
+        }
     }
 }
 
@@ -142,7 +159,7 @@ fn answered<T>(status: u64, value: T) -> Result<T, Refusal> {
     if status == 0 {
         Ok(value)
     } else {
-        Err(Refusal::of(status))
+        Err(Refusal::of(status as u32))
     }
 }
 
