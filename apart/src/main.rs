@@ -14,7 +14,7 @@ const USAGE: &str = "usage: apart CALLS DESK TRIALS [COUNT] [SEED]
        apart again CALLS WORDS | apart again-desk DESK WORDS   (- reads the words from standard input)
        apart part NAME CALLS DESK COUNT SEED   (one part of the run; `apart parts` lists them)
        apart serve | apart desk   (the two programs, answered by this one's rules)
-       apart spoiled SEED RESPONSES FOLDER   (the first of them, one word of one of so many responses spoiled)";
+       apart serve SEED RESPONSES FOLDER | apart desk SEED RESPONSES FOLDER   (one of so many responses spoiled)";
 /// A run of this many calls must have met every refusal.
 const WHOLE_RUN: usize = 20_000;
 const SEED: u64 = 2_024;
@@ -26,8 +26,12 @@ fn main() -> ExitCode {
     let given: Vec<&str> = arguments.iter().map(String::as_str).collect();
     match given[..] {
         ["serve"] => code(serve::calls(None).is_ok()),
-        ["spoiled", seed, responses, folder] => match (number(seed), number(responses)) {
-            (Some(seed), Some(n)) => code(serve::calls(Some(Spoiler::new(seed, n as usize, folder))).is_ok()),
+        [program @ ("serve" | "desk"), seed, responses, folder] => match (number(seed), number(responses)) {
+            (Some(seed), Some(responses)) => {
+                let spoiler = Some(Spoiler::new(seed, responses as usize, folder));
+                let served = if program == "desk" { serve::desk(spoiler) } else { serve::calls(spoiler) };
+                code(served.is_ok())
+            }
             _ => usage(),
         },
         ["parts"] => {
@@ -41,7 +45,7 @@ fn main() -> ExitCode {
                 _ => usage(),
             }
         }
-        ["desk"] => code(serve::desk().is_ok()),
+        ["desk"] => code(serve::desk(None).is_ok()),
         ["again", path, words] => code(again(path, words)),
         ["again-desk", path, words] => code(again_desk(path, words)),
         [calls, desk, trials] => code(run([calls, desk, trials], WHOLE_RUN, SEED)),

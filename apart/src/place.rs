@@ -3,13 +3,15 @@
 
 use crate::chance::Chance;
 use crate::skin::{Corner, FARTHEST};
+use std::collections::HashSet;
 
 /// A place in a box round the origin.
 pub fn in_box(half: i32, chance: &mut Chance) -> Corner {
     [0; 3].map(|_: i32| chance.between((-half).into(), half.into()) as i32)
 }
 
-/// Corners by chance, all by one of several habits.
+/// Corners by chance, all by one of several habits. Of one habit, the smallest box, many stand at one point: 01 allows it, and a limit of 0
+/// contracts their edges. Of any other, none do.
 pub fn corners(count: usize, chance: &mut Chance) -> Vec<Corner> {
     let habit = chance.below(10);
     let scale = chance.pick(&[1, 7, 50, 2_000]);
@@ -28,7 +30,31 @@ pub fn corners(count: usize, chance: &mut Chance) -> Vec<Corner> {
         }
         _ => [chance.between(-400, 400) as i32 * 5, 0, 0],
     };
-    (0..count).map(|_| one()).collect()
+    let corners = (0..count).map(|_| one()).collect();
+    if habit == 0 {
+        corners
+    } else {
+        distinct(corners)
+    }
+}
+
+/// The same corners, but for those at the point of an earlier one: each moves to a free point nearby, by no chance, so that whatever is drawn
+/// later stays as it was.
+pub fn distinct(mut corners: Vec<Corner>) -> Vec<Corner> {
+    let mut taken = HashSet::new();
+    for corner in &mut corners {
+        let place = (0..).find_map(|far| shell(*corner, far).find(|place| !taken.contains(place)));
+        *corner = place.expect("the range has more points than a table has corners");
+        taken.insert(*corner);
+    }
+    corners
+}
+
+/// The points in range that lie just so far off along one axis, and no farther along another.
+fn shell([x, y, z]: Corner, far: i32) -> impl Iterator<Item = Corner> {
+    let near = move |n: i32| (n - far).max(-FARTHEST)..=(n + far).min(FARTHEST);
+    let all = near(x).flat_map(move |a| near(y).flat_map(move |b| near(z).map(move |c| [a, b, c])));
+    all.filter(move |&[a, b, c]| (a - x).abs().max((b - y).abs()).max((c - z).abs()) == far)
 }
 
 /// Corners of a shaft along z, the bottom and the top apex last; the radius wavers round its mean.

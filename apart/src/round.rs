@@ -7,6 +7,7 @@ use crate::harm::{asked, harm, harm_log, scribble, Input};
 use crate::hostile;
 use crate::logs::{growth, some_edge, steps};
 use crate::make::{self, Skin};
+use crate::place;
 use crate::protocol::*;
 use crate::sheets;
 use crate::skin::{Row, FARTHEST, MOST_CORNERS, MOST_ROWS};
@@ -277,7 +278,7 @@ pub fn greatest(bench: &mut Bench, chance: &mut Chance) {
 pub fn returning(bench: &mut Bench, chance: &mut Chance) {
     for _ in 0..24 {
         let mut skin = make::skin_of_genus(0, 20 + chance.below(30), chance);
-        skin.corners = skin.corners.iter().map(|_| [0; 3].map(|_: i32| chance.between(-12, 12) as i32)).collect();
+        skin.corners = place::distinct(skin.corners.iter().map(|_| place::in_box(12, chance)).collect());
         let order = (3, (chance.between(4, 12) as f64).to_bits());
         check::run(bench, &skin, order, chance);
     }

@@ -27,8 +27,12 @@ pub fn calls(spoiler: Option<Spoiler>) -> io::Result<()> {
 }
 
 /// Reads one sheet, no further than it takes to see that it is too long, and writes the desk's text.
-pub fn desk() -> io::Result<()> {
+pub fn desk(spoiler: Option<Spoiler>) -> io::Result<()> {
     let mut bytes = Vec::new();
     io::stdin().lock().take(MOST_BYTES as u64 + 1).read_to_end(&mut bytes)?;
-    io::stdout().lock().write_all(desk::text(&bytes).as_bytes())
+    let mut text = desk::text(&bytes).into_bytes();
+    if let Some(spoiler) = &spoiler {
+        spoiler.pass_text(&mut text)?;
+    }
+    io::stdout().lock().write_all(&text)
 }

@@ -1,4 +1,4 @@
-//! A program that errs once: one word of one response is spoiled, and the run that drives it must notice.
+//! A program that errs once: one word of one response, or one byte of the desk's text, is spoiled, and the run that drives it must notice.
 
 use crate::chance::Chance;
 use crate::protocol::{Request, Response, Word};
@@ -23,14 +23,26 @@ impl Spoiler {
     }
 
     pub fn pass(&self, request: &Request, response: &mut Response) -> io::Result<()> {
+        self.in_turn(|chance| format!("{}\n{}\n", request.named(), spoil(request, response, chance)))
+    }
+
+    pub fn pass_text(&self, text: &mut [u8]) -> io::Result<()> {
+        self.in_turn(|chance| {
+            let at = chance.below(text.len());
+            text[at] ^= 1 << chance.below(8);
+            format!("the desk\nbyte {at}:\n")
+        })
+    }
+
+    /// Counts a response; spoils it, and says how, where its turn has come.
+    fn in_turn(&self, spoil: impl FnOnce(&mut Chance) -> String) -> io::Result<()> {
         let mut answered = OpenOptions::new().create(true).append(true).open(self.folder.join("answered"))?;
         let before = answered.metadata()?.len();
         answered.write_all(b".")?;
         if self.place != Some(before) {
             return Ok(());
         }
-        let what = spoil(request, response, &mut Chance::new(!self.seed));
-        fs::write(self.folder.join("spoiled"), format!("{}\n{what}\n", request.named()))
+        fs::write(self.folder.join("spoiled"), spoil(&mut Chance::new(!self.seed)))
     }
 }
 

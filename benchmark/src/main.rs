@@ -10,6 +10,7 @@ mod thin;
 mod work;
 
 use apart::make::Skin;
+use apart::place;
 use apart::skin::FEWEST;
 use apart::step::WIDTH;
 use flaxglimmer as proved;
@@ -308,6 +309,7 @@ fn inputs(kind: &str, make: fn(usize) -> Skin) -> [Input; skins::SIZES.len()] {
     skins::SIZES.map(|rows| {
         let skin = make(rows);
         assert_eq!(skin.rows.len(), rows, "{kind}");
+        assert!(place::distinct(skin.corners.clone()) == skin.corners, "{kind}: two corners at one point");
         Input::of(&skin)
     })
 }

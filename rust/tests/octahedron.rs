@@ -110,3 +110,13 @@ fn answers_as_the_desk() {
     assert_eq!(std::str::from_utf8(&text[..n]).unwrap().replace('\t', " "), expected);
     assert_eq!(reply(SHEET, &mut []), Err(Refusal::RoomShort));
 }
+
+#[test]
+fn a_refusal_keeps_its_number() {
+    for number in (1..=14).chain(20..=42) {
+        assert_eq!(Refusal::of(number).number(), number);
+    }
+    assert_eq!(Refusal::of(1), Refusal::LimitUnusable);
+    assert_eq!(Refusal::of(13), Refusal::RecordFails);
+    assert_eq!(Refusal::of(1_000), Refusal::Other(1_000));
+}
