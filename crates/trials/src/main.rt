@@ -62,6 +62,9 @@ const T: [u32; 12] = [0, 1, 2, 0, 2, 3, 0, 3, 1, 1, 3, 2];
 
 const O_END: [u32; 12] = [0, 3, 4, 5, 3, 0, 5, 4, 3, 5, 0, 4];
 
+// The numbers of five records.
+const FIVE_RECORDS: usize = 5 * record::WIDTH;
+
 const O_LOG: [u32; 2 * record::WIDTH] = [
     0,
     1,
@@ -409,7 +412,7 @@ fn too_many_records() {
     copy(&first, &mut log);
     show_regrown(
         b"M with five records: ",
-        replay::replay(&mut m, 7, &log[..5 * record::WIDTH]),
+        replay::replay(&mut m, 7, &log[..FIVE_RECORDS]),
     );
     show_regrown(b"M with six records: ", replay::replay(&mut m, 7, &log));
     show_numbers(b"M then:", &m);

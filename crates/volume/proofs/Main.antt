@@ -65,7 +65,7 @@ module _ {n : ℕ} {xs : List ℤ} (e : length xs ≡ 3 * n) (r : InRange xs) wh
 
   -- and lies within half a cubic metre of the exact one
   pub volume-near : {t : List ℕ} → StageTable n t → (a : Measured) → VolumeReport xs t (told a) → Near (sixfold xs (rows t)) a
-  volume-near {t} s a p = record { f = figure (sixfold xs (rows t)); tells = ap told (volume-one a _ p (volume-there s)); near = rounded.figure-near (sixfold xs (rows t)) }
+  volume-near {t} s a p = record { f = figure (sixfold xs (rows t)); tells = ap told (volume-one a (Figure (figure (sixfold xs (rows t)))) p (volume-there s)); near = rounded.figure-near (sixfold xs (rows t)) }
 
   -- the same of the change between two
   pub change-there : {t s : List ℕ} → StageTable n t → StageTable n s → ChangeReport xs t s (told (Figure (change (sixfold xs (rows t)) (sixfold xs (rows s)))))
@@ -74,7 +74,7 @@ module _ {n : ℕ} {xs : List ℤ} (e : length xs ≡ 3 * n) (r : InRange xs) wh
 
   pub change-near : {t s : List ℕ} → StageTable n t → StageTable n s → (a : Measured) → ChangeReport xs t s (told a) → Near (sixfold xs (rows s) -ℤ sixfold xs (rows t)) a
   change-near {t} {s} p q a c =
-      record { f = change (sixfold xs (rows t)) (sixfold xs (rows s)); tells = ap told (change-one a _ c (change-there p q)); near = rounded.change-near (sixfold xs (rows t)) (sixfold xs (rows s)) }
+      record { f = change (sixfold xs (rows t)) (sixfold xs (rows s)); tells = ap told (change-one a (Figure (change (sixfold xs (rows t)) (sixfold xs (rows s)))) c (change-there p q)); near = rounded.change-near (sixfold xs (rows t)) (sixfold xs (rows s)) }
 
 -- the stages of a log over a skin, whoever wrote it
 module _ {n : ℕ} {T : List Row} {xs : List ℤ} (k : Skin n T xs) where
