@@ -128,7 +128,7 @@ impl Bench {
         self.tally.verdict(kind, wrong, || again.to_string());
     }
 
-    /// Notes what came of bytes sent to a `calls` of their own: the answers to these requests were to come, and the end.
+    /// What came of bytes sent to a `calls` of their own: the answers to these requests were to come, then the end.
     pub fn ends_verdict(&mut self, kind: &str, sent: &[u8], answered: &[Request], found: Result<Vec<u8>, String>) {
         self.tally.calls += 1;
         let wrong = match found {

@@ -80,7 +80,8 @@ fn number(text: &str) -> Option<u64> {
 /// A part of the run, from a seed.
 type Part = fn(&mut Bench, u64);
 
-/// The parts after the lines of `trials`: 01's cases, the order of refusals, the sweeps, the ends, then rounds of chance up to the count.
+/// The parts after the lines of `trials`: 01's cases, the order of refusals, the sweeps, the ends, then rounds of
+/// chance up to the count.
 const PARTS: [(&str, Part); 11] = [
     ("trial", |bench, seed| trial::run(bench, &mut own(seed, 0))),
     ("alone", |bench, seed| order::alone(bench, &mut own(seed, 1))),

@@ -10,8 +10,8 @@ pub fn in_box(half: i32, chance: &mut Chance) -> Corner {
     [0; 3].map(|_: i32| chance.between((-half).into(), half.into()) as i32)
 }
 
-/// Corners by chance, all by one of several habits. Of one habit, the smallest box, many stand at one point: 01 allows it, and a limit of 0
-/// contracts their edges. Of any other, none do.
+/// Corners by chance, all by one of several habits. Of one habit, the smallest box, many stand at one point: 01 allows
+/// it, and a limit of 0 contracts their edges. Of any other, none do.
 pub fn corners(count: usize, chance: &mut Chance) -> Vec<Corner> {
     let habit = chance.below(10);
     let scale = chance.pick(&[1, 7, 50, 2_000]);
@@ -38,8 +38,8 @@ pub fn corners(count: usize, chance: &mut Chance) -> Vec<Corner> {
     }
 }
 
-/// The same corners, but for those at the point of an earlier one: each moves to a free point nearby, by no chance, so that whatever is drawn
-/// later stays as it was.
+/// The same corners, but for those at the point of an earlier one: each moves to a free point nearby, by no chance, so
+/// that whatever is drawn later stays as it was.
 pub fn distinct(mut corners: Vec<Corner>) -> Vec<Corner> {
     let mut taken = HashSet::new();
     for corner in &mut corners {

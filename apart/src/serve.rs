@@ -7,7 +7,8 @@ use crate::sheet::MOST_BYTES;
 use crate::spoil::Spoiler;
 use std::io::{self, BufReader, Read, Write};
 
-/// Answers requests until the input ends or a request is none; a spoiler, where there is one, has each response before it goes out.
+/// Answers requests until the input ends or a request is none; a spoiler, where there is one, has each response before
+/// it goes out.
 pub fn calls(spoiler: Option<Spoiler>) -> io::Result<()> {
     let mut input = BufReader::new(io::stdin().lock());
     let mut output = io::stdout().lock();

@@ -1,4 +1,5 @@
-//! A program that errs once: one word of one response, or one byte of the desk's text, is spoiled, and the run that drives it must notice.
+//! A program that errs once: one word of one response, or one byte of the desk's text, is spoiled, and the run that
+//! drives it must notice.
 
 use crate::chance::Chance;
 use crate::protocol::{Request, Response, Word};
@@ -46,7 +47,8 @@ impl Spoiler {
     }
 }
 
-/// Changes a word of the answer or of a buffer, leaves its last one out or puts one more behind it. Says what the run must find.
+/// Changes a word of the answer or of a buffer, leaves its last one out or puts one more behind it. Says what the run
+/// must find.
 fn spoil(request: &Request, response: &mut Response, chance: &mut Chance) -> String {
     let mut lists = vec![("the answer", &mut response.answer)];
     lists.extend(request.shape().lent().map(|(_, argument)| argument.name).zip(&mut response.lent));

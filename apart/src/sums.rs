@@ -68,7 +68,8 @@ fn halves(bench: &mut Bench, chance: &mut Chance) {
     }
 }
 
-/// The largest sums and changes that tables can have: up to the most rows, each of four times the farthest coordinate's cube.
+/// The largest sums and changes that tables can have: up to the most rows, each of four times the farthest
+/// coordinate's cube.
 fn largest(bench: &mut Bench) {
     let (long, short) = MOST_ROWS_GRID;
     for (down, across) in [(4, 4), (8, 8), (short, long), (long, short), (short / 2, 2 * long)] {
