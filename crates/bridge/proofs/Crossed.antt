@@ -15,7 +15,7 @@ use Rattle.shift.proofs.Main.{shift-one}
 use Rattle.length.specs.Answer as length-answer
 use Rattle.sheet.specs.Answer as sheet-answer
 use Rattle.sheet.proofs.Promises.{one-outcome}
-use Rattle.reply.specs.Answer as reply-answer
+use Rattle.tell.specs.Answer as reply-answer
 use Rattle.reply.proofs.Main.{replied-one}
 use Rattle.ring.proofs.Rule.{trial-one}
 use Rattle.link.proofs.Laws.{chosen-one}
@@ -23,7 +23,7 @@ use Rattle.catchup.proofs.One.{SamePart, caught-up-one}
 use Rattle.bridge.specs.declared.Part.{Part}
 use Rattle.bridge.specs.Lent.{Places, nothing, of-second, of-first}
 use Rattle.bridge.specs.Crossing.{Crossing}
-use Rattle.bridge.proofs.Saying.{said}
+use Rattle.across.proofs.Saying.{said}
 use Rattle.bridge.proofs.Main.{thin-crosses, grow-crosses, replay-crosses, volume-crosses, change-crosses, shift-crosses, limit-crosses, sheet-crosses, reply-crosses, trial-crosses, ring-crosses, part-crosses}
 
 -- the places tell of the same memory, by whatever name

@@ -1,4 +1,3 @@
-pub mod Saying
 pub mod Lent
 pub mod Main
 pub mod OtherUnits

@@ -22,25 +22,26 @@ use Rattle.length.specs.Answer as length-answer
 use Rattle.sheet.proofs.Promises.{one-outcome}
 use Rattle.sheet.specs.Answer as sheet-answer
 use Rattle.reply.proofs.Main.{replied-one}
-use Rattle.reply.specs.Answer as reply-answer
+use Rattle.tell.specs.Answer as reply-answer
 use Rattle.ring.proofs.Rule.{trial-one}
 use Rattle.ring.specs.declared.Trial.{Trial}
 use Rattle.ring.specs.declared.Trial.the-variants.{Number, Nothing}
 use Rattle.link.proofs.Laws.{chosen-one}
 use Rattle.catchup.proofs.One.{caught-up-one}
-use Rattle.bridge.specs.declared.Counted.{Counted}
-use Rattle.bridge.specs.declared.Measure.{Measure}
-use Rattle.bridge.specs.declared.StandIn.{StandIn}
-use Rattle.bridge.specs.declared.Centimetres.{Centimetres}
-use Rattle.bridge.specs.declared.Counts.{Counts}
-use Rattle.bridge.specs.declared.Written.{Written}
-use Rattle.bridge.specs.declared.Stored.{Stored}
+use Rattle.across.specs.declared.Counted.{Counted}
+use Rattle.across.specs.declared.Measure.{Measure}
+use Rattle.across.specs.declared.StandIn.{StandIn}
+use Rattle.across.specs.declared.Centimetres.{Centimetres}
+use Rattle.across.specs.declared.Counts.{Counts}
+use Rattle.across.specs.declared.Written.{Written}
+use Rattle.across.specs.declared.Stored.{Stored}
 use Rattle.bridge.specs.declared.Part.{Part}
-use Rattle.bridge.specs.Says.{Says}
-use Rattle.bridge.specs.Fields.{of-counted, of-measure, of-stand-in, of-centimetres, of-counts, of-written}
+use Rattle.across.specs.Says.{Says}
+use Rattle.across.specs.Fields.{of-counted, of-measure, of-stand-in, of-centimetres, of-counts, of-written}
 use Rattle.bridge.specs.Calls.{ThinShown, GrowShown, ReplayShown, VolumeShown, ChangeShown, ShiftShown, LimitShown, SheetShown, ReplyShown}
-use Rattle.bridge.specs.Lent.{Stores, TrialShown, Which, the-first, the-second, RingShown, Places, nothing, of-second, of-first, PartShown}
-use Rattle.bridge.proofs.Saying.{said}
+use Rattle.across.specs.Fields.{Stores}
+use Rattle.bridge.specs.Lent.{TrialShown, Which, the-first, the-second, RingShown, Places, nothing, of-second, of-first, PartShown}
+use Rattle.across.proofs.Saying.{said}
 
 -- ---- what is said
 

@@ -16,9 +16,9 @@ use Rattle.thin.specs.declared.Asked.the-variants.{NoUse}
 use Rattle.thin.specs.declared.Thinning.the-variants.{Refused}
 use Rattle.thin.specs.Order.{asked}
 use Rattle.thin.specs.Thin.{thin-refusals, refused}
-use Rattle.bridge.specs.declared.Counted.{Counted}
-use Rattle.bridge.specs.declared.Centimetres as struct
-use Rattle.bridge.specs.Units.{length-of, order-of}
+use Rattle.across.specs.declared.Counted.{Counted}
+use Rattle.across.specs.declared.Centimetres as struct
+use Rattle.across.specs.Units.{length-of, order-of}
 use Rattle.bridge.specs.Calls.{ThinShown, LimitShown}
 use Rattle.bridge.proofs.Main.{thin-crosses, limit-crosses}
 

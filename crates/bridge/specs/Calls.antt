@@ -18,16 +18,16 @@ use Rattle.shift.specs.Answer as shift-answer
 use Rattle.sheet.specs.Outcome.{ReadSheet}
 use Rattle.sheet.specs.Answer as sheet-answer
 use Rattle.reply.specs.Outcome.{Replied}
-use Rattle.reply.specs.Answer as reply-answer
-use Rattle.bridge.specs.declared.Counted.{Counted}
-use Rattle.bridge.specs.declared.Measure.{Measure}
-use Rattle.bridge.specs.declared.StandIn.{StandIn}
-use Rattle.bridge.specs.declared.Centimetres.{Centimetres}
-use Rattle.bridge.specs.declared.Counts.{Counts}
-use Rattle.bridge.specs.declared.Written.{Written}
-use Rattle.bridge.specs.Units.{length-of, order-of}
-use Rattle.bridge.specs.Says.{Shown}
-use Rattle.bridge.specs.Fields.{of-counted, of-measure, of-stand-in, of-centimetres, of-counts, of-written}
+use Rattle.tell.specs.Answer as reply-answer
+use Rattle.across.specs.declared.Counted.{Counted}
+use Rattle.across.specs.declared.Measure.{Measure}
+use Rattle.across.specs.declared.StandIn.{StandIn}
+use Rattle.across.specs.declared.Centimetres.{Centimetres}
+use Rattle.across.specs.declared.Counts.{Counts}
+use Rattle.across.specs.declared.Written.{Written}
+use Rattle.across.specs.Units.{length-of, order-of}
+use Rattle.across.specs.Says.{Shown}
+use Rattle.across.specs.Fields.{of-counted, of-measure, of-stand-in, of-centimetres, of-counts, of-written}
 
 -- thinning under the order of the unit u and the figure v
 abbrev pub ThinShown : ℕ → Float → List ℤ → List ℕ → List ℕ → Counted → List ℕ → List ℕ → Type 0

@@ -25,26 +25,27 @@ use Rattle.shift.specs.Answer as shift-answer
 use Rattle.sheet.specs.declared.Sheet.{Sheet}
 use Rattle.sheet.specs.Outcome.{ReadSheet}
 use Rattle.sheet.specs.Answer as sheet-answer
-use Rattle.reply.specs.declared.Answer.{Answer}
+use Rattle.tell.specs.declared.Answer.{Answer}
 use Rattle.reply.specs.Outcome.{Replied}
-use Rattle.reply.specs.Answer as reply-answer
+use Rattle.tell.specs.Answer as reply-answer
 use Rattle.ring.specs.declared.Trial.{Trial}
 use Rattle.ring.specs.Ring.{AnswerAt}
 use Rattle.link.specs.Chosen.{Chosen}
 use Rattle.catchup.specs.CatchUp.{CaughtUp}
-use Rattle.bridge.specs.declared.Counted.{Counted}
-use Rattle.bridge.specs.declared.Measure.{Measure}
-use Rattle.bridge.specs.declared.StandIn.{StandIn}
-use Rattle.bridge.specs.declared.Centimetres.{Centimetres}
-use Rattle.bridge.specs.declared.Counts.{Counts}
-use Rattle.bridge.specs.declared.Written.{Written}
-use Rattle.bridge.specs.declared.Stored.{Stored}
+use Rattle.across.specs.declared.Counted.{Counted}
+use Rattle.across.specs.declared.Measure.{Measure}
+use Rattle.across.specs.declared.StandIn.{StandIn}
+use Rattle.across.specs.declared.Centimetres.{Centimetres}
+use Rattle.across.specs.declared.Counts.{Counts}
+use Rattle.across.specs.declared.Written.{Written}
+use Rattle.across.specs.declared.Stored.{Stored}
 use Rattle.bridge.specs.declared.Part.{Part}
-use Rattle.bridge.specs.Units.{length-of, order-of}
-use Rattle.bridge.specs.Says.{Says}
-use Rattle.bridge.specs.Fields.{of-counted, of-measure, of-stand-in, of-centimetres, of-counts, of-written}
+use Rattle.across.specs.Units.{length-of, order-of}
+use Rattle.across.specs.Says.{Says}
+use Rattle.across.specs.Fields.{of-counted, of-measure, of-stand-in, of-centimetres, of-counts, of-written}
 use Rattle.bridge.specs.Calls.{ThinShown, GrowShown, ReplayShown, VolumeShown, ChangeShown, ShiftShown, LimitShown, SheetShown, ReplyShown}
-use Rattle.bridge.specs.Lent.{Stores, TrialShown, Which, RingShown, Places, PartShown}
+use Rattle.across.specs.Fields.{Stores}
+use Rattle.bridge.specs.Lent.{TrialShown, Which, RingShown, Places, PartShown}
 
 -- the calls in the order of their numbers over a pipe, 1 to 12
 pub record Crossing : Type 0 where

@@ -5,17 +5,12 @@ use Prim.Native.Nat.{ℕ, _<_}
 use lib.ListN.{length, drop}
 use denote.Ref.{RefT}
 use Rattle.ring.specs.declared.Trial.{Trial}
-use Rattle.ring.specs.declared.Trial.the-variants.{Number, Nothing}
 use Rattle.ring.specs.Ring.{AnswerAt}
 use Rattle.link.specs.Chosen.{Chosen}
 use Rattle.catchup.specs.CatchUp.{PartOf, CaughtUp}
-use Rattle.bridge.specs.declared.Stored.{Stored}
+use Rattle.across.specs.declared.Stored.{Stored}
+use Rattle.across.specs.Fields.{Stores}
 use Rattle.bridge.specs.declared.Part.{Part}
-
--- 1 and the number, or 0 and 0 where there is nothing
-abbrev pub Stores : Trial → Stored → Type 0
-Stores (Number v) r = (r .there ≡ 1) × (r .number ≡ v)
-Stores Nothing r = (r .there ≡ 0) × (r .number ≡ 0)
 
 -- as the call answers
 pub record TrialShown (at : ℕ) (r : Stored) : Type 0 where

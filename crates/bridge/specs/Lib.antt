@@ -1,6 +1,3 @@
-pub mod Units
-pub mod Says
-pub mod Fields
 pub mod Lent
 pub mod Calls
 pub mod Crossing

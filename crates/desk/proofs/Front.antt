@@ -7,9 +7,9 @@ use lib.ListN.{length, length-append, take, drop}
 use lib.Seq.{take-at, length-take-le}
 use Rattle.io.specs.Counts.{Counts}
 use Rattle.refusal.specs.declared.Refusal.{Refusal}
-use Rattle.reply.specs.declared.Answer.{Answer}
-use Rattle.reply.specs.declared.Answer.the-variants.{Written, Refused}
-use Rattle.reply.specs.Text.{most-text}
+use Rattle.tell.specs.declared.Answer.{Answer}
+use Rattle.tell.specs.declared.Answer.the-variants.{Written, Refused}
+use Rattle.tell.specs.Text.{most-text}
 use Rattle.reply.specs.Outcome.{Answers, Replied}
 use Rattle.reply.proofs.Main.{reply-suffices}
 

@@ -1,15 +1,15 @@
 // The desk's program: a sheet from standard input, the answer to standard output.
 // No contract can say what is read and written, so the work is done by functions on slices.
-use reply::Answer;
+use tell::Answer;
 ghost use Prim.Native.Nat.{_≤_};
 ghost use lib.ListN.{length, take};
 ghost use Rattle.io.specs.Counts.{Counts};
-ghost use Rattle.reply.specs.Text.{most-text};
+ghost use Rattle.tell.specs.Text.{most-text};
 ghost use Rattle.reply.specs.Outcome.{Answers};
 ghost use Rattle.desk.specs.Input.{Within};
 
 // One byte more than a sheet may have, so that a longer one shows and the rest of it is not read.
-const INPUT: usize = sheet::MOST_BYTES + 1;
+const INPUT: usize = form::MOST_BYTES + 1;
 
 // How many bytes were read, or that reading failed.
 pub enum Input {

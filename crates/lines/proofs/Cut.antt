@@ -1,6 +1,6 @@
 -- Lines can be cut into words and numbers in one way only.
 use mathlib.Core.Path.{_≡_, refl, sym, _∙_, ap}
-use mathlib.Core.List.{List, [], _∷_, _++_, append-assoc, append-nil, append-cancel-left}
+use mathlib.Core.List.{List, [], _∷_, _++_, append-assoc, append-nil, append-cancel-left, map}
 use Prim.Native.Nat.{ℕ, zero, suc, _+_, _*_, _≤_, _<_}
 use native.Mathlib.Omega.{arith}
 use lib.IntN.{ℤ, natAbs}
@@ -18,6 +18,18 @@ tab-no-digit d = let l = d .least in omega arith
 pub newline-no-digit : ¬ Digit newline
 newline-no-digit d = let l = d .least in omega arith
 
+-- ---- numbers of a line among others
+
+pub map-drop : {A B : Type 0} (f : A → B) (n : ℕ) (xs : List A) → map f (drop n xs) ≡ drop n (map f xs)
+map-drop f zero xs = refl
+map-drop f (suc n) [] = refl
+map-drop f (suc n) (x ∷ xs) = map-drop f n xs
+
+pub map-take : {A B : Type 0} (f : A → B) (n : ℕ) (xs : List A) → map f (take n xs) ≡ take n (map f xs)
+map-take f zero xs = refl
+map-take f (suc n) [] = refl
+map-take f (suc n) (x ∷ xs) = ap (λ l. f x ∷ l) (map-take f n xs)
+
 -- ---- laws of Short and fields over ++
 
 pub short-append : (most : ℕ) (xs ys : List ℤ) → FewDigits most xs → FewDigits most ys → FewDigits most (xs ++ ys)
@@ -31,6 +43,10 @@ short-left most (x ∷ xs) ys a = (a .0, short-left most xs ys (a .1))
 pub short-right : (most : ℕ) (xs ys : List ℤ) → FewDigits most (xs ++ ys) → FewDigits most ys
 short-right most [] ys a = a
 short-right most (x ∷ xs) ys a = short-right most xs ys (a .1)
+
+pub short-more : (most few : ℕ) (zs : List ℤ) → few ≤ most → FewDigits few zs → FewDigits most zs
+short-more most few [] h a = tt
+short-more most few (z ∷ zs) h a = let k = a .0 in (omega arith, short-more most few zs h (a .1))
 
 pub fields-append : (xs ys : List ℤ) → fields (xs ++ ys) ≡ fields xs ++ fields ys
 fields-append [] ys = refl

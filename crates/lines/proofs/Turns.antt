@@ -1,12 +1,11 @@
--- What holds between two fields and between two lines, and why each way out is right.
+-- What holds between two fields, and why each way out of the readers is right.
 use mathlib.Core.Path.{_≡_, refl, sym, _∙_, ap, subst}
 use mathlib.Core.List.{List, [], _∷_, _++_, append-assoc, append-nil, append-cancel-left}
-use Prim.Native.Nat.{ℕ, suc, _+_, _-_, _*_, _≤_, _<_}
-use native.Mathlib.Nat.{mul-le-mul, le-refl}
+use Prim.Native.Nat.{ℕ, suc, _+_, _≤_, _<_}
 use native.Mathlib.Omega.{arith}
 use lib.IntN.{ℤ, natAbs}
-use lib.ListN.{length, length-append, take, drop, set, take-append-drop}
-use lib.Seq.{sets, length-sets, length-take-le}
+use lib.ListN.{length, length-append, take, drop, set}
+use lib.Seq.{sets, length-sets, sets-eq, take-at}
 use mir.Syntax.{w64}
 use mir.Val.{SFits}
 use Rattle.ints.proofs.Machine.{sfits-abs}
@@ -17,9 +16,9 @@ use Rattle.text.specs.declared.Signed.the-variants as whole
 use Rattle.text.specs.declared.Passed.{Passed}
 use Rattle.text.specs.declared.Passed.the-variants.{To, Bad}
 use Rattle.text.proofs.Digits.{digits-below}
-use Rattle.lines.specs.Lines.{tab, newline, fields, line, lines, FewDigits, LineAt}
-use Rattle.lines.specs.Inner.{FieldAt, FieldsAt, LinesAt, ReadField, PutFrom, ReadInto}
-use Rattle.lines.proofs.Cut.{short-append, short-left, short-right, fields-append, after-field, newline-no-digit, cut, fields-unique, line-after, lines-more, cut-lines}
+use Rattle.lines.specs.Lines.{tab, newline, fields, FewDigits, LineAt}
+use Rattle.lines.specs.Inner.{FieldAt, FieldsAt, ReadField, PutFrom, ReadInto}
+use Rattle.lines.proofs.Cut.{short-append, short-right, fields-append, after-field, newline-no-digit, cut, fields-unique, line-after}
 
 -- ---- one field
 
@@ -41,11 +40,18 @@ sets-append l at (x ∷ xs) ys =
     sets-append (set l at x) (suc at) xs ys ∙ ap (λ (k : ℕ). sets (sets (set l at x) (suc at) xs) k ys) e
 
 -- numbers put, and more after them
-put-more : (room room₁ room₂ : List ℤ) (start n : ℕ) (zs new : List ℤ) → room₁ ≡ sets room start zs → length zs ≡ n → room₂ ≡ sets room₁ (start + n) new → room₂ ≡ sets room start (zs ++ new)
+pub put-more : {A : Type 0} (room room₁ room₂ : List A) (start n : ℕ) (zs new : List A) → room₁ ≡ sets room start zs → length zs ≡ n → room₂ ≡ sets room₁ (start + n) new → room₂ ≡ sets room start (zs ++ new)
 put-more room room₁ room₂ start n zs new p h q = q ∙ (λ k. sets (p k) (start + sym h k) new) ∙ sym (sets-append room start zs new)
 
-pub put-length : {Stand : List ℤ → List ℕ → Type 0} {n start : ℕ} {room room′ : List ℤ} {r : List ℕ} → PutFrom Stand n room start room′ r → length room′ ≡ length room
+pub put-length : {A : Type 0} {Stand : List A → List ℕ → Type 0} {n start : ℕ} {room room′ : List A} {r : List ℕ} → PutFrom Stand n room start room′ r → length room′ ≡ length room
 put-length {start = start} {room = room} p = ap length (p .put) ∙ length-sets room start (p .zs)
+
+-- what is put in front of a room stands there, with the rest as it was
+pub in-front : {A : Type 0} (l xs : List A) → length xs ≤ length l → sets l 0 xs ≡ xs ++ drop (length xs) l
+in-front l xs h = let e : 0 + length xs ≡ length xs = omega arith in sets-eq xs l 0 (omega arith) ∙ ap (λ (k : ℕ). xs ++ drop k l) e
+
+pub front : {A : Type 0} (l l′ xs : List A) (n : ℕ) → l′ ≡ sets l 0 xs → length xs ≡ n → n ≤ length l → take n l′ ≡ xs
+front l l′ xs n p h k = ap (take n) (p ∙ in-front l xs (omega arith)) ∙ take-at xs (drop (length xs) l) n h
 
 -- ---- fields
 
@@ -123,52 +129,3 @@ module _ (most count : ℕ) (s : List ℕ) (at : ℕ) (w : List ℕ) (room : Lis
     line-end room′ end p Bad f = λ ys r n a.
         let b = its-fields a in
         f r (fields-unique (p .zs) ys (drop end s) (newline ∷ r) (p .here .ends) (b .ends) (p .count ∙ sym n) (sym (p .here .bytes) ∙ b .bytes) .1)
-
--- ---- lines
-
-module _ (most width count : ℕ) (s : List ℕ) (at : ℕ) (w : List ℕ) (room : List ℤ) where
-  -- i lines are read, up to k
-  pub record Lined (room′ : List ℤ) (k start i : ℕ) : Type 0 where
-    pub within : i ≤ count
-    pub place : start ≡ i * width
-    pub put : PutFrom (LinesAt most w width i (drop at s)) (i * width) room 0 room′ (drop k s)
-
-  pub lines-start : Lined room at 0 0
-  lines-start = record { within = omega arith; place = omega arith; put = record { zs = []; count = omega arith; here = record { bytes = refl; short = tt }; put = refl } }
-
-  module _ (room′ : List ℤ) (k start i : ℕ) (so : Lined room′ k start i) where
-    pub line-room : count * width ≤ length room → i < count → start + width ≤ length room′
-    line-room h l = let p = so .place in let m : suc i * width ≤ count * width = mul-le-mul l (le-refl width) in omega (arith, put-length (so .put))
-
-    pub lines-next : (room₂ : List ℤ) (n : ℕ) → i < count → PutFrom (LineAt most w (drop k s)) width room′ start room₂ (drop n s) → Lined room₂ n (start + width) (i + 1)
-    lines-next room₂ n h q = let p = so .put in let a = so .place in let c = p .count in let d = q .count in
-        let f : suc i ≡ i + 1 = omega arith in
-        let g : start ≡ 0 + i * width = omega arith in
-        let m : PutFrom (LinesAt most w width (suc i) (drop at s)) (suc i * width) room 0 room₂ (drop n s) = record {
-          zs = p .zs ++ q .zs;
-          count = length-append (p .zs) (q .zs) ∙ (omega arith);
-          here = record {
-            bytes = p .here .bytes ∙ ap (λ x. lines w width i (p .zs) ++ x) (q .here .bytes) ∙ sym (append-assoc (lines w width i (p .zs)) (line w (q .zs)) (drop n s)) ∙ ap (λ x. x ++ drop n s) (sym (lines-more w width i (p .zs) (q .zs) c d));
-            short = short-append most (p .zs) (q .zs) (p .here .short) (q .here .short);
-          };
-          put = put-more room room′ room₂ 0 (i * width) (p .zs) (q .zs) (p .put) c (q .put ∙ ap (λ (x : ℕ). sets room′ x (q .zs)) g);
-        } in
-        record { within = omega arith; place = omega arith; put = subst (λ (x : ℕ). PutFrom (LinesAt most w width x (drop at s)) (x * width) room 0 room₂ (drop n s)) f m }
-
-    -- no line is next, so there are not enough
-    pub lines-stop : i < count → ((zs : List ℤ) (r : List ℕ) → length zs ≡ width → ¬ LineAt most w (drop k s) zs r) → (ys : List ℤ) (r : List ℕ) → length ys ≡ count * width → LinesAt most w width count (drop at s) ys r → ⊥
-    lines-stop h none ys r n b = let p = so .put in
-        let j = count - suc i in
-        let e : count ≡ i + suc j = omega arith in
-        let c = p .count in
-        let v = cut-lines w width i count (suc j) (p .zs) ys (drop k s) r e c n (sym (p .here .bytes) ∙ b .bytes) in
-        let m : length ys ≡ length (p .zs) + length (v .ts) = ap length (v .text) ∙ length-append (p .zs) (v .ts) in
-        let o : length ys ≡ (i + suc j) * width = n ∙ ap (λ (x : ℕ). x * width) e in
-        let short : FewDigits most (v .ts) = short-right most (p .zs) (v .ts) (subst (FewDigits most) (v .text) (b .short)) in
-        none (take width (v .ts)) (lines w width j (drop width (v .ts)) ++ r) (length-take-le width (v .ts) (omega arith)) (record {
-          bytes = v .after ∙ append-assoc (line w (take width (v .ts))) (lines w width j (drop width (v .ts))) r;
-          short = short-left most (take width (v .ts)) (drop width (v .ts)) (subst (FewDigits most) (sym (take-append-drop width (v .ts))) short);
-        })
-
-    pub lines-end : count ≤ i → PutFrom (LinesAt most w width count (drop at s)) (count * width) room 0 room′ (drop k s)
-    lines-end h = let a = so .within in let e : i ≡ count = omega arith in subst (λ (x : ℕ). PutFrom (LinesAt most w width x (drop at s)) (x * width) room 0 room′ (drop k s)) e (so .put)

@@ -11,7 +11,7 @@ use Rattle.text.specs.declared.Passed.{Passed}
 use Rattle.text.specs.declared.Passed.the-variants.{To, Bad}
 use Rattle.text.specs.declared.Signed.{Signed}
 use Rattle.text.specs.declared.Signed.the-variants as whole
-use Rattle.lines.specs.Lines.{tab, fields, lines, FewDigits}
+use Rattle.lines.specs.Lines.{tab, fields, FewDigits}
 
 -- one field stands in front of l, and r, which begins with no digit, follows
 pub record FieldAt (most : ℕ) (l : List ℕ) (z : ℤ) (r : List ℕ) : Type 0 where
@@ -25,24 +25,19 @@ pub record FieldsAt (most : ℕ) (l : List ℕ) (zs : List ℤ) (r : List ℕ) :
   pub short : FewDigits most zs
   pub ends : 0 < length zs → NoDigit r
 
--- k lines of the word w stand in front of l, and r follows
-pub record LinesAt (most : ℕ) (w : List ℕ) (width k : ℕ) (l : List ℕ) (zs : List ℤ) (r : List ℕ) : Type 0 where
-  pub bytes : l ≡ lines w width k zs ++ r
-  pub short : FewDigits most zs
-
 -- one field read from a place, and the place after it; or none stands there
 unfoldable pub ReadField : ℕ → List ℕ → ℕ → Signed → Type 0
 ReadField most s at (whole.Read z c) = FieldAt most (drop at s) z (drop (c .at) s)
 ReadField most s at whole.Bad = (z : ℤ) (r : List ℕ) → ¬ FieldAt most (drop at s) z r
 
 -- n numbers that stand somewhere, with r after them, put into a room from its place start on
-pub record PutFrom (Stand : List ℤ → List ℕ → Type 0) (n : ℕ) (room : List ℤ) (start : ℕ) (room′ : List ℤ) (r : List ℕ) : Type 0 where
-  pub zs : List ℤ
+pub record PutFrom {A : Type 0} (Stand : List A → List ℕ → Type 0) (n : ℕ) (room : List A) (start : ℕ) (room′ : List A) (r : List ℕ) : Type 0 where
+  pub zs : List A
   pub count : length zs ≡ n
   pub here : Stand zs r
   pub put : room′ ≡ sets room start zs
 
 -- n numbers read into a room, and the place after them; or no such n numbers stand there
-unfoldable pub ReadInto : (List ℤ → List ℕ → Type 0) → ℕ → List ℕ → List ℤ → ℕ → List ℤ → Passed → Type 0
-ReadInto Stand n s room start room′ (To c) = PutFrom Stand n room start room′ (drop (c .at) s)
-ReadInto Stand n s room start room′ Bad = (zs : List ℤ) (r : List ℕ) → length zs ≡ n → ¬ Stand zs r
+unfoldable pub ReadInto : {A : Type 0} → (List A → List ℕ → Type 0) → ℕ → List ℕ → List A → ℕ → List A → Passed → Type 0
+ReadInto {A} Stand n s room start room′ (To c) = PutFrom Stand n room start room′ (drop (c .at) s)
+ReadInto {A} Stand n s room start room′ Bad = (zs : List A) (r : List ℕ) → length zs ≡ n → ¬ Stand zs r

@@ -1,2 +1,4 @@
+pub mod InnerLimits
 pub mod Lines
+pub mod Kinds
 pub mod Inner

@@ -1,8 +1,8 @@
 -- Lines of numbers: "Lines end in one newline; fields are parted by single tabs."
 use mathlib.Core.Path.{_≡_}
-use mathlib.Core.List.{List, [], _∷_, _++_}
+use mathlib.Core.List.{List, [], _∷_, _++_, map}
 use Prim.Native.Nat.{ℕ, zero, suc, _≤_}
-use lib.IntN.{ℤ, natAbs}
+use lib.IntN.{ℤ, pos, natAbs}
 use lib.ListN.{length, take, drop}
 use Rattle.text.specs.Decimal.{decimal, signed}
 use Rattle.text.specs.declared.Signed.the-variants as whole
@@ -26,6 +26,10 @@ line w zs = w ++ (fields zs ++ (newline ∷ []))
 abbrev pub lines : List ℕ → ℕ → ℕ → List ℤ → List ℕ
 lines w width zero zs = []
 lines w width (suc k) zs = line w (take width zs) ++ lines w width k (drop width zs)
+
+-- the same of plain numbers, which have no minus
+abbrev pub plain : List ℕ → ℕ → ℕ → List ℕ → List ℕ
+plain w width k ns = lines w width k (map pos ns)
 
 -- numbers of at most so many digits
 abbrev pub FewDigits : ℕ → List ℤ → Type 0

@@ -1,11 +1,14 @@
-// Lines of numbers: a word, fields parted by single tabs, one newline. What is read goes into a lent room.
-ghost use Prim.Native.Nat.{_+_, _*_, _≤_, _<_};
+// A line of numbers: a word, fields parted by single tabs, one newline. What is read goes into a lent room.
+ghost use Prim.Native.Nat.{_+_, _≤_, _<_};
 ghost use lib.ListN.{length, drop};
 ghost use Rattle.lines.specs.Lines.{LineAt};
-ghost use Rattle.lines.specs.Inner.{FieldsAt, LinesAt, ReadField, ReadInto};
+ghost use Rattle.lines.specs.Inner.{FieldsAt, ReadField, ReadInto};
 use text::Cursor;
 use text::Passed;
 use text::Signed;
+
+// No line has more numbers.
+pub const MOST_LINE: usize = 16;
 
 // One field: a tab and a number.
 fn read_field(s: &[u8], from: Cursor, most: usize) -> Signed
@@ -67,32 +70,4 @@ pub fn read_line(
         return Passed::Bad;
     };
     text::expect(s, end, b"\n")
-}
-
-// Inner: so many lines of the word w, each with width fields, put into room from its start on.
-pub fn read_lines(
-    s: &[u8],
-    from: Cursor,
-    w: &[u8],
-    most: usize,
-    room: &mut [i64],
-    width: usize,
-    count: usize,
-) -> Passed
-    requires { ⌜ (0 < most) × (most ≤ 18) × (count * width ≤ length (now room)) ⌝ }
-    ensures { λ r. ⌜ ReadInto (LinesAt most (now (w .entry)) width count (drop (from .at) (now (s .entry)))) (count * width) (now (s .entry)) (now (room .entry)) 0 (now (room .exit)) r ⌝ }
-{
-    let mut k = from.at;
-    let mut start: usize = 0;
-    let mut i: usize = 0;
-    while i < count {
-        let read = read_line(s, Cursor { at: k }, w, most, room, start, width);
-        let Passed::To(next) = read else {
-            return Passed::Bad;
-        };
-        k = next.at;
-        start += width;
-        i += 1;
-    }
-    Passed::To(Cursor { at: k })
 }

@@ -33,9 +33,9 @@ use Rattle.shift.specs.declared.Shifted.{Shifted}
 use Rattle.shift.specs.Answer as shifts
 use Rattle.shift.specs.Report.{ShiftReport, Bounded}
 use Rattle.shift.proofs.Main.{log-shift-bound}
-use Rattle.sheet.specs.Form.{row-lines}
-use Rattle.reply.specs.declared.Answer.{Answer}
-use Rattle.reply.specs.Text.{record-lines, ok-text}
+use Rattle.lines.specs.Kinds.{row-lines, record-lines}
+use Rattle.tell.specs.declared.Answer.{Answer}
+use Rattle.tell.specs.Text.{ok-text}
 use Rattle.reply.specs.Outcome.{SkinOf, Replied}
 use Rattle.reply.proofs.Main.{skin-tells}
 use Rattle.promises.specs.Thinning.{PrintedNear}

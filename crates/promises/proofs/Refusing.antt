@@ -38,9 +38,10 @@ use Rattle.replay.proofs.Main as replays
 use Rattle.sheet.specs.declared.Sheet.{Sheet}
 use Rattle.sheet.specs.declared.Sheet.the-variants as sheet
 use Rattle.sheet.specs.Answer as sheets
-use Rattle.sheet.specs.Form.{SheetOf, form-refusals}
+use Rattle.form.specs.Form.{SheetOf, form-refusals}
 use Rattle.sheet.specs.Outcome.{skin-refusals, ReadSheet, bad-form, bad-skin, read}
-use Rattle.sheet.proofs.Promises.{one-skin, moved}
+use Rattle.form.proofs.One.{one-skin}
+use Rattle.sheet.proofs.Promises.{moved}
 use Rattle.reply.proofs.Main.{reply-told}
 use Rattle.promises.specs.Refusing.{DemandOne}
 

@@ -25,7 +25,7 @@ use Rattle.sheet.specs.declared.Sheet.{Sheet}
 use Rattle.sheet.specs.Outcome.{ReadSheet}
 use Rattle.ring.specs.declared.Trial.{Trial}
 use Rattle.ring.specs.Ring as ring
-use Rattle.reply.specs.declared.Answer.{Answer}
+use Rattle.tell.specs.declared.Answer.{Answer}
 use Rattle.reply.specs.Outcome.{Replied}
 
 -- the calls in the order of their numbers over a pipe, 1 to 12; each line names the relation that the call's `ensures` states

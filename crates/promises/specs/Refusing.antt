@@ -40,10 +40,10 @@ use Rattle.shift.specs.Order.{shift-refusals}
 use Rattle.shift.specs.Report.{ShiftReport}
 use Rattle.sheet.specs.declared.Sheet.{Sheet}
 use Rattle.sheet.specs.Answer as sheets
-use Rattle.sheet.specs.Form.{SheetOf, form-refusals}
+use Rattle.form.specs.Form.{SheetOf, form-refusals}
 use Rattle.sheet.specs.Outcome.{skin-refusals, ReadSheet}
-use Rattle.reply.specs.declared.Answer.{Answer}
-use Rattle.reply.specs.Answer as replies
+use Rattle.tell.specs.declared.Answer.{Answer}
+use Rattle.tell.specs.Answer as replies
 use Rattle.reply.specs.Outcome.{Replied}
 
 -- 13 and a number of records are told exactly when no refusal of the list holds and the records stop after so many; the rows that these led to are left

@@ -38,8 +38,8 @@ use Rattle.shift.specs.declared.Shifted.{Shifted}
 use Rattle.shift.specs.Answer as shifts
 use Rattle.shift.specs.Report.{ShiftReport, Bounded}
 use Rattle.lines.specs.Lines.{line}
-use Rattle.reply.specs.declared.Answer.{Answer}
-use Rattle.reply.specs.Text.{OK}
+use Rattle.tell.specs.declared.Answer.{Answer}
+use Rattle.tell.specs.Text.{OK}
 use Rattle.reply.specs.Outcome.{SkinOf, Replied}
 
 -- where thinning under an order is done, and tells 0 and k records

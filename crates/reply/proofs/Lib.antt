@@ -1,6 +1,3 @@
-pub mod Widening
-pub mod Telling
-pub mod Gathering
 pub mod Running
 pub mod Sheets
 pub mod Most

@@ -17,12 +17,13 @@ use Rattle.refusal.specs.Told.{done, refused}
 use Rattle.refusal.proofs.Laws.{verdicts, first-one, refused-one, refused-passes}
 use Rattle.faults.specs.Order.{refusals-after-counts}
 use Rattle.run.proofs.Main.{run-one}
-use Rattle.sheet.proofs.Promises.{Same, one-skin}
-use Rattle.reply.specs.declared.Answer.{Answer}
-use Rattle.reply.specs.declared.Answer.the-variants.{Written}
-use Rattle.reply.specs.Text.{most-text, no-text, ok-text}
-use Rattle.reply.specs.Answer.{told}
-use Rattle.reply.specs.Outcome.{NoSkin, bad-form, bad-skin, SkinOf, TellsRun, Answers, no, ok, Put, fits, short, Replied}
+use Rattle.form.proofs.One.{Same, one-skin}
+use Rattle.tell.specs.declared.Answer.{Answer}
+use Rattle.tell.specs.declared.Answer.the-variants.{Written}
+use Rattle.tell.specs.Text.{most-text, no-text, ok-text}
+use Rattle.tell.specs.Answer.{told}
+use Rattle.reply.specs.Outcome.{NoSkin, bad-form, bad-skin, SkinOf, TellsRun, Answers, no, ok, Replied}
+use Rattle.tell.specs.Put.{Put, fits, short}
 use Rattle.reply.proofs.Most.{answer-fits}
 
 -- ---- one text for any bytes

@@ -29,13 +29,13 @@ use Rattle.text.specs.Decimal.{decimal, signed}
 use Rattle.text.proofs.Digits.{below-digits}
 use Rattle.lines.specs.Lines.{fields, line, lines, FewDigits}
 use Rattle.lines.proofs.Cut.{short-append}
-use Rattle.sheet.specs.Limits.{most-digits, most-sheet-rows}
-use Rattle.sheet.specs.Form.{R, row-lines}
-use Rattle.sheet.proofs.Sizes.{signed-size, fields-size}
-use Rattle.reply.specs.Text.{OK, NO, K, most-text, no-text, ok-text, record-lines}
+use Rattle.form.specs.Limits.{most-digits, most-sheet-rows}
+use Rattle.form.proofs.Sizes.{signed-size, fields-size}
+use Rattle.lines.specs.Kinds.{R, K, row-lines, record-lines}
+use Rattle.tell.specs.Text.{OK, NO, most-text, no-text, ok-text}
 use Rattle.reply.specs.Outcome.{TellsRun, SkinOf, Answers, no, ok}
-use Rattle.reply.proofs.Telling.{line-length, lines-length}
-use Rattle.reply.proofs.Sheets.{counts-within}
+use Rattle.tell.proofs.Telling.{line-length, lines-length}
+use Rattle.form.proofs.Counted.{counts-within}
 
 -- ---- numbers of at most six digits
 

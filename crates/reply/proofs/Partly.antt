@@ -6,10 +6,11 @@ use native.Mathlib.Omega.{arith}
 use lib.IntN.{ℤ}
 use lib.ListN.{getD}
 use Rattle.refusal.specs.declared.Refusal.{Refusal}
-use Rattle.reply.specs.declared.Answer.{Answer}
-use Rattle.reply.specs.declared.Answer.the-variants.{Written}
-use Rattle.reply.specs.Text.{no-text}
-use Rattle.reply.specs.Outcome.{NoSkin, SkinOf, TellsRun, no, ok, Put, fits, short, Replied}
+use Rattle.tell.specs.declared.Answer.{Answer}
+use Rattle.tell.specs.declared.Answer.the-variants.{Written}
+use Rattle.tell.specs.Text.{no-text}
+use Rattle.reply.specs.Outcome.{NoSkin, SkinOf, TellsRun, no, ok, Replied}
+use Rattle.tell.specs.Put.{Put, fits, short}
 use Rattle.reply.proofs.Main.{answers-one}
 
 -- where a sheet is refused, the `NO` line is all that is put into the lent text

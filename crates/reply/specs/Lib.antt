@@ -1,4 +1,2 @@
-pub mod Text
 pub mod Outcome
-pub mod Answer
 pub mod Inner

@@ -1,25 +1,23 @@
 -- The desk's whole outcome: what it has to say of any bytes, and every byte of the lent text.
 use mathlib.Core.Path.{_≡_}
 use mathlib.Core.Bool.{true}
-use mathlib.Core.List.{List, _++_}
-use Prim.Native.Nat.{ℕ, _≤_, _<_}
+use mathlib.Core.List.{List}
+use Prim.Native.Nat.{ℕ}
 use lib.IntN.{ℤ}
-use lib.ListN.{length, drop}
 use Rattle.surface.specs.Rows.{Row, rows}
 use Rattle.surface.specs.Record.{Record}
 use Rattle.corners.specs.Skin.{Skin}
 use Rattle.refusal.specs.First.{First}
 use Rattle.refusal.specs.declared.Refusal.{Refusal}
-use Rattle.refusal.specs.declared.Refusal.the-variants.{RoomShort}
 use Rattle.refusal.specs.declared.Verdict.the-variants as verdict
 use Rattle.faults.specs.Order.{refusals-after-counts}
 use Rattle.run.specs.Run.{Run}
 use Rattle.least.specs.declared.Bound.the-variants.{Free}
 use Rattle.least.specs.Limited.{Allowed}
-use Rattle.sheet.specs.Form.{SheetOf, form-refusals}
-use Rattle.reply.specs.declared.Answer.{Answer}
-use Rattle.reply.specs.declared.Answer.the-variants.{Written, Refused}
-use Rattle.reply.specs.Text.{no-text, ok-text}
+use Rattle.form.specs.Form.{SheetOf, form-refusals}
+use Rattle.tell.specs.declared.Answer.{Answer}
+use Rattle.tell.specs.Text.{no-text, ok-text}
+use Rattle.tell.specs.Put.{Put}
 
 -- the sheet b is refused: for its form, or for what it holds, 4 to 11. No room is lent for what it holds, so 3 is not asked
 pub data NoSkin (b : List ℕ) (r : Refusal) : Type 0 where
@@ -46,11 +44,6 @@ pub record TellsRun (xs : List ℤ) (t txt : List ℕ) : Type 0 where
 pub data Answers (b txt : List ℕ) : Type 0 where
   no : {r : Refusal} → NoSkin b r → txt ≡ no-text r → Answers b txt
   ok : {xs : List ℤ} {t : List ℕ} → SkinOf b xs t → TellsRun xs t txt → Answers b txt
-
--- txt in front of the lent text, the rest as it was; "room is short exactly when what is to be written does not fit"
-pub data Put (txt text : List ℕ) (a : Answer) (text′ : List ℕ) : Type 0 where
-  fits : length txt ≤ length text → a ≡ Written (length txt) → text′ ≡ txt ++ drop (length txt) text → Put txt text a text′
-  short : length text < length txt → a ≡ Refused RoomShort → text′ ≡ text → Put txt text a text′
 
 -- the answer a to the bytes b with the lent text, and what then stands there
 pub record Replied (b text : List ℕ) (a : Answer) (text′ : List ℕ) : Type 0 where

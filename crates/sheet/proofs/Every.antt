@@ -17,11 +17,12 @@ use Rattle.text.proofs.Digits.{below-digits}
 use Rattle.lines.specs.Lines.{FewDigits}
 use Rattle.sheet.specs.declared.Sheet.{Sheet}
 use Rattle.sheet.specs.declared.Sheet.the-variants.{Read}
-use Rattle.sheet.specs.Limits.{most-digits, most-sheet-corners, most-sheet-rows}
-use Rattle.sheet.specs.Form.{sheet-text, corner-lines, row-lines, CountsIn, SheetOf, form-refusals}
+use Rattle.lines.specs.Kinds.{corner-lines, row-lines}
+use Rattle.form.specs.Limits.{most-digits, most-sheet-corners, most-sheet-rows}
+use Rattle.form.specs.Form.{sheet-text, CountsIn, SheetOf, form-refusals}
 use Rattle.sheet.specs.Outcome.{ReadSheet, read}
-use Rattle.sheet.proofs.Sizes.{sheet-size}
-use Rattle.sheet.proofs.Formed.{its-line, form-passes}
+use Rattle.form.proofs.Sizes.{sheet-size}
+use Rattle.form.proofs.Formed.{its-line, form-passes}
 use Rattle.sheet.proofs.Last.{after-room}
 use Rattle.sheet.proofs.Promises.{SameOutcome, one-outcome}
 
@@ -64,4 +65,4 @@ module _ (n : ℕ) (xs : List ℤ) (t : List ℕ) (threes : length t % 3 ≡ 0) 
   pub its-sheet-reads : (troom troom′ : List ℕ) (croom croom′ : List ℤ) (a : Sheet) → length t ≤ length troom → length xs ≤ length croom → ReadSheet (sheet-text n m xs t) troom troom′ croom croom′ a → SameOutcome a (Read n m) troom′ (t ++ drop (length t) troom) croom′ (xs ++ drop (length xs) croom)
   its-sheet-reads troom troom′ croom croom′ a h k o =
       let s = its-sheet in
-      one-outcome (sheet-text n m xs t) troom croom o (read its-form s (after-room n m counts xs t (s .corners) (s .rows) troom croom (let r = s .rows in omega arith) (let c = s .corners in omega arith) Passes (skin-passes t threes n xs skin)) skin refl refl refl)
+      one-outcome (sheet-text n m xs t) troom croom o (read its-form s (after-room (record { counts = counts; corners = s .corners; rows = s .rows }) troom croom h k Passes (skin-passes t threes n xs skin)) skin refl refl refl)

@@ -14,7 +14,7 @@ use Rattle.refusal.specs.declared.Verdict.the-variants as verdict
 use Rattle.faults.specs.Order.{refusals-after-counts}
 use Rattle.sheet.specs.declared.Sheet.{Sheet}
 use Rattle.sheet.specs.declared.Sheet.the-variants.{Read, Refused}
-use Rattle.sheet.specs.Form.{SheetOf, form-refusals}
+use Rattle.form.specs.Form.{SheetOf, form-refusals}
 
 -- table or corners do not fit their lent rooms
 pub data NoRoom (troom : List ℕ) (croom : List ℤ) (xs : List ℤ) (t : List ℕ) : Type 0 where

@@ -1,6 +1,6 @@
 -- One thing written after another: what is left to write, so that every writer's loop has one invariant.
 use mathlib.Core.Path.{_≡_, refl, sym, _∙_, ap, subst}
-use mathlib.Core.List.{List, [], _∷_, _++_}
+use mathlib.Core.List.{List, [], _∷_, _++_, map}
 use Prim.Native.Nat.{ℕ, zero, suc, _+_, _-_, _*_, _≤_, _<_}
 use native.Mathlib.Omega.{arith}
 use native.Mathlib.Numerals.{add-one}
@@ -11,7 +11,8 @@ use lib.Seq.{sets, length-sets, drop-cons, drop-drop}
 use Rattle.text.specs.Decimal.{signed}
 use Rattle.text.specs.InnerReading.{Written}
 use Rattle.text.proofs.Spell.{write-after}
-use Rattle.lines.specs.Lines.{tab, newline, fields, line, lines}
+use Rattle.lines.specs.Lines.{tab, newline, fields, line, lines, plain}
+use Rattle.lines.proofs.Cut.{map-take, map-drop}
 use Rattle.lines.proofs.Turns.{sets-append}
 
 -- writing w at the place k of l comes to what writing w₀ at k₀ of l₀ does
@@ -107,38 +108,41 @@ module _ (w : List ℕ) (zs : List ℤ) (l : List ℕ) (at : ℕ) (f : at + leng
       pub line-written : {r₃ : ℕ} {l₃ : List ℕ} → Written l₂ r₂ (newline ∷ []) r₃ l₃ → Written l at (line w zs) r₃ l₃
       line-written t = onward-end (onward (newline ∷ []) (newline ∷ []) [] refl after-numbers t)
 
--- ---- lines
+-- ---- lines of plain numbers
 
 -- i lines are written, with the numbers before from
-pub record Lining (l₀ : List ℕ) (at : ℕ) (w : List ℕ) (zs : List ℤ) (width count : ℕ) (l : List ℕ) (k from i : ℕ) : Type 0 where
+pub record Lining (l₀ : List ℕ) (at : ℕ) (w ns : List ℕ) (width count : ℕ) (l : List ℕ) (k from i : ℕ) : Type 0 where
   pub within : i ≤ count
   pub passed : from ≡ i * width
-  pub left : Onward l₀ at (lines w width count zs) l k (lines w width (count - i) (drop from zs))
+  pub left : Onward l₀ at (plain w width count ns) l k (plain w width (count - i) (drop from ns))
 
-module _ (l₀ : List ℕ) (at : ℕ) (w : List ℕ) (zs : List ℤ) (width count : ℕ) where
-  pub lining-start : Lining l₀ at w zs width count l₀ at 0 0
-  lining-start = let e : count ≡ count - 0 = omega arith in record { within = omega arith; passed = omega arith; left = subst (λ (n : ℕ). Onward l₀ at (lines w width count zs) l₀ at (lines w width n zs)) e (onward-start l₀ at (lines w width count zs)) }
+pub lining-start : (l₀ : List ℕ) (at : ℕ) (w ns : List ℕ) (width count : ℕ) → Lining l₀ at w ns width count l₀ at 0 0
+lining-start l₀ at w ns width count =
+    let e : count ≡ count - 0 = omega arith in
+    record { within = omega arith; passed = omega arith; left = subst (λ (n : ℕ). Onward l₀ at (plain w width count ns) l₀ at (plain w width n ns)) e (onward-start l₀ at (plain w width count ns)) }
 
-  module _ {l : List ℕ} {k from i : ℕ} (o : Lining l₀ at w zs width count l k from i) where
-    module _ (h : i < count) where
-      one-line : lines w width (count - i) (drop from zs) ≡ line w (take width (drop from zs)) ++ lines w width (count - (i + 1)) (drop (from + width) zs)
-      one-line =
-          let e : count - i ≡ suc (count - (i + 1)) = omega arith in
-          (λ j. lines w width (e j) (drop from zs)) ∙ ap (λ x. line w (take width (drop from zs)) ++ lines w width (count - (i + 1)) x) (drop-drop width from zs)
+module _ {l₀ : List ℕ} {at : ℕ} {w ns : List ℕ} {width count : ℕ} {l : List ℕ} {k from i : ℕ} (o : Lining l₀ at w ns width count l k from i) where
+  module _ (h : i < count) where
+    one-line : plain w width (count - i) (drop from ns) ≡ line w (map pos (take width (drop from ns))) ++ plain w width (count - (i + 1)) (drop (from + width) ns)
+    one-line =
+        let e : count - i ≡ suc (count - (i + 1)) = omega arith in
+        let f = sym (map-take pos width (drop from ns)) in
+        let g = sym (map-drop pos width (drop from ns)) ∙ ap (map pos) (drop-drop width from ns) in
+        (λ j. plain w width (e j) (drop from ns)) ∙ (λ j. line w (f j) ++ lines w width (count - (i + 1)) (g j))
 
-      -- its numbers are there
-      pub numbers-there : count * width ≤ length zs → from + width ≤ length zs
-      numbers-there f = let p = o .passed in let a : i + 1 ≤ count = omega arith in let m : (i + 1) * width ≤ count * width = mul-le-mul a (le-refl width) in omega arith
+    -- its numbers are there
+    pub numbers-there : count * width ≤ length ns → from + width ≤ length ns
+    numbers-there f = let p = o .passed in let a : i + 1 ≤ count = omega arith in let m : (i + 1) * width ≤ count * width = mul-le-mul a (le-refl width) in omega arith
 
-      pub line-fits : at + length (lines w width count zs) ≤ length l₀ → k + length (line w (take width (drop from zs))) ≤ length l
-      line-fits f = onward-front (line w (take width (drop from zs))) (lines w width (count - (i + 1)) (drop (from + width) zs)) (subst (Onward _ _ _ _ _) one-line (o .left)) f
+    pub line-fits : at + length (plain w width count ns) ≤ length l₀ → k + length (line w (map pos (take width (drop from ns)))) ≤ length l
+    line-fits f = onward-front (line w (map pos (take width (drop from ns)))) (plain w width (count - (i + 1)) (drop (from + width) ns)) (subst (Onward _ _ _ _ _) one-line (o .left)) f
 
-      pub lining-more : {r : ℕ} {l₁ : List ℕ} → Written l k (line w (take width (drop from zs))) r l₁ → Lining l₀ at w zs width count l₁ r (from + width) (i + 1)
-      lining-more p = let q = o .passed in record {
-        within = omega arith;
-        passed = omega arith;
-        left = onward _ (line w (take width (drop from zs))) _ one-line (o .left) p;
-      }
+    pub lining-more : {r : ℕ} {l₁ : List ℕ} → Written l k (line w (map pos (take width (drop from ns)))) r l₁ → Lining l₀ at w ns width count l₁ r (from + width) (i + 1)
+    lining-more p = let q = o .passed in record {
+      within = omega arith;
+      passed = omega arith;
+      left = onward _ (line w (map pos (take width (drop from ns)))) _ one-line (o .left) p;
+    }
 
-    pub lining-end : count ≤ i → Written l₀ at (lines w width count zs) k l
-    lining-end h = let e : count - i ≡ 0 = omega arith in onward-end (subst (λ (n : ℕ). Onward l₀ at (lines w width count zs) l k (lines w width n (drop from zs))) e (o .left))
+  pub lining-end : count ≤ i → Written l₀ at (plain w width count ns) k l
+  lining-end h = let e : count - i ≡ 0 = omega arith in onward-end (subst (λ (n : ℕ). Onward l₀ at (plain w width count ns) l k (plain w width n (drop from ns))) e (o .left))

@@ -2,5 +2,5 @@
 use Prim.Native.Nat.{ℕ}
 
 -- far more than any text holds; at 21 bytes each their length still fits 64 bits
-abbrev pub most-fields : ℕ
-most-fields = 4294967296
+abbrev pub most-measured : ℕ
+most-measured = 4294967296

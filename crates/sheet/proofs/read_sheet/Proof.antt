@@ -1,10 +1,8 @@
--- `read_sheet` meets its contract.
-use mathlib.Core.Path.{refl, subst}
-use Prim.Native.Nat.{_*_, _≤_}
-use lib.IntN.{pos}
-use lib.ListN.{replicate}
+-- `read_sheet` meets its contract: refused for its form, or what it holds is delivered.
+use mathlib.Core.Path.{refl, sym}
+use Rattle.form.specs.Inner.{ReadForm}
 use Rattle.sheet.specs.Outcome.{bad-form}
-use Rattle.sheet.specs.Inner.{ReadForm}
+use Rattle.form.proofs.Within.{its-held}
 use Rattle.sheet.proofs.Last.{whole-outcome}
 use native.Mathlib.Omega.{arith}
 use borrow.Author.Needs.{needs}
@@ -18,40 +16,67 @@ slice-aggregate-read-form-2 : tie.Need-slice-aggregate-read-form-2
 slice-aggregate-read-form-2 c = search needs
 
 read-form-requires : tie.Need-read-form-requires
-read-form-requires c κs = search needs
+read-form-requires c κs = record { corners = search needs; rows = search needs }
 
-enum-known-form : tie.Need-enum-known-form
-enum-known-form c = search needs
+enum-known-read : tie.Need-enum-known-read
+enum-known-read c = search needs
 
-enum-known-form-2 : tie.Need-enum-known-form-2
-enum-known-form-2 c = search needs
+enum-known-read-2 : tie.Need-enum-known-read-2
+enum-known-read-2 c = search needs
+
+mul-coordinates : tie.Need-mul-coordinates
+unfolding ReadForm
+mul-coordinates c =
+    let read-form = c .before .before .before .before .before .read-form in
+    let f = rw (c .before .read2 .given .1) at (read-form .ensures) in let h = f .counts .many in search needs
+
+mul-numbers : tie.Need-mul-numbers
+unfolding ReadForm
+mul-numbers c =
+    let read-form = c .before .before .before .before .before .read-form in
+    let f = rw (c .before .read2 .given .1) at (read-form .ensures) in let h = f .counts .most in search needs
+
+array-share-prefix-xs : tie.Need-array-share-prefix-xs
+unfolding ReadForm
+array-share-prefix-xs c =
+    let read-form = c .before .before .before .before .before .read-form in
+    let xs2 = c .before .before .before .before .xs2 in
+    let f = rw (c .before .read2 .given .1) at (read-form .ensures) in let h = f .counts .many in omega (arith, xs2 .given)
 
 slice-aggregate-deliver : tie.Need-slice-aggregate-deliver
-slice-aggregate-deliver c = search needs
+unfolding ReadForm
+slice-aggregate-deliver c =
+    let read2 = c .before .before .read2 in
+    let read-form = c .before .before .before .before .before .before .read-form in
+    let f = rw (read2 .given .1) at (read-form .ensures) in sym (f .sheet .corners)
+
+array-share-prefix-t : tie.Need-array-share-prefix-t
+unfolding ReadForm
+array-share-prefix-t c =
+    let read2 = c .before .before .read2 in
+    let read-form = c .before .before .before .before .before .before .read-form in
+    let t2 = c .before .before .before .before .t2 in
+    let f = rw (read2 .given .1) at (read-form .ensures) in let h = f .counts .most in omega (arith, t2 .given)
 
 slice-aggregate-deliver-2 : tie.Need-slice-aggregate-deliver-2
-slice-aggregate-deliver-2 c = search needs
+unfolding ReadForm
+slice-aggregate-deliver-2 c =
+    let read2 = c .before .before .before .read2 in
+    let read-form = c .before .before .before .before .before .before .before .read-form in
+    let f = rw (read2 .given .1) at (read-form .ensures) in sym (f .sheet .rows)
 
 deliver-requires : tie.Need-deliver-requires
 unfolding ReadForm
 deliver-requires c κs =
-    let args = c .before .before .before .before .before .before .before .before .before .before .before .before .before .before .args in
+    let read2 = c .before .before .before .before .before .read2 in
     let read-form = c .before .before .before .before .before .before .before .before .before .read-form in
-    let xs2 = c .before .before .before .before .before .before .before .before .xs2 in
-    let t2 = c .before .before .before .before .before .before .before .t2 in
-    let form2 = c .before .before .before .before .before .form2 in
-    let f = (subst (ReadForm (args .bytes .now) (replicate 1542 (pos 0)) (read-form .last .1 .0) (replicate 3072 0) (read-form .last .1 .1 .0)) (form2 .given .1) (read-form .ensures)) in
-    let a = f .counts .many in
-    let b = f .counts .most in
-    (f .counts, omega (arith, xs2 .given), omega (arith, t2 .given))
+    its-held (rw (read2 .given .1) at (read-form .ensures))
 
 returns : tie.Need-returns
 unfolding ReadForm
 returns c =
-    let args = c .before .before .before .before .before .before .before .before .before .before .args in
     let read-form = c .before .before .before .before .before .read-form in
-    let form = c .before .form in
-    bad-form (subst (ReadForm (args .bytes .now) (replicate 1542 (pos 0)) (read-form .last .1 .0) (replicate 3072 0) (read-form .last .1 .1 .0)) (form .given .1) (read-form .ensures)) refl refl refl
+    bad-form (rw (c .before .read .given .1) at (read-form .ensures)) refl refl refl
 
 same-length : tie.Need-same-length
 same-length c = search needs
@@ -62,16 +87,10 @@ same-length-2 c = search needs
 returns-2 : tie.Need-returns-2
 unfolding ReadForm
 returns-2 c =
-    let args = c .before .before .before .before .before .before .before .before .before .before .before .before .before .before .before .before .before .before .args in
+    let read2 = c .before .before .before .before .before .before .before .before .before .read2 in
     let read-form = c .before .before .before .before .before .before .before .before .before .before .before .before .before .read-form in
-    let form2 = c .before .before .before .before .before .before .before .before .before .form2 in
     let deliver = c .before .before .before .deliver in
-    let f = (subst (ReadForm (args .bytes .now) (replicate 1542 (pos 0)) (read-form .last .1 .0) (replicate 3072 0) (read-form .last .1 .1 .0)) (form2 .given .1) (read-form .ensures)) in
-    let a = f .counts .many in
-    let b = f .counts .most in
-    let h : (form2 .given .0 .0) * 3 ≤ 1542 = omega arith in
-    let k : (form2 .given .0 .1 .0) * 3 ≤ 3072 = omega arith in
-    whole-outcome (args .bytes .now) (args .table .now) (deliver .last .1 .1 .1 .1 .0) (args .corners .now) (deliver .last .1 .1 .1 .1 .1 .0) (deliver .result) (form2 .given .0 .0) (form2 .given .0 .1 .0) (replicate 1542 (pos 0)) (read-form .last .1 .0) (replicate 3072 0) (read-form .last .1 .1 .0) f h k (deliver .ensures)
+    whole-outcome (rw (read2 .given .1) at (read-form .ensures)) (deliver .ensures)
 
 pub read-sheet-spec : {M : Type 1} → statement M
 read-sheet-spec =
@@ -80,9 +99,13 @@ read-sheet-spec =
     slice-aggregate-read-form
     slice-aggregate-read-form-2
     read-form-requires
-    enum-known-form
-    enum-known-form-2
+    enum-known-read
+    enum-known-read-2
+    mul-coordinates
+    mul-numbers
+    array-share-prefix-xs
     slice-aggregate-deliver
+    array-share-prefix-t
     slice-aggregate-deliver-2
     deliver-requires
     returns

@@ -45,19 +45,21 @@ loop-less c = search needs
 
 loop-again : tie.Need-loop-again Inv-loop μ-loop
 loop-again c =
+    let loop-test = c .before .before .loop-test in
     let args = c .before .before .before .before .args in
     let loop = c .before .before .before .loop in
     let signed-length = c .signed-length in
     let q : SFits w64 (getD (args .zs .now) (loop .i) (pos 0)) = record { sfits = c .before .signed-length-arg .given } in
     let e = rw (toZ-ofZ w64 _ q) at (signed-length .ensures .0) in
-    let f = field-length (args .zs .now) (loop .i) (c .before .before .loop-test .taken) in
+    let f = field-length (args .zs .now) (loop .i) (loop-test .taken) in
     let b = signed-length .ensures .1 in
     let v = loop .inv in (omega arith, omega arith, omega arith)
 
 returns : tie.Need-returns Inv-loop μ-loop
 returns c =
+    let args = c .before .before .args in
     let loop = c .before .loop in
-    let e = ap (λ l. length (fields l)) (all-written (c .before .before .args .zs .now) (loop .i) (c .loop-test .left)) in let v = loop .inv in (omega arith, omega arith)
+    let e = ap (λ l. length (fields l)) (all-written (args .zs .now) (loop .i) (c .loop-test .left)) in let v = loop .inv in (omega arith, omega arith)
 
 pub fields-length-spec : {M : Type 1} → statement M
 fields-length-spec =

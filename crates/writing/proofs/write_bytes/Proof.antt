@@ -51,8 +51,9 @@ same-length c = c .before .loop .inv .1 .room
 
 returns : tie.Need-returns Inv-loop μ-loop
 returns c =
+    let args = c .before .before .args in
     let loop = c .before .loop in
-    onward-end (subst (Onward _ _ _ _ _) (all-written (c .before .before .args .w .now) (loop .i) (c .loop-test .left)) (loop .inv .1))
+    onward-end (subst (Onward _ _ _ _ _) (all-written (args .w .now) (loop .i) (c .loop-test .left)) (loop .inv .1))
 
 pub write-bytes-spec : {M : Type 1} → statement M
 write-bytes-spec =

@@ -58,12 +58,13 @@ loop-less c = search needs
 
 loop-again : tie.Need-loop-again Inv-loop μ-loop
 loop-again c =
+    let write-signed = c .before .before .write-signed in
     let args = c .before .before .before .before .before .before .before .before .args in
     let loop = c .before .before .before .before .before .before .loop in
     let write-signed-arg2 = c .before .before .before .write-signed-arg2 in
     let loop-test = c .before .before .before .before .before .loop-test in
     let q : SFits w64 (getD (args .zs .now) (loop .i) (pos 0)) = record { sfits = write-signed-arg2 .given } in
-    (omega arith, field-written (args .zs .now) (loop .i) (loop-test .taken) (loop .inv .1) (rw (toZ-ofZ w64 _ q) at (c .before .before .write-signed .ensures)))
+    (omega arith, field-written (args .zs .now) (loop .i) (loop-test .taken) (loop .inv .1) (rw (toZ-ofZ w64 _ q) at (write-signed .ensures)))
 
 same-length : tie.Need-same-length Inv-loop μ-loop
 same-length c = c .before .loop .inv .1 .room

@@ -33,11 +33,12 @@ same-length c = search needs
 
 returns : tie.Need-returns
 returns c =
+    let write-bytes2 = c .before .before .write-bytes2 in
     let args = c .before .before .before .before .before .before .before .before .before .before .before .before .before .before .before .args in
     let pre = c .before .before .before .before .before .before .before .before .before .before .before .before .before .before .before .pre in
     let write-bytes = c .before .before .before .before .before .before .before .before .before .before .before .write-bytes in
     let write-fields = c .before .before .before .before .before .before .before .write-fields in
-    line-written (args .w .now) (args .zs .now) (args .out .now) (args .at) pre (write-bytes .ensures) (write-fields .ensures) (c .before .before .write-bytes2 .ensures)
+    line-written (args .w .now) (args .zs .now) (args .out .now) (args .at) pre (write-bytes .ensures) (write-fields .ensures) (write-bytes2 .ensures)
 
 pub write-line-spec : {M : Type 1} → statement M
 write-line-spec =

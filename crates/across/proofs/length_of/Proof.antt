@@ -1,0 +1,26 @@
+-- By the unit.
+use mathlib.Core.Path.{refl}
+use borrow.Author.Tests.{eq-eqb, ne-eqb}
+use lib.Ieee.{div, ofBits}
+use Rattle.across.specs.Units.{length-of}
+use Rattle.across.proofs.length_of.Statement.{statement}
+use Rattle.across.proofs.length_of.Tie as tie
+
+returns : tie.Need-returns
+unfolding length-of
+returns c = rw (eq-eqb _ _ (c .if1 .taken)) refl
+
+returns-2 : tie.Need-returns-2
+unfolding length-of
+returns-2 c = rw (ne-eqb _ _ (c .before .if1 .left), eq-eqb _ _ (c .if2 .taken)) refl
+
+returns-3 : tie.Need-returns-3
+unfolding length-of
+returns-3 c = rw (ne-eqb _ _ (c .before .before .if1 .left), ne-eqb _ _ (c .before .if2 .left), eq-eqb _ _ (c .if3 .taken)) refl
+
+returns-4 : tie.Need-returns-4
+unfolding div length-of ofBits
+returns-4 c = rw (ne-eqb _ _ (c .before .before .if1 .left), ne-eqb _ _ (c .before .if2 .left), ne-eqb _ _ (c .if3 .left)) refl
+
+pub length-of-spec : {M : Type 1} → statement M
+length-of-spec = tie.close (tie.spec returns returns-2 returns-3 returns-4)

@@ -1,0 +1,244 @@
+// Orders and answers in plain numbers, as they go across the C boundary.
+// The status is 0 for done, else the refusal's number; a refused call has 0 for every value, but 13 carries the records done.
+// Two numbers cross as a struct. Of more, the first is the result and the rest go into lent numbers: a larger struct is handed back through a
+// pointer that each processor keeps in another register.
+use length::Length;
+use length::Order;
+use length::Reading;
+use refusal::Refusal;
+use regrow::Regrown;
+use ring::Trial;
+use sheet::Sheet;
+use shift::Shifted;
+use tell::Answer;
+use thin::Thinning;
+use volume::Measured;
+ghost use mathlib.Core.Path.{_≡_};
+ghost use Rattle.length.specs.Answer as length-answer;
+ghost use Rattle.thin.specs.Answer as thin-answer;
+ghost use Rattle.regrow.specs.Answer as regrow-answer;
+ghost use Rattle.volume.specs.Answer as volume-answer;
+ghost use Rattle.shift.specs.Answer as shift-answer;
+ghost use Rattle.sheet.specs.Answer as sheet-answer;
+ghost use Rattle.tell.specs.Answer as reply-answer;
+ghost use Rattle.across.specs.Units.{length-of, order-of};
+ghost use Rattle.across.specs.Says.{Says};
+ghost use Rattle.across.specs.Fields.{of-counted, of-measure, of-stand-in, of-centimetres, of-counts, of-written, Stores};
+
+// What thinning, growing back and replay answer: the status, and how many records were done.
+#[repr(C)]
+pub struct Counted {
+    pub status: u64,
+    pub records: u64,
+}
+
+// What a volume or a change answers: the status, and the figure in cubic metres.
+#[repr(C)]
+pub struct Measure {
+    pub status: u64,
+    pub figure: i64,
+}
+
+// What a shift report answers: the status, stand-in, count and squared distance. Does not cross as a struct.
+pub struct StandIn {
+    pub status: u64,
+    pub corner: u64,
+    pub count: u64,
+    pub squared: u64,
+}
+
+// What the limit reader answers: the status, and whole centimetres.
+#[repr(C)]
+pub struct Centimetres {
+    pub status: u64,
+    pub whole: u64,
+}
+
+// What the sheet reader answers: the status, corner count and row count. Does not cross as a struct.
+pub struct Counts {
+    pub status: u64,
+    pub corners: u64,
+    pub rows: u64,
+}
+
+// What the desk answers: the status, and how many bytes were written.
+#[repr(C)]
+pub struct Written {
+    pub status: u64,
+    pub bytes: u64,
+}
+
+// A number of the trial ring: 1 and the number, or 0 and 0 past its end.
+#[repr(C)]
+pub struct Stored {
+    pub there: u64,
+    pub number: u64,
+}
+
+// ---- orders
+
+// Inner: a unit's limit: 1 metres, 2 feet, 3 centimetres. Any other unit gives no limit that can be used: it stands for a figure that is no number.
+pub fn length_of(unit: u32, figure: f64) -> Length
+    ensures { λ l. ⌜ l ≡ length-of unit figure ⌝ }
+{
+    if unit == 1 {
+        return Length::Metres(figure);
+    }
+    if unit == 2 {
+        return Length::Feet(figure);
+    }
+    if unit == 3 {
+        return Length::Centimetres(figure);
+    }
+    Length::Centimetres(0.0 / 0.0)
+}
+
+// Inner: unit 0 is no limit; the figure is not looked at then.
+pub fn order_of(unit: u32, figure: f64) -> Order
+    ensures { λ o. ⌜ o ≡ order-of unit figure ⌝ }
+{
+    if unit == 0 {
+        return Order::NoLimit;
+    }
+    Order::Limit(length_of(unit, figure))
+}
+
+// ---- answers
+
+// Inner: what a thinning answers.
+pub fn counted_thinning(a: Thinning) -> Counted
+    ensures { λ r. ⌜ Says (thin-answer.told a) (of-counted r) ⌝ }
+{
+    match a {
+        Thinning::Done(k) => Counted {
+            status: 0,
+            records: k as u64,
+        },
+        Thinning::Refused(e) => Counted {
+            status: refusal::number_of(e) as u64,
+            records: 0,
+        },
+    }
+}
+
+// Inner: what growing back or a replay answers.
+pub fn counted_regrown(a: Regrown) -> Counted
+    ensures { λ r. ⌜ Says (regrow-answer.told a) (of-counted r) ⌝ }
+{
+    match a {
+        Regrown::Done(k) => Counted {
+            status: 0,
+            records: k as u64,
+        },
+        Regrown::Stopped(k) => Counted {
+            status: refusal::number_of(Refusal::RecordFails) as u64,
+            records: k as u64,
+        },
+        Regrown::Refused(e) => Counted {
+            status: refusal::number_of(e) as u64,
+            records: 0,
+        },
+    }
+}
+
+// Inner: what a volume or a change answers.
+pub fn measure_of(a: Measured) -> Measure
+    ensures { λ r. ⌜ Says (volume-answer.told a) (of-measure r) ⌝ }
+{
+    match a {
+        Measured::Figure(f) => Measure {
+            status: 0,
+            figure: f,
+        },
+        Measured::Refused(e) => Measure {
+            status: refusal::number_of(e) as u64,
+            figure: 0,
+        },
+    }
+}
+
+// Inner: what a shift report answers.
+pub fn stand_in_of(a: Shifted) -> StandIn
+    ensures { λ r. ⌜ Says (shift-answer.told a) (of-stand-in r) ⌝ }
+{
+    match a {
+        Shifted::StandIn(c, k, d) => StandIn {
+            status: 0,
+            corner: c.0 as u64,
+            count: k as u64,
+            squared: d,
+        },
+        Shifted::Refused(e) => StandIn {
+            status: refusal::number_of(e) as u64,
+            corner: 0,
+            count: 0,
+            squared: 0,
+        },
+    }
+}
+
+// Inner: what the limit reader answers.
+pub fn centimetres_of(a: Reading) -> Centimetres
+    ensures { λ r. ⌜ Says (length-answer.told a) (of-centimetres r) ⌝ }
+{
+    match a {
+        Reading::Whole(c) => Centimetres {
+            status: 0,
+            whole: c,
+        },
+        Reading::Unusable => Centimetres {
+            status: refusal::number_of(Refusal::LimitUnusable) as u64,
+            whole: 0,
+        },
+    }
+}
+
+// Inner: what the sheet reader answers.
+pub fn counts_of(a: Sheet) -> Counts
+    ensures { λ r. ⌜ Says (sheet-answer.told a) (of-counts r) ⌝ }
+{
+    match a {
+        Sheet::Read(n, m) => Counts {
+            status: 0,
+            corners: n as u64,
+            rows: m as u64,
+        },
+        Sheet::Refused(e) => Counts {
+            status: refusal::number_of(e) as u64,
+            corners: 0,
+            rows: 0,
+        },
+    }
+}
+
+// Inner: what the desk answers.
+pub fn written_of(a: Answer) -> Written
+    ensures { λ r. ⌜ Says (reply-answer.told a) (of-written r) ⌝ }
+{
+    match a {
+        Answer::Written(n) => Written {
+            status: 0,
+            bytes: n as u64,
+        },
+        Answer::Refused(e) => Written {
+            status: refusal::number_of(e) as u64,
+            bytes: 0,
+        },
+    }
+}
+
+// Inner: what the trial ring answers.
+pub fn stored_of(a: Trial) -> Stored
+    ensures { λ r. ⌜ Stores a r ⌝ }
+{
+    match a {
+        Trial::Number(v) => Stored {
+            there: 1,
+            number: v as u64,
+        },
+        Trial::Nothing => Stored {
+            there: 0,
+            number: 0,
+        },
+    }
+}

@@ -1,0 +1,4 @@
+pub mod Text
+pub mod Answer
+pub mod Put
+pub mod Inner
