@@ -1,14 +1,12 @@
 //! Growing back and replay in ordinary Rust.
 
-use crate::check::{self, next, Chains, Refused};
-use crate::thin::{contract, may_contract, record};
+use crate::check::{self, next, Chains};
+use crate::thin::{contract, may_contract, record, LEAVE};
 use crate::work::Work;
-use apart::refusal::FAILS;
 use apart::skin::{CORNERS, FEWEST, MOST_CORNERS, MOST_ROWS, ROWS};
-use apart::step::WIDTH;
-
-/// How many records were done, and whether that is all of them.
-pub type Done = Result<usize, (Refused, usize)>;
+use apart::step::{EARLIER, LATER, WIDTH};
+use flaxglimmer::Refusal::{CountsOutside, RoomShort};
+use flaxglimmer::Unfinished::{self, Refused, Stopped};
 
 /// The third corner of a row that has the directed edge.
 fn third(row: &[u32], from: u32, to: u32) -> Option<u32> {
@@ -17,7 +15,7 @@ fn third(row: &[u32], from: u32, to: u32) -> Option<u32> {
 
 /// x and y of a record: the third corners of its rows, either of which may be the earlier.
 fn ends(record: &[u32]) -> Option<(u32, u32)> {
-    let (kept, removed, earlier, later) = (record[0], record[1], &record[3..6], &record[7..10]);
+    let (kept, removed, earlier, later) = (record[0], record[1], &record[EARLIER][1..], &record[LATER][1..]);
     let pair = |one: &[u32], other: &[u32]| Some((third(one, kept, removed)?, third(other, removed, kept)?));
     pair(earlier, later).or_else(|| pair(later, earlier))
 }
@@ -40,9 +38,9 @@ fn grow(room: &mut [u32], rows: usize, corners: usize, record: &[u32], work: &mu
         }
     }
     work.slots(2 * table.len());
-    let (earlier, later) = (record[2] as usize, record[6] as usize);
+    let (earlier, later, grown) = (record[EARLIER.start] as usize, record[LATER.start] as usize, rows + LEAVE);
     let sound =
-        kept < removed && (removed as usize) < corners && earlier < later && later < rows + 2 && rows + 2 <= MOST_ROWS;
+        kept < removed && (removed as usize) < corners && earlier < later && later < grown && grown <= MOST_ROWS;
     if !sound || table.contains(&removed) {
         return None;
     }
@@ -58,25 +56,30 @@ fn grow(room: &mut [u32], rows: usize, corners: usize, record: &[u32], work: &mu
         corner = table[next(next(slot))];
         work.ring_entries(1);
     }
-    put_row(room, rows, &record[2..6], work);
-    put_row(room, rows + 1, &record[6..10], work);
+    put_row(room, rows, &record[EARLIER], work);
+    put_row(room, rows + 1, &record[LATER], work);
     Some(())
 }
 
 /// The call: the log's records undone on the rows that stand in front of a room, the last first.
-pub fn grow_back(room: &mut [u32], rows: usize, corners: usize, log: &[u32], work: &mut impl Work) -> Done {
+pub fn grow_back(
+    room: &mut [u32],
+    rows: usize,
+    corners: usize,
+    log: &[u32],
+    work: &mut impl Work,
+) -> Result<usize, Unfinished> {
     let records = log.len() / WIDTH;
-    let fits =
-        ROWS.contains(&rows) && CORNERS.contains(&corners) && log.len() % WIDTH == 0 && rows + 2 * records <= MOST_ROWS;
-    if !fits {
-        return Err((2, 0));
+    let counts = ROWS.contains(&rows) && CORNERS.contains(&corners) && log.len().is_multiple_of(WIDTH);
+    if !counts || rows + LEAVE * records > MOST_ROWS {
+        return Err(Refused(CountsOutside));
     }
-    if room.len() < 3 * (rows + 2 * records) {
-        return Err((3, 0));
+    if room.len() < 3 * (rows + LEAVE * records) {
+        return Err(Refused(RoomShort));
     }
-    check::stage(&room[..3 * rows], corners, work).map_err(|refusal| (refusal, 0))?;
+    check::stage(&room[..3 * rows], corners, work).map_err(Refused)?;
     for (done, record) in log.chunks_exact(WIDTH).rev().enumerate() {
-        grow(room, rows + 2 * done, corners, record, work).ok_or((FAILS as Refused, done))?;
+        grow(room, rows + LEAVE * done, corners, record, work).ok_or(Stopped(done))?;
     }
     Ok(records)
 }
@@ -93,21 +96,24 @@ fn accepts(table: &[u32], corners: usize, wanted: &[u32], work: &mut impl Work) 
 }
 
 /// The call: the log's records done again, the first first.
-pub fn replay(table: &mut [u32], corners: usize, log: &[u32], work: &mut impl Work) -> Done {
+pub fn replay(table: &mut [u32], corners: usize, log: &[u32], work: &mut impl Work) -> Result<usize, Unfinished> {
     let records = log.len() / WIDTH;
-    if !check::counts_fit(table, corners) || log.len() % WIDTH != 0 || table.len() / 3 < FEWEST + 2 * records {
-        return Err((2, 0));
+    if !check::counts_fit(table, corners)
+        || !log.len().is_multiple_of(WIDTH)
+        || table.len() / 3 < FEWEST + LEAVE * records
+    {
+        return Err(Refused(CountsOutside));
     }
-    check::stage(table, corners, work).map_err(|refusal| (refusal, 0))?;
+    check::stage(table, corners, work).map_err(Refused)?;
     let mut end = table.len();
     for (done, wanted) in log.chunks_exact(WIDTH).enumerate() {
         if !accepts(&table[..end], corners, wanted, work) {
-            return Err((FAILS as Refused, done));
+            return Err(Stopped(done));
         }
         // The step tells its record once more, as the proved one does.
         std::hint::black_box(record(&table[..end], wanted[0], wanted[1], work));
         contract(&mut table[..end], wanted[0], wanted[1], work);
-        end -= 6;
+        end -= 3 * LEAVE;
     }
     Ok(records)
 }

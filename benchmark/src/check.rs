@@ -2,11 +2,9 @@
 
 use crate::work::Work;
 use apart::skin::{CORNERS, FARTHEST, MOST_CORNERS, MOST_ROWS, ROWS};
+use flaxglimmer::Refusal;
 
 pub const SLOTS: usize = 3 * MOST_ROWS;
-
-/// A refusal's number.
-pub type Refused = u32;
 
 /// For each corner one more than its last slot, and for each slot the same of the one before it with the same corner; 0 is none.
 pub struct Chains {
@@ -42,21 +40,21 @@ pub fn next(slot: usize) -> usize {
     }
 }
 
-/// The reverse of each directed edge, by slots; 7 or 8 where there are two or none.
+/// The reverse of each directed edge, by slots, where there is one and not two.
 fn reverses(
     table: &[u32],
     corners: usize,
     chains: &Chains,
     reverse: &mut [usize; SLOTS],
     work: &mut impl Work,
-) -> Result<(), Refused> {
+) -> Result<(), Refusal> {
     let mut ends = [0; MOST_CORNERS];
     for corner in 0..corners {
         let found = |end: usize| if end > 0 && table[end - 1] as usize == corner { end } else { 0 };
         for slot in chains.slots(corner) {
             let end = &mut ends[table[next(slot)] as usize];
             if found(*end) != 0 {
-                return Err(7);
+                return Err(Refusal::EdgeTwice);
             }
             *end = slot + 1;
         }
@@ -67,7 +65,7 @@ fn reverses(
     }
     work.slots(3 * table.len());
     for link in &mut reverse[..table.len()] {
-        *link = link.checked_sub(1).ok_or(8_u32)?;
+        *link = link.checked_sub(1).ok_or(Refusal::ReverseMissing)?;
     }
     Ok(())
 }
@@ -110,40 +108,45 @@ fn connected(table: &[u32], chains: &Chains, work: &mut impl Work) -> bool {
 }
 
 /// 5 to 11, 9 of first tables alone.
-fn rows(table: &[u32], corners: usize, first: bool, work: &mut impl Work) -> Result<(), Refused> {
+fn rows(table: &[u32], corners: usize, first: bool, work: &mut impl Work) -> Result<(), Refusal> {
     let holds = |sound: bool, refusal| if sound { Ok(()) } else { Err(refusal) };
     work.slots(2 * table.len());
-    holds(table.iter().all(|&corner| (corner as usize) < corners), 5)?;
-    holds((0..table.len()).all(|slot| table[slot] != table[next(slot)]), 6)?;
+    holds(table.iter().all(|&corner| (corner as usize) < corners), Refusal::NumberNotBelow)?;
+    holds((0..table.len()).all(|slot| table[slot] != table[next(slot)]), Refusal::NumberTwice)?;
     let mut chains = Chains::EMPTY;
     chains.link(table, work);
     let mut reverse = [0; SLOTS];
     reverses(table, corners, &chains, &mut reverse, work)?;
-    holds(!first || chains.last[..corners].iter().all(|&last| last != 0), 9)?;
-    holds(one_ring(table, corners, &chains, &reverse, work), 10)?;
-    holds(connected(table, &chains, work), 11)
+    holds(!first || chains.last[..corners].iter().all(|&last| last != 0), Refusal::CornerUnused)?;
+    holds(one_ring(table, corners, &chains, &reverse, work), Refusal::RingsMany)?;
+    holds(connected(table, &chains, work), Refusal::NotConnected)
 }
 
 pub fn counts_fit(table: &[u32], corners: usize) -> bool {
-    table.len() % 3 == 0 && ROWS.contains(&(table.len() / 3)) && CORNERS.contains(&corners)
+    table.len().is_multiple_of(3) && ROWS.contains(&(table.len() / 3)) && CORNERS.contains(&corners)
+}
+
+/// Likewise with the coordinates themselves.
+pub fn lists_fit(table: &[u32], corners: &[i32]) -> bool {
+    corners.len().is_multiple_of(3) && counts_fit(table, corners.len() / 3)
 }
 
 /// A stage's table with a told corner count.
-pub fn stage(table: &[u32], corners: usize, work: &mut impl Work) -> Result<(), Refused> {
+pub fn stage(table: &[u32], corners: usize, work: &mut impl Work) -> Result<(), Refusal> {
     if !counts_fit(table, corners) {
-        return Err(2);
+        return Err(Refusal::CountsOutside);
     }
     rows(table, corners, false, work)
 }
 
 /// A table with its coordinates, as a first one or as a stage.
-pub fn with_coordinates(table: &[u32], corners: &[i32], first: bool, work: &mut impl Work) -> Result<(), Refused> {
-    if corners.len() % 3 != 0 || !counts_fit(table, corners.len() / 3) {
-        return Err(2);
+pub fn with_coordinates(table: &[u32], corners: &[i32], first: bool, work: &mut impl Work) -> Result<(), Refusal> {
+    if !lists_fit(table, corners) {
+        return Err(Refusal::CountsOutside);
     }
     work.slots(corners.len());
     if !corners.iter().all(|x| (-FARTHEST..=FARTHEST).contains(x)) {
-        return Err(4);
+        return Err(Refusal::CoordinateOutOfRange);
     }
     rows(table, corners.len() / 3, first, work)
 }

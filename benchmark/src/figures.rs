@@ -1,7 +1,8 @@
 //! Volume and change in ordinary Rust: the exact sixfold sum, rounded once.
 
-use crate::check::{self, Refused};
+use crate::check;
 use crate::work::Work;
+use flaxglimmer::Refusal;
 
 const DIVISOR: i64 = 6_000_000;
 
@@ -16,20 +17,20 @@ fn sixfold_sum(table: &[u32], corners: &[i32], work: &mut impl Work) -> i64 {
 }
 
 /// The nearest whole, a half away from zero.
-fn cubic_metres(sum: i64) -> i64 {
+pub fn cubic_metres(sum: i64) -> i64 {
     let (whole, rest) = (sum / DIVISOR, sum % DIVISOR);
     whole + i64::from(2 * rest >= DIVISOR) - i64::from(2 * rest <= -DIVISOR)
 }
 
-pub fn volume(table: &[u32], corners: &[i32], work: &mut impl Work) -> Result<i64, Refused> {
+pub fn volume(table: &[u32], corners: &[i32], work: &mut impl Work) -> Result<i64, Refusal> {
     check::with_coordinates(table, corners, false, work)?;
     Ok(cubic_metres(sixfold_sum(table, corners, work)))
 }
 
 /// From an earlier stage to a later one; the lesser refusal of the two.
-pub fn change(earlier: &[u32], later: &[u32], corners: &[i32], work: &mut impl Work) -> Result<i64, Refused> {
+pub fn change(earlier: &[u32], later: &[u32], corners: &[i32], work: &mut impl Work) -> Result<i64, Refusal> {
     let verdicts = [earlier, later].map(|table| check::with_coordinates(table, corners, false, work));
-    if let Some(least) = verdicts.into_iter().filter_map(Result::err).min() {
+    if let Some(least) = verdicts.into_iter().filter_map(Result::err).min_by_key(|refusal| refusal.number()) {
         return Err(least);
     }
     Ok(cubic_metres(sixfold_sum(later, corners, work) - sixfold_sum(earlier, corners, work)))

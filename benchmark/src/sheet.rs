@@ -1,42 +1,41 @@
 //! Reading a sheet in ordinary Rust: a cursor over the bytes, then the check.
 
-use crate::check::{self, Refused};
+use crate::check;
 use crate::work::Work;
-use apart::refusal::BAD_FORM;
 use apart::sheet::{MOST_BYTES, MOST_CORNERS, MOST_DIGITS, MOST_ROWS};
 use apart::skin::FEWEST;
-
-const FORM: Refused = BAD_FORM as Refused;
+use flaxglimmer::Counts;
+use flaxglimmer::Refusal::{self, CountsOutside, RoomShort, SheetForm};
 
 struct Reader<'a> {
     left: &'a [u8],
 }
 
 impl Reader<'_> {
-    fn expect(&mut self, word: &[u8]) -> Result<(), Refused> {
-        self.left = self.left.strip_prefix(word).ok_or(FORM)?;
+    fn expect(&mut self, word: &[u8]) -> Result<(), Refusal> {
+        self.left = self.left.strip_prefix(word).ok_or(SheetForm)?;
         Ok(())
     }
 
-    fn number(&mut self) -> Result<i64, Refused> {
+    fn number(&mut self) -> Result<i64, Refusal> {
         let minus = self.expect(b"-").is_ok();
         let mut digits = 0;
         let mut value = 0;
         while let Some(digit @ b'0'..=b'9') = self.left.get(digits) {
             if (digits > 0 && value == 0) || digits == MOST_DIGITS {
-                return Err(FORM);
+                return Err(SheetForm);
             }
             value = 10 * value + i64::from(digit - b'0');
             digits += 1;
         }
         if digits == 0 || (minus && value == 0) {
-            return Err(FORM);
+            return Err(SheetForm);
         }
         self.left = &self.left[digits..];
         Ok(if minus { -value } else { value })
     }
 
-    fn line(&mut self, word: &[u8], fields: &mut [i64]) -> Result<(), Refused> {
+    fn line(&mut self, word: &[u8], fields: &mut [i64]) -> Result<(), Refusal> {
         self.expect(word)?;
         for field in fields {
             self.expect(b"\t")?;
@@ -52,9 +51,9 @@ pub fn read_sheet(
     table: &mut [u32],
     corners: &mut [i32],
     work: &mut impl Work,
-) -> Result<(usize, usize), Refused> {
+) -> Result<Counts, Refusal> {
     if bytes.len() > MOST_BYTES {
-        return Err(FORM);
+        return Err(SheetForm);
     }
     work.bytes(bytes.len());
     let mut reader = Reader { left: bytes };
@@ -62,11 +61,11 @@ pub fn read_sheet(
     reader.line(b"SKIN", &mut counts)?;
     let [n, m] = counts;
     if n < 0 || m < 0 {
-        return Err(FORM);
+        return Err(SheetForm);
     }
     let (n, m) = (n as usize, m as usize);
     if !(FEWEST..=MOST_CORNERS).contains(&n) || !(FEWEST..=MOST_ROWS).contains(&m) {
-        return Err(2);
+        return Err(CountsOutside);
     }
     let mut coordinates = [0; 3 * MOST_CORNERS];
     for line in coordinates[..3 * n].chunks_exact_mut(3) {
@@ -77,7 +76,7 @@ pub fn read_sheet(
         reader.line(b"R", line)?;
     }
     if !reader.left.is_empty() || numbers[..3 * m].iter().any(|&number| number < 0) {
-        return Err(FORM);
+        return Err(SheetForm);
     }
     let (mut xs, mut rows) = ([0; 3 * MOST_CORNERS], [0; 3 * MOST_ROWS]);
     for (x, &z) in xs[..3 * n].iter_mut().zip(&coordinates) {
@@ -87,10 +86,10 @@ pub fn read_sheet(
         *number = z as u32;
     }
     if table.len() < 3 * m || corners.len() < 3 * n {
-        return Err(3);
+        return Err(RoomShort);
     }
     check::with_coordinates(&rows[..3 * m], &xs[..3 * n], true, work)?;
     table[..3 * m].copy_from_slice(&rows[..3 * m]);
     corners[..3 * n].copy_from_slice(&xs[..3 * n]);
-    Ok((n, m))
+    Ok(Counts { corners: n, rows: m })
 }

@@ -17,8 +17,9 @@ const SEED: u64 = 7;
 
 pub const KINDS: [(&str, fn(usize) -> Skin); 3] = [("Shafts", shaft), ("Spheres", sphere), ("Tori", torus)];
 
+/// Corners in the box, no two at one point.
 fn boxed(count: usize, chance: &mut Chance) -> Vec<Corner> {
-    (0..count).map(|_| place::in_box(BOX, chance)).collect()
+    place::distinct((0..count).map(|_| place::in_box(BOX, chance)).collect())
 }
 
 /// As a scan numbers it: ring by ring, from the bottom up.

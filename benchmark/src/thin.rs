@@ -1,11 +1,14 @@
 //! Thinning in ordinary Rust: the least edge that qualifies is contracted, until none is left. The chains are built anew for each step.
 
-use crate::check::{self, next, Chains, Refused};
+use crate::check::{self, next, Chains};
 use crate::work::Work;
 use apart::skin::{FEWEST, MOST_CORNERS};
 use apart::step::WIDTH;
+use flaxglimmer::Refusal;
 
 const FOUR_ROWS: usize = 3 * FEWEST;
+/// How many rows leave in a step.
+pub const LEAVE: usize = 2;
 
 /// The neighbours of a corner, put in front of a room.
 fn gather<'a>(
@@ -168,7 +171,7 @@ fn holds(row: &[u32], corner: u32) -> bool {
 }
 
 /// The places of the two rows that hold both ends of an edge.
-pub fn leaving(table: &[u32], kept: u32, removed: u32, work: &mut impl Work) -> [usize; 2] {
+pub fn leaving(table: &[u32], kept: u32, removed: u32, work: &mut impl Work) -> [usize; LEAVE] {
     let mut rows = table.chunks_exact(3);
     let mut place = || rows.position(|row| holds(row, kept) && holds(row, removed)).expect("two rows at an edge");
     let earlier = place();
@@ -208,12 +211,12 @@ pub fn thin(
     most: Option<u64>,
     log: &mut [u32],
     work: &mut impl Work,
-) -> Result<usize, Refused> {
-    if corners.len() % 3 != 0 || !check::counts_fit(table, corners.len() / 3) {
-        return Err(2);
+) -> Result<usize, Refusal> {
+    if !check::lists_fit(table, corners) {
+        return Err(Refusal::CountsOutside);
     }
     if log.len() < WIDTH * (corners.len() / 3 - FEWEST) {
-        return Err(3);
+        return Err(Refusal::RoomShort);
     }
     check::with_coordinates(table, corners, true, work)?;
     let mut scratch = Scratch::EMPTY;
@@ -222,7 +225,7 @@ pub fn thin(
         let written = record(&table[..end], kept, removed, work);
         contract(&mut table[..end], kept, removed, work);
         log[WIDTH * records..][..WIDTH].copy_from_slice(&written);
-        end -= 6;
+        end -= 3 * LEAVE;
         records += 1;
     }
     Ok(records)
