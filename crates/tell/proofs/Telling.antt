@@ -1,7 +1,7 @@
 -- How long the lines are, and that one after the other they are the text.
 use mathlib.Core.Path.{_≡_, refl, sym, _∙_, ap, subst}
 use mathlib.Core.List.{List, [], _∷_, _++_, append-nil, map}
-use Prim.Native.Nat.{ℕ, zero, suc, _+_, _*_, _/_, _≤_}
+use Prim.Native.Nat.{ℕ, zero, suc, _+_, _*_, _/_, _≤_, _<_}
 use native.Mathlib.Omega.{arith}
 use lib.IntN.{ℤ, pos}
 use lib.ListN.{length, length-append, length-map, take, drop}
@@ -124,8 +124,15 @@ module _ (t log : List ℕ) (before after : ℤ) (g : CanTell t log) where
         λ i. em i ∷ ek i ∷ toZ-ofZ w64 before fb i ∷ toZ-ofZ w64 after fa i ∷ []
 
     -- what is measured is the length of the text
-    pub measured : length (run-text t log before after) ≡ 3 + 2 * (m + k) + length (fields machine-head) + (length (fields (map pos t)) + length (fields (map pos log)))
-    measured = let e = ap (λ l. length (fields l)) head-is in omega (arith, run-length)
+    module _ {a b c : ℕ} (first : a ≡ length (fields machine-head)) (rows : b ≡ length (fields (map pos t))) (records : c ≡ length (fields (map pos log))) where
+      measured : length (run-text t log before after) ≡ 3 + 2 * (m + k) + a + (b + c)
+      measured = let e = ap (λ l. length (fields l)) head-is in omega (arith, run-length)
+
+      pub too-long : {n : ℕ} → n < 3 + 2 * (m + k) + a + (b + c) → n < length (run-text t log before after)
+      too-long h = omega (arith, measured)
+
+      pub room-enough : {n : ℕ} → 3 + 2 * (m + k) + a + (b + c) ≤ n → length (run-text t log before after) ≤ n
+      room-enough h = omega (arith, measured)
 
     -- the three parts written one after the other
     module _ (l : List ℕ) (room : length (run-text t log before after) ≤ length l) where

@@ -1,7 +1,7 @@
 -- `tell_run` meets its contract: measured, then the first line, the rows and the records.
 use mathlib.Core.Path.{refl}
 use Rattle.tell.specs.Put.{short}
-use Rattle.tell.proofs.Telling.{measured, first-fits, rows-fit, records-fit, run-written}
+use Rattle.tell.proofs.Telling.{too-long, room-enough, first-fits, rows-fit, records-fit, run-written}
 use native.Mathlib.Omega.{arith}
 use borrow.Author.Needs.{needs}
 use Rattle.tell.proofs.tell_run.Statement.{statement}
@@ -50,11 +50,7 @@ returns c =
     let numbers-length = c .before .before .numbers-length in
     let args = c .before .before .before .before .before .before .before .before .args in
     let fits = c .before .before .before .before .before .before .before .before .fits in
-    let m = measured (args .last .now) (args .log .now) (args .before) (args .after) pre (fits .before) (fits .after) in
-    let a = fields-length .ensures .0 in
-    let b = numbers-length .ensures .0 in
-    let d = c .before .numbers-length2 .ensures .0 in
-    short (let t = c .if1 .taken in omega arith) refl refl
+    short (too-long (args .last .now) (args .log .now) (args .before) (args .after) pre (fits .before) (fits .after) (fields-length .ensures .0) (numbers-length .ensures .0) (c .before .numbers-length2 .ensures .0) (c .if1 .taken)) refl refl
 
 slice-aggregate-write-line : tie.Need-slice-aggregate-write-line
 slice-aggregate-write-line c = search needs
@@ -71,11 +67,8 @@ write-line-requires c κs =
     let if1 = c .before .before .before .if1 in
     let args = c .before .before .before .before .before .before .before .before .before .before .before .args in
     let fits = c .before .before .before .before .before .before .before .before .before .before .before .fits in
-    let m = measured (args .last .now) (args .log .now) (args .before) (args .after) pre (fits .before) (fits .after) in
-    let a = fields-length .ensures .0 in
-    let b = numbers-length .ensures .0 in
-    let d = numbers-length2 .ensures .0 in
-    first-fits (args .last .now) (args .log .now) (args .before) (args .after) pre (fits .before) (fits .after) (args .out .now) (let t = if1 .left in omega arith)
+    let room = room-enough (args .last .now) (args .log .now) (args .before) (args .after) pre (fits .before) (fits .after) (fields-length .ensures .0) (numbers-length .ensures .0) (numbers-length2 .ensures .0) (if1 .left) in
+    first-fits (args .last .now) (args .log .now) (args .before) (args .after) pre (fits .before) (fits .after) (args .out .now) room
 
 slice-aggregate-number-lines : tie.Need-slice-aggregate-number-lines
 slice-aggregate-number-lines c = search needs
@@ -90,11 +83,8 @@ number-lines-requires c κs =
     let write-line = c .before .before .before .before .write-line in
     let args = c .before .before .before .before .before .before .before .before .before .before .before .before .before .before .before .before .args in
     let fits = c .before .before .before .before .before .before .before .before .before .before .before .before .before .before .before .before .fits in
-    let m = measured (args .last .now) (args .log .now) (args .before) (args .after) pre (fits .before) (fits .after) in
-    let a = fields-length .ensures .0 in
-    let b = numbers-length .ensures .0 in
-    let d = numbers-length2 .ensures .0 in
-    ((omega arith, omega arith), rows-fit (args .last .now) (args .log .now) (args .before) (args .after) pre (fits .before) (fits .after) (args .out .now) (let t = if1 .left in omega arith) (write-line .ensures))
+    let room = room-enough (args .last .now) (args .log .now) (args .before) (args .after) pre (fits .before) (fits .after) (fields-length .ensures .0) (numbers-length .ensures .0) (numbers-length2 .ensures .0) (if1 .left) in
+    ((omega arith, omega arith), rows-fit (args .last .now) (args .log .now) (args .before) (args .after) pre (fits .before) (fits .after) (args .out .now) room (write-line .ensures))
 
 slice-aggregate-number-lines-2 : tie.Need-slice-aggregate-number-lines-2
 slice-aggregate-number-lines-2 c = search needs
@@ -110,11 +100,8 @@ number-lines-requires-2 c κs =
     let number-lines = c .before .before .before .before .number-lines in
     let args = c .before .before .before .before .before .before .before .before .before .before .before .before .before .before .before .before .before .before .before .before .before .args in
     let fits = c .before .before .before .before .before .before .before .before .before .before .before .before .before .before .before .before .before .before .before .before .before .fits in
-    let m = measured (args .last .now) (args .log .now) (args .before) (args .after) pre (fits .before) (fits .after) in
-    let a = fields-length .ensures .0 in
-    let b = numbers-length .ensures .0 in
-    let d = numbers-length2 .ensures .0 in
-    ((omega arith, omega arith), records-fit (args .last .now) (args .log .now) (args .before) (args .after) pre (fits .before) (fits .after) (args .out .now) (let t = if1 .left in omega arith) (write-line .ensures) (number-lines .ensures))
+    let room = room-enough (args .last .now) (args .log .now) (args .before) (args .after) pre (fits .before) (fits .after) (fields-length .ensures .0) (numbers-length .ensures .0) (numbers-length2 .ensures .0) (if1 .left) in
+    ((omega arith, omega arith), records-fit (args .last .now) (args .log .now) (args .before) (args .after) pre (fits .before) (fits .after) (args .out .now) room (write-line .ensures) (number-lines .ensures))
 
 same-length : tie.Need-same-length
 same-length c = search needs
@@ -131,11 +118,8 @@ returns-2 c =
     let number-lines2 = c .before .before .number-lines2 in
     let args = c .before .before .before .before .before .before .before .before .before .before .before .before .before .before .before .before .before .before .before .before .before .before .before .before .args in
     let fits = c .before .before .before .before .before .before .before .before .before .before .before .before .before .before .before .before .before .before .before .before .before .before .before .before .fits in
-    let m = measured (args .last .now) (args .log .now) (args .before) (args .after) pre (fits .before) (fits .after) in
-    let a = fields-length .ensures .0 in
-    let b = numbers-length .ensures .0 in
-    let d = numbers-length2 .ensures .0 in
-    run-written (args .last .now) (args .log .now) (args .before) (args .after) pre (fits .before) (fits .after) (args .out .now) (let t = if1 .left in omega arith) (write-line .ensures) (number-lines .ensures) (number-lines2 .ensures)
+    let room = room-enough (args .last .now) (args .log .now) (args .before) (args .after) pre (fits .before) (fits .after) (fields-length .ensures .0) (numbers-length .ensures .0) (numbers-length2 .ensures .0) (if1 .left) in
+    run-written (args .last .now) (args .log .now) (args .before) (args .after) pre (fits .before) (fits .after) (args .out .now) room (write-line .ensures) (number-lines .ensures) (number-lines2 .ensures)
 
 pub tell-run-spec : {M : Type 1} → statement M
 tell-run-spec =
