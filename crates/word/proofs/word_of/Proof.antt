@@ -1,8 +1,8 @@
 -- Below zero the size is taken off 2 ^ 64 (`word-below`).
-use Rattle.words.proofs.Twos.{word-below, word-above}
+use Rattle.word.proofs.Twos.{word-below, word-above}
 use borrow.Author.Needs.{needs}
-use Rattle.words.proofs.word_of.Statement.{statement}
-use Rattle.words.proofs.word_of.Tie as tie
+use Rattle.word.proofs.word_of.Statement.{statement}
+use Rattle.word.proofs.word_of.Tie as tie
 
 size-requires : tie.Need-size-requires
 size-requires c κs = search needs

@@ -4,12 +4,12 @@ use Prim.Native.Nat.{_+_, _-_, _≤_}
 use native.Mathlib.Nat.{add-zero}
 use lib.ListN.{length, length-set}
 use lib.Seq.{sets}
-use Rattle.words.specs.Bytes.{bytes-of}
-use Rattle.words.proofs.Bytes.{turn, ended}
+use Rattle.word.specs.Bytes.{bytes-of}
+use Rattle.word.proofs.Bytes.{turn, ended}
 use native.Mathlib.Omega.{arith}
 use borrow.Author.Needs.{needs}
-use Rattle.words.proofs.put_word.Statement.{statement}
-use Rattle.words.proofs.put_word.Tie as tie
+use Rattle.word.proofs.put_word.Statement.{statement}
+use Rattle.word.proofs.put_word.Tie as tie
 
 abbrev Inv-loop : tie.InvT-loop
 Inv-loop b₀ i w left₀ k₀ b left k = (k ≤ 8) × (length b ≡ length b₀) × (sets b (i + k) (bytes-of (8 - k) left) ≡ sets b₀ i (bytes-of 8 w))

@@ -6,7 +6,7 @@ use native.Mathlib.Nat.{pow-suc}
 use native.Mathlib.Omega.{arith}
 use lib.ListN.{length, getD, take, drop, set, length-drop}
 use lib.Seq.{drop-cons, drop-drop, take-add, take-at, drop-at, length-take-le, sets, sets-eq}
-use Rattle.words.specs.Bytes.{of-bytes, bytes-of, bytes-at}
+use Rattle.word.specs.Bytes.{of-bytes, bytes-of, bytes-at}
 
 -- ---- reading
 

@@ -4,12 +4,12 @@ use Prim.Native.Nat.{_-_, _^_, _<_}
 use lib.IntN.{pos, negsuc}
 use mir.Syntax.{w32}
 use mir.ValLaws.{toZ-pos}
-use Rattle.words.specs.Twos.{ReadNarrow, twos}
-use Rattle.words.proofs.Twos.{narrow, none, short-fits, short-kept}
+use Rattle.word.specs.Twos.{ReadNarrow, twos}
+use Rattle.word.proofs.Twos.{narrow, none, short-fits, short-kept}
 use native.Mathlib.Omega.{arith}
 use borrow.Author.Needs.{needs}
-use Rattle.words.proofs.signed_of.Statement.{statement}
-use Rattle.words.proofs.signed_of.Tie as tie
+use Rattle.word.proofs.signed_of.Statement.{statement}
+use Rattle.word.proofs.signed_of.Tie as tie
 
 cast-t5 : tie.Need-cast-t5
 cast-t5 c = search needs

@@ -1,9 +1,9 @@
 -- Four bytes, each counted as often as its place says (`half`).
-use Rattle.words.proofs.Bytes.{half}
+use Rattle.word.proofs.Bytes.{half}
 use native.Mathlib.Omega.{arith}
 use borrow.Author.Needs.{needs}
-use Rattle.words.proofs.half_at.Statement.{statement}
-use Rattle.words.proofs.half_at.Tie as tie
+use Rattle.word.proofs.half_at.Statement.{statement}
+use Rattle.word.proofs.half_at.Tie as tie
 
 shared-slice-read-wide : tie.Need-shared-slice-read-wide
 shared-slice-read-wide c = search needs

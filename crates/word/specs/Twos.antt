@@ -3,8 +3,8 @@ use mathlib.Core.Path.{_≡_}
 use Prim.Native.Nat.{ℕ, suc, _-_, _^_}
 use lib.IntN.{ℤ, pos, negsuc, negℤ}
 use lib.Signed.{_≤ℤ_, _<ℤ_}
-use Rattle.words.specs.declared.Signed.{Signed}
-use Rattle.words.specs.declared.Signed.the-variants as signed
+use Rattle.word.specs.declared.Signed.{Signed}
+use Rattle.word.specs.declared.Signed.the-variants as signed
 
 -- the word of a signed number of 64 bits: the number itself where it is not below zero, else 2 ^ 64 less its size
 unfoldable pub twos : ℤ → ℕ

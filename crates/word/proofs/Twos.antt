@@ -11,9 +11,9 @@ use mir.Syntax.{w32, w64}
 use mir.Val.{SFits, toZ, ofZ}
 use mir.ValLaws.{toZ-ofZ, toZ-pos}
 use Rattle.ints.proofs.Short.{below, not-below}
-use Rattle.words.specs.Twos.{twos, Narrow, ReadNarrow}
-use Rattle.words.specs.declared.Signed.{Signed}
-use Rattle.words.specs.declared.Signed.the-variants as signed
+use Rattle.word.specs.Twos.{twos, Narrow, ReadNarrow}
+use Rattle.word.specs.declared.Signed.{Signed}
+use Rattle.word.specs.declared.Signed.the-variants as signed
 
 -- ---- a number's word
 

@@ -1,9 +1,9 @@
 -- A word is its two halves (`halves`).
-use Rattle.words.proofs.Bytes.{halves}
+use Rattle.word.proofs.Bytes.{halves}
 use native.Mathlib.Omega.{arith}
 use borrow.Author.Needs.{needs}
-use Rattle.words.proofs.word_at.Statement.{statement}
-use Rattle.words.proofs.word_at.Tie as tie
+use Rattle.word.proofs.word_at.Statement.{statement}
+use Rattle.word.proofs.word_at.Tie as tie
 
 half-at-requires : tie.Need-half-at-requires
 half-at-requires c κs = search needs
