@@ -7,10 +7,10 @@ ghost use Rattle.surface.specs.Lists.{_∈_};
 ghost use Rattle.surface.specs.Rows.{rows};
 ghost use Rattle.run.specs.Run.{Qualifies};
 ghost use Rattle.refusal.specs.InnerTells.{Tells};
-ghost use Rattle.link.specs.InnerAround.{Neighbours, Marked, Unmarked};
+ghost use Rattle.neighbours.specs.Around.{Neighbours, Marked, Unmarked};
 ghost use Rattle.least.specs.Limited.{Allowed};
 ghost use Rattle.least.specs.Inner.{MeasurableAt};
-ghost use Rattle.least.specs.InnerSearch.{Searchable, SearchableAt, Above, Better, NextAbove, NextMarked, FoundAt, FoundLeast};
+ghost use Rattle.least.specs.InnerSearch.{Searchable, SearchableAt, FoundAt, FoundLeast};
 
 // The limit of an order, as steps use it: none, or whole centimetres.
 pub enum Bound {
@@ -23,9 +23,6 @@ pub enum Found {
     Nothing,
     Between(Corner, Corner),
 }
-
-// No corner: above every corner number.
-const NONE: u32 = surface::MOST_CORNERS as u32;
 
 // Whether the edge ab is short enough: its squared length is at most the squared limit.
 fn allowed(xs: &[i32], bound: Bound, a: Corner, b: Corner) -> bool
@@ -69,68 +66,6 @@ fn qualifies(
     }
 }
 
-// w where it is above past, else none.
-fn above(past: u32, w: u32) -> u32
-    ensures { λ r. ⌜ Above past w r ⌝ }
-{
-    if w <= past { NONE } else { w }
-}
-
-// The better of best and w: the lesser of those above past.
-fn nearer(past: u32, best: u32, w: u32) -> u32
-    requires { ⌜ best ≤ most-corners ⌝ }
-    ensures { λ r. ⌜ Better past best w r ⌝ }
-{
-    let c = above(past, w);
-    if c < best { c } else { best }
-}
-
-// The least number of a ring above past.
-fn least_above(ring: &[u32], past: u32) -> u32
-    ensures { λ r. ⌜ NextAbove (now (ring .entry)) past r ⌝ }
-{
-    let mut best = NONE;
-    let mut i: usize = 0;
-    while i < ring.len() {
-        best = nearer(past, best, ring[i]);
-        i += 1;
-    }
-    best
-}
-
-// The first number above past that is marked, if it is among the next few; else none.
-fn next_marked(near: &[u8], past: u32, few: usize) -> u32
-    requires { ⌜ most-corners ≤ length (now near) ⌝ }
-    ensures { λ r. ⌜ NextMarked (now (near .entry)) past r ⌝ }
-{
-    let mut w = past as usize + 1;
-    let mut left = few;
-    while 0 < left {
-        if surface::MOST_CORNERS <= w {
-            return NONE;
-        }
-        if near[w] != 0 {
-            return w as u32;
-        }
-        w += 1;
-        left -= 1;
-    }
-    NONE
-}
-
-// The least number above past of a ring that near marks. In a long ring it mostly stands among as many next numbers as the ring has; a short
-// ring is soon looked through.
-fn next_above(ring: &[u32], near: &[u8], past: u32) -> u32
-    requires { ⌜ Marked (now ring) (now near) ⌝ }
-    ensures { λ r. ⌜ NextAbove (now (ring .entry)) past r ⌝ }
-{
-    let b = next_marked(near, past, ring.len());
-    if b < NONE {
-        return b;
-    }
-    least_above(ring, past)
-}
-
 // The least edge from a upward that qualifies. The neighbours of a, which ring lists and near marks, are tried in rising order; second and
 // far are the link test's scratch.
 fn least_marked(
@@ -153,8 +88,8 @@ fn least_marked(
     ensures { λ _. ⌜ Unmarked (now (far .exit)) ⌝ }
 {
     let mut past = a.0;
-    let mut b = next_above(ring, near, past);
-    while b < NONE {
+    let mut b = rising::next_above(ring, near, past);
+    while b < rising::NONE {
         if qualifies(
             t,
             last,
@@ -171,7 +106,7 @@ fn least_marked(
             return Found::Between(a, Corner(b));
         }
         past = b;
-        b = next_above(ring, near, past);
+        b = rising::next_above(ring, near, past);
     }
     Found::Nothing
 }
@@ -196,9 +131,9 @@ fn least_at(
     ensures { λ r. ⌜ FoundAt (Allowed bound (now (xs .entry))) (rows (now (t .entry))) (a .0) r ⌝ }
     ensures { λ _. ⌜ Unmarked (now (near .exit)) × Unmarked (now (far .exit)) ⌝ }
 {
-    link::mark(ring, near);
+    neighbours::mark(ring, near);
     let found = least_marked(t, last, prev, xs, bound, a, ring, near, second, far);
-    link::unmark(ring, near);
+    neighbours::unmark(ring, near);
     found
 }
 
@@ -225,7 +160,7 @@ pub fn least_edge(
     let mut a: usize = 0;
     while a < n {
         let corner = Corner(a as u32);
-        let k = link::gather(t, last, prev, corner, ring);
+        let k = neighbours::gather(t, last, prev, corner, ring);
         let found = least_at(
             t,
             last,

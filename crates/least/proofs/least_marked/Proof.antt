@@ -4,8 +4,8 @@ use Prim.Native.Nat.{_-_}
 use lib.ListN.{length}
 use Rattle.surface.specs.Limits.{most-corners}
 use Rattle.surface.specs.Rows.{rows}
-use Rattle.link.specs.InnerAround.{Unmarked}
-use Rattle.link.proofs.Marking.{neighbours-corners}
+use Rattle.neighbours.specs.Around.{Unmarked}
+use Rattle.neighbours.proofs.Marking.{neighbours-corners}
 use Rattle.least.specs.Limited.{Allowed}
 use Rattle.least.proofs.Rising.{Trying, try-start, try-least, try-more, try-end}
 use native.Mathlib.Omega.{arith}

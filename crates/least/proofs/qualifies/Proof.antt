@@ -1,6 +1,6 @@
 -- `qualifies` meets its contract.
 use Rattle.refusal.proofs.Tells.{tells-false}
-use Rattle.link.proofs.Marking.{edge-below}
+use Rattle.neighbours.proofs.Marking.{edge-below}
 use Rattle.least.proofs.Limiting.{measured-at}
 use native.Mathlib.Omega.{arith}
 use borrow.Author.Needs.{needs}
