@@ -31,7 +31,7 @@ fn allowed(xs: &[i32], bound: Bound, a: Corner, b: Corner) -> bool
 {
     match bound {
         Bound::Free => true,
-        Bound::Within(l) => figure::squared_distance(xs, a.0, b.0) <= l * l,
+        Bound::Within(l) => distance::within(xs, a.0, b.0, l),
     }
 }
 

@@ -22,9 +22,9 @@ use Rattle.record.specs.Layout.{log-of}
 use Rattle.record.proofs.Log.{log-length, records-log}
 use Rattle.faults.specs.Counts.{corners}
 use Rattle.faults.proofs.Opposites.{skin-corners, stage-corners}
-use Rattle.figure.specs.Corners.{Short, squared-distance}
-use Rattle.figure.specs.InnerChain.{Chain, chain-none, chain-more}
-use Rattle.figure.proofs.Shift.{chain-bound, distance-back}
+use Rattle.distance.specs.Corners.{Short, squared-distance}
+use Rattle.distance.specs.InnerChain.{Chain, chain-none, chain-more}
+use Rattle.distance.proofs.Shift.{chain-bound, distance-back}
 use Rattle.run.specs.Run.{Taken}
 use Rattle.run.proofs.Main.{step-stage, taken-allowed, taken-cut, taken-replayed}
 use Rattle.shift.specs.declared.Shifted.{Shifted}

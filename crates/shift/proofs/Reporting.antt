@@ -13,8 +13,8 @@ use Rattle.refusal.specs.Told.{done, refused}
 use Rattle.refusal.proofs.Outcome.{passing, refusing}
 use Rattle.record.specs.Layout.{records}
 use Rattle.faults.specs.Counts.{corners}
-use Rattle.figure.specs.Corners.{squared-distance}
-use Rattle.figure.specs.Inner.{Has}
+use Rattle.distance.specs.Corners.{squared-distance}
+use Rattle.distance.specs.Inner.{Has}
 use Rattle.shift.specs.StandIn.{stand-in, moves}
 use Rattle.shift.specs.Inner.{BelowIn, Clear, CheckedShift}
 use Rattle.shift.specs.Report.{shift-of, ShiftReport}

@@ -103,7 +103,7 @@ pub fn shift(corners: &[i32], log: &[u32], corner: u32) -> Shifted
         Verdict::Passes => {
             let f = follow(log, corner);
             let stand_in = f.corner;
-            let squared = figure::squared_distance(corners, corner, stand_in.0);
+            let squared = distance::squared_distance(corners, corner, stand_in.0);
             Shifted::StandIn(stand_in, f.count, squared)
         }
         Verdict::Refused(first) => Shifted::Refused(first),

@@ -7,8 +7,8 @@ use native.Mathlib.Nat.{mul-le-mul, le-trans}
 use native.Mathlib.Omega.{arith}
 use lib.IntN.{ℤ, natAbs}
 use Rattle.ints.proofs.Ints.{minus-self, abs-back, abs-through}
-use Rattle.figure.specs.Corners.{coordinate, gap, squared-distance}
-use Rattle.figure.specs.InnerChain.{Chain, chain-none, chain-more}
+use Rattle.distance.specs.Corners.{coordinate, gap, squared-distance}
+use Rattle.distance.specs.InnerChain.{Chain, chain-none, chain-more}
 
 -- ---- squares
 

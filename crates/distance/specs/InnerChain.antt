@@ -3,7 +3,7 @@ use mathlib.Core.Path.{_≡_}
 use mathlib.Core.List.{List}
 use Prim.Native.Nat.{ℕ, suc}
 use lib.IntN.{ℤ}
-use Rattle.figure.specs.Corners.{Short}
+use Rattle.distance.specs.Corners.{Short}
 
 -- k steps lead from a to b, each within a limit of L
 pub data Chain (xs : List ℤ) (L : ℕ) : ℕ → ℕ → ℕ → Type 0 where

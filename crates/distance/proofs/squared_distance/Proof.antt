@@ -1,9 +1,9 @@
 -- Three squares added.
 use native.Mathlib.Omega.{arith}
 use borrow.Author.Needs.{needs}
-use Rattle.figure.specs.Corners.{squared-distance}
-use Rattle.figure.proofs.squared_distance.Statement.{statement}
-use Rattle.figure.proofs.squared_distance.Tie as tie
+use Rattle.distance.specs.Corners.{squared-distance}
+use Rattle.distance.proofs.squared_distance.Statement.{statement}
+use Rattle.distance.proofs.squared_distance.Tie as tie
 
 squared-gap-requires : tie.Need-squared-gap-requires
 squared-gap-requires c κs = search needs

@@ -4,9 +4,9 @@ use borrow.Author.Needs.{needs}
 use mir.Syntax.{w64}
 use Rattle.corners.specs.Limits.{most-coordinate}
 use Rattle.ints.proofs.Machine.{Known, known, tells, fits, kept}
-use Rattle.figure.proofs.Sizes.{element}
-use Rattle.figure.proofs.coordinate_of.Statement.{statement}
-use Rattle.figure.proofs.coordinate_of.Tie as tie
+use Rattle.distance.proofs.Ranges.{element}
+use Rattle.distance.proofs.coordinate_of.Statement.{statement}
+use Rattle.distance.proofs.coordinate_of.Tie as tie
 
 abbrev found : tie.Start → Known most-coordinate
 found c = known (element (c .args .xs .now) (c .pre .2) (c .args .v) (c .args .j))

@@ -4,9 +4,9 @@ use native.Mathlib.Omega.{arith}
 use borrow.Author.Needs.{needs}
 use mir.Syntax.{w64}
 use Rattle.ints.proofs.Machine.{Known, known, told, fits, kept, less, squared, unsigned, unsigned-fits, within}
-use Rattle.figure.specs.Inner.{gap-bound}
-use Rattle.figure.proofs.squared_gap.Statement.{statement}
-use Rattle.figure.proofs.squared_gap.Tie as tie
+use Rattle.distance.specs.Inner.{gap-bound}
+use Rattle.distance.proofs.squared_gap.Statement.{statement}
+use Rattle.distance.proofs.squared_gap.Tie as tie
 
 abbrev difference : tie.After-coordinate-of2 → Known gap-bound
 difference c = known (less (told w64 (c .before .coordinate-of .ok) (c .before .coordinate-of .ensures)) (told w64 (c .coordinate-of2 .ok) (c .coordinate-of2 .ensures)))
