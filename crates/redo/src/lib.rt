@@ -55,7 +55,7 @@ fn accepts(
     if !contractible::may_contract(t, n, r.kept, r.removed, first, near, second, far) {
         return false;
     }
-    let e = step::record_of(t, r.kept, r.removed);
+    let e = leaving::record_of(t, r.kept, r.removed);
     if !same_leaving(e.earlier, r.earlier) {
         return false;
     }

@@ -10,7 +10,7 @@ use Rattle.surface.specs.Rows.{Row}
 use Rattle.surface.specs.Contract.{Stays, stays?}
 use Rattle.surface.specs.Record.{Placed, at, later, leaving}
 use Rattle.surface.proofs.TwoPlaces.{Two}
-use Rattle.step.specs.Step.{SomeLeaves, row-at}
+use Rattle.leaving.specs.Leaving.{SomeLeaves, row-at}
 use native.Mathlib.Decide.{ℕ-discrete}
 
 -- a row that leaves is in the list of those that leave, with its place

@@ -1,11 +1,11 @@
 -- Zeros are written from place i on; the front stays.
 use lib.ListN.{length, length-set}
 use Prim.Native.Nat.{_-_}
-use Rattle.step.proofs.Zeros.{Cleared, clear-start, clear-more, clear-end}
+use Rattle.shrink.proofs.Zeros.{Cleared, clear-start, clear-more, clear-end}
 use native.Mathlib.Omega.{arith}
 use borrow.Author.Needs.{needs}
-use Rattle.step.proofs.clear.Statement.{statement}
-use Rattle.step.proofs.clear.Tie as tie
+use Rattle.shrink.proofs.clear.Statement.{statement}
+use Rattle.shrink.proofs.clear.Tie as tie
 
 abbrev Inv-loop : tie.InvT-loop
 Inv-loop t₀ i k₀ t k = Cleared i t₀ k t

@@ -1,8 +1,8 @@
 -- Each test is a number of the row.
 use borrow.Author.Tests.{eq-eqb, ne-eqb}
-use Rattle.step.specs.Flat.{has}
-use Rattle.step.proofs.holds.Statement.{statement}
-use Rattle.step.proofs.holds.Tie as tie
+use Rattle.shrink.specs.Flat.{has}
+use Rattle.shrink.proofs.holds.Statement.{statement}
+use Rattle.shrink.proofs.holds.Tie as tie
 
 returns : tie.Need-returns
 unfolding has

@@ -5,13 +5,13 @@ use lib.ListN.{length}
 use borrow.Author.Tests.{not-true, not-false}
 use Rattle.surface.specs.Limits.{most-rows}
 use Rattle.surface.specs.Contract.{Stays}
-use Rattle.step.specs.Step.{SomeLeaves, row-at}
-use Rattle.step.proofs.Moving.{leaves-not, not-leaves}
-use Rattle.step.proofs.Leave.{some-next, passed-more}
+use Rattle.leaving.specs.Leaving.{SomeLeaves, row-at}
+use Rattle.shrink.proofs.Moving.{leaves-not, not-leaves}
+use Rattle.leaving.proofs.Leave.{some-next, passed-more}
 use native.Mathlib.Omega.{arith}
 use borrow.Author.Needs.{needs}
-use Rattle.step.proofs.next_leaving.Statement.{statement}
-use Rattle.step.proofs.next_leaving.Tie as tie
+use Rattle.leaving.proofs.next_leaving.Statement.{statement}
+use Rattle.leaving.proofs.next_leaving.Tie as tie
 
 abbrev Inv-loop : tie.InvT-loop
 Inv-loop t a b p₀ p = (p₀ ≤ p) × (length t ≤ 3 * most-rows) × SomeLeaves a b t p × ((q : ℕ) → p₀ ≤ q → q < p → Stays a b (row-at t q))

@@ -4,12 +4,12 @@ use mathlib.Core.List.{_++_}
 use Prim.Native.Nat.{_+_, _-_, _≤_}
 use lib.ListN.{length, take, drop}
 use lib.Seq.{length-sets}
-use Rattle.step.specs.Flat.{after, row-from}
-use Rattle.step.proofs.Moving.{turn, ended, row-short}
+use Rattle.shrink.specs.Flat.{after, row-from}
+use Rattle.shrink.proofs.Moving.{turn, ended, row-short}
 use native.Mathlib.Omega.{arith}
 use borrow.Author.Needs.{needs}
-use Rattle.step.proofs.move_up.Statement.{statement}
-use Rattle.step.proofs.move_up.Tie as tie
+use Rattle.shrink.proofs.move_up.Statement.{statement}
+use Rattle.shrink.proofs.move_up.Tie as tie
 
 abbrev Inv-loop : tie.InvT-loop
 Inv-loop t₀ a b i₀ j₀ t i j = (j ≤ i) × (i ≤ length t) × (length t ≡ length t₀) × (take j t ++ after a b (drop i t) ≡ after a b t₀)

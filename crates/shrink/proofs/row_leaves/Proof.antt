@@ -1,8 +1,8 @@
 -- Both tests by `holds`.
 use mathlib.Core.Path.{refl, sym, _∙_}
 use borrow.Author.Needs.{needs}
-use Rattle.step.proofs.row_leaves.Statement.{statement}
-use Rattle.step.proofs.row_leaves.Tie as tie
+use Rattle.shrink.proofs.row_leaves.Statement.{statement}
+use Rattle.shrink.proofs.row_leaves.Tie as tie
 
 holds-requires : tie.Need-holds-requires
 holds-requires c κs = search needs

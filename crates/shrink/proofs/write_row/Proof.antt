@@ -3,8 +3,8 @@ use native.Mathlib.Numerals.{towards-suc}
 use lib.ListN.{length-set}
 use native.Mathlib.Omega.{arith}
 use borrow.Author.Needs.{needs}
-use Rattle.step.proofs.write_row.Statement.{statement}
-use Rattle.step.proofs.write_row.Tie as tie
+use Rattle.shrink.proofs.write_row.Statement.{statement}
+use Rattle.shrink.proofs.write_row.Tie as tie
 
 mul-t : tie.Need-mul-t
 mul-t c = search needs

@@ -1,9 +1,9 @@
 -- The two rows that leave, found one after the other, are the record (`recorded`).
 use mathlib.Core.Path.{refl}
-use Rattle.step.proofs.Stepping.{table-most, some-first, some-second, recorded}
+use Rattle.leaving.proofs.Recording.{table-most, some-first, some-second, recorded}
 use borrow.Author.Needs.{needs}
-use Rattle.step.proofs.record_of.Statement.{statement}
-use Rattle.step.proofs.record_of.Tie as tie
+use Rattle.leaving.proofs.record_of.Statement.{statement}
+use Rattle.leaving.proofs.record_of.Tie as tie
 
 next-leaving-requires : tie.Need-next-leaving-requires
 next-leaving-requires c κs =

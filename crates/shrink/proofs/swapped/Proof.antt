@@ -1,8 +1,8 @@
 -- By whether the number is the removed one.
 use borrow.Author.Tests.{eq-eqb, ne-eqb}
-use Rattle.step.specs.Flat.{swap}
-use Rattle.step.proofs.swapped.Statement.{statement}
-use Rattle.step.proofs.swapped.Tie as tie
+use Rattle.shrink.specs.Flat.{swap}
+use Rattle.shrink.proofs.swapped.Statement.{statement}
+use Rattle.shrink.proofs.swapped.Tie as tie
 
 returns : tie.Need-returns
 unfolding swap

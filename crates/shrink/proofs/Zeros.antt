@@ -5,7 +5,7 @@ use Prim.Native.Nat.{ℕ, zero, suc, _+_, _-_, _≤_, _<_}
 use native.Mathlib.Numerals.{add-one}
 use native.Mathlib.Omega.{arith}
 use lib.ListN.{length, take, set, replicate, length-set}
-use lib.Seq.{take-suc-set, take-length}
+use lib.Seq.{take-suc-set, take-length, length-take-le}
 
 replicate-more : (k : ℕ) → replicate {A = ℕ} (suc k) 0 ≡ replicate k 0 ++ (0 ∷ [])
 replicate-more zero = refl
@@ -36,3 +36,10 @@ clear-end i t₀ k t c h =
     let e : k ≡ length t = omega arith in
     let f : k - i ≡ length t₀ - i = ap (λ m. m - i) (e ∙ c .2) in
     sym (ap (λ m. take m t) e ∙ take-length t) ∙ c .3 ∙ ap (λ m. take i t₀ ++ replicate m 0) f
+
+-- what stays in front of a table as long as before, and zeros behind it
+pub shrunk : (t u v f : List ℕ) (j : ℕ) → j ≤ length t → length u ≡ length t → take j u ≡ f → v ≡ take j u ++ replicate (length u - j) 0 → v ≡ f ++ replicate (length t - length f) 0
+shrunk t u v f j h same stays cleared =
+    let n : length f ≡ j = sym (ap length stays) ∙ length-take-le j u (omega arith) in
+    let e : length u - j ≡ length t - length f = omega arith in
+    cleared ∙ (λ i. stays i ++ replicate (e i) 0)

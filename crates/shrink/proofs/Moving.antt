@@ -14,7 +14,7 @@ use Rattle.surface.specs.Rows.{Row, row, rows}
 use Rattle.surface.specs.Contract.{Holds, at-0, at-1, at-2, Stays, stays?, replace, renumber, contract}
 use Rattle.surface.proofs.Flat.{three}
 use Rattle.surface.proofs.Renumber.{replace-at, replace-off}
-use Rattle.step.specs.Flat.{has, swap, leaves, row-after, row-from, after}
+use Rattle.shrink.specs.Flat.{has, swap, leaves, row-after, row-from, after}
 
 drop-sets : (vs l : List ℕ) (j n : ℕ) → j + length vs ≤ n → drop n (sets l j vs) ≡ drop n l
 drop-sets [] l j n h = refl

@@ -2,11 +2,11 @@
 use mathlib.Core.Path.{refl, sym, _∙_, ap}
 use mathlib.Core.List.{[], _∷_}
 use lib.Seq.{sets}
-use Rattle.step.proofs.Moving.{row-gone, row-stays}
+use Rattle.shrink.proofs.Moving.{row-gone, row-stays}
 use native.Mathlib.Omega.{arith}
 use borrow.Author.Needs.{needs}
-use Rattle.step.proofs.move_row.Statement.{statement}
-use Rattle.step.proofs.move_row.Tie as tie
+use Rattle.shrink.proofs.move_row.Statement.{statement}
+use Rattle.shrink.proofs.move_row.Tie as tie
 
 mul-x : tie.Need-mul-x
 mul-x c = search needs
