@@ -1,11 +1,9 @@
 // The least edge that qualifies: smallest lower number, then smallest higher number.
 use record::Corner;
-ghost use Prim.Native.Nat.{_≤_, _<_};
+ghost use Prim.Native.Nat.{_≤_};
 ghost use lib.ListN.{length};
 ghost use Rattle.surface.specs.Limits.{most-corners};
-ghost use Rattle.surface.specs.Lists.{_∈_};
 ghost use Rattle.surface.specs.Rows.{rows};
-ghost use Rattle.run.specs.Run.{Qualifies};
 ghost use Rattle.refusal.specs.InnerTells.{Tells};
 ghost use Rattle.neighbours.specs.Around.{Neighbours, Marked, Unmarked};
 ghost use Rattle.least.specs.Limited.{Allowed};
@@ -35,39 +33,8 @@ fn allowed(xs: &[i32], bound: Bound, a: Corner, b: Corner) -> bool
     }
 }
 
-// Whether the edge from a up to b qualifies: the limit first, since the link condition costs more. ring lists the neighbours of a, b among
-// them, and near marks them; second and far are the link test's scratch.
-fn qualifies(
-    t: &[u32],
-    last: &[usize],
-    prev: &[usize],
-    xs: &[i32],
-    bound: Bound,
-    a: Corner,
-    ring: &[u32],
-    near: &[u8],
-    b: Corner,
-    second: &mut [u32],
-    far: &mut [u8],
-) -> bool
-    requires { ⌜ a .0 < b .0 ⌝ }
-    requires { ⌜ SearchableAt (now t) (now last) (now prev) bound (now xs) (a .0) ⌝ }
-    requires { ⌜ Neighbours (rows (now t)) (a .0) (now ring) × Marked (now ring) (now near) ⌝ }
-    requires { ⌜ b .0 ∈ now ring ⌝ }
-    requires { ⌜ most-corners ≤ length (now second) ⌝ }
-    requires { ⌜ Unmarked (now far) ⌝ }
-    ensures { λ r. ⌜ Tells r (Qualifies (Allowed bound (now (xs .entry))) (rows (now (t .entry))) (a .0) (b .0)) (¬ Qualifies (Allowed bound (now (xs .entry))) (rows (now (t .entry))) (a .0) (b .0)) ⌝ }
-    ensures { λ _. ⌜ Unmarked (now (far .exit)) ⌝ }
-{
-    if allowed(xs, bound, a, b) {
-        link::meets_round(t, last, prev, ring, near, b, second, far)
-    } else {
-        false
-    }
-}
-
-// The least edge from a upward that qualifies. The neighbours of a, which ring lists and near marks, are tried in rising order; second and
-// far are the link test's scratch.
+// The least edge from a upward that qualifies. The neighbours of a, which ring lists and near marks, are tried in rising order: the limit first,
+// since the link condition costs more. second and far are the link test's scratch.
 fn least_marked(
     t: &[u32],
     last: &[usize],
@@ -90,20 +57,10 @@ fn least_marked(
     let mut past = a.0;
     let mut b = rising::next_above(ring, near, past);
     while b < rising::NONE {
-        if qualifies(
-            t,
-            last,
-            prev,
-            xs,
-            bound,
-            a,
-            ring,
-            near,
-            Corner(b),
-            second,
-            far,
-        ) {
-            return Found::Between(a, Corner(b));
+        if allowed(xs, bound, a, Corner(b)) {
+            if link::meets_round(t, last, prev, ring, near, Corner(b), second, far) {
+                return Found::Between(a, Corner(b));
+            }
         }
         past = b;
         b = rising::next_above(ring, near, past);
