@@ -1,5 +1,5 @@
--- The verdict on growing back, line by line, and what then stands in the room.
-use mathlib.Core.Path.{_≡_, refl}
+-- The verdict on growing back, line by line.
+use mathlib.Core.Path.{_≡_}
 use mathlib.Core.List.{List}
 use Prim.Native.Nat.{ℕ, _*_, _≤_, _<_}
 use native.Mathlib.Omega.{arith}
@@ -8,7 +8,6 @@ use lib.Seq.{length-take-le}
 use Rattle.refusal.specs.declared.Refusal.{Refusal}
 use Rattle.refusal.specs.declared.Refusal.the-variants.{CountsOutside, RoomShort}
 use Rattle.refusal.specs.declared.Verdict.{Verdict}
-use Rattle.refusal.specs.declared.Verdict.the-variants.{Passes}
 use Rattle.refusal.specs.declared.Verdict.the-variants as verdict
 use Rattle.refusal.specs.First.{First}
 use Rattle.refusal.proofs.Laws.{verdicts, rest-decides, given-first, refused-passes, none-yet, _nor_}
@@ -16,8 +15,8 @@ use Rattle.faults.specs.Counts.{CountsFit}
 use Rattle.faults.specs.Inner.{CheckedStage}
 use Rattle.faults.proofs.Order.{after-2}
 use Rattle.record.proofs.Front.{standing-length}
-use Rattle.regrow.specs.Outcome.{GrowFits, room-need, grow-refusals}
-use Rattle.regrow.specs.Inner.{JudgedGrowing, CanGrow}
+use Rattle.growable.specs.Refusals.{GrowFits, room-need, grow-refusals}
+use Rattle.growable.specs.Inner.{JudgedGrowing}
 use Rattle.record.specs.Front.{front-rows}
 
 module _ (n m : ℕ) (room log : List ℕ) where
@@ -44,10 +43,3 @@ module _ (n m : ℕ) (room log : List ℕ) where
         room-enough = λ e. h;
         stage = c .stage;
       }
-
-  pub grow-ready : JudgedGrowing n m room log Passes → CanGrow n m room log
-  grow-ready j =
-      let h = j .room-enough refl in
-      let e = length-take-le (3 * m) room (omega arith) in
-      let k = standing-length m room (omega arith) in
-      record { table = record { count = omega arith; stage = j .stage refl }; fits = h }

@@ -3,8 +3,8 @@ use borrow.Author.Tests.{not-true, not-false}
 use Rattle.refusal.proofs.Tells.{tells-true, tells-false}
 use native.Mathlib.Omega.{arith}
 use borrow.Author.Needs.{needs}
-use Rattle.regrow.proofs.grow_fits.Statement.{statement}
-use Rattle.regrow.proofs.grow_fits.Tie as tie
+use Rattle.growable.proofs.grow_fits.Statement.{statement}
+use Rattle.growable.proofs.grow_fits.Tie as tie
 
 rows-fit-requires : tie.Need-rows-fit-requires
 rows-fit-requires c κs = search needs

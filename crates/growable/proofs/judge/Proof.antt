@@ -2,11 +2,11 @@
 use mathlib.Core.Path.{sym}
 use borrow.Author.Tests.{not-true, not-false}
 use lib.Seq.{length-take-le}
-use Rattle.regrow.proofs.Judging.{judge-2, judge-3, judge-on}
+use Rattle.growable.proofs.Judging.{judge-2, judge-3, judge-on}
 use native.Mathlib.Omega.{arith}
 use borrow.Author.Needs.{needs}
-use Rattle.regrow.proofs.judge.Statement.{statement}
-use Rattle.regrow.proofs.judge.Tie as tie
+use Rattle.growable.proofs.judge.Statement.{statement}
+use Rattle.growable.proofs.judge.Tie as tie
 
 grow-fits-requires : tie.Need-grow-fits-requires
 grow-fits-requires c κs = search needs
