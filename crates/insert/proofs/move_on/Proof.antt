@@ -1,10 +1,10 @@
 -- `move_on` meets its contract.
 use Prim.Native.Nat.{_-_, _≤_}
-use Rattle.grow.proofs.Moving.{MovedTo, move-none, move-more, move-end}
+use Rattle.insert.proofs.Moving.{MovedTo, move-none, move-more, move-end}
 use native.Mathlib.Omega.{arith}
 use borrow.Author.Needs.{needs}
-use Rattle.grow.proofs.move_on.Statement.{statement}
-use Rattle.grow.proofs.move_on.Tie as tie
+use Rattle.insert.proofs.move_on.Statement.{statement}
+use Rattle.insert.proofs.move_on.Tie as tie
 
 abbrev Inv-loop : tie.InvT-loop
 Inv-loop room₀ i j k₀ room k = (i ≤ k) × MovedTo j room₀ k room

@@ -10,7 +10,7 @@ use Rattle.growth.specs.Grow.{put}
 use Rattle.growth.proofs.Put.{put-length}
 use Rattle.record.specs.Front.{standing, filled, front-rows}
 use Rattle.record.proofs.Front.{standing-length, standing-flat}
-use Rattle.grow.specs.Room.{MovedOn}
+use Rattle.insert.specs.Moved.{MovedOn}
 
 -- a row put in, number by number
 flat-put : (i : ℕ) (a b c : ℕ) (T : List Row) → i ≤ length T → flat (put i (row a b c) T) ≡ take (3 * i) (flat T) ++ (a ∷ b ∷ c ∷ drop (3 * i) (flat T))

@@ -1,10 +1,10 @@
 -- `put_row` meets its contract.
 use lib.ListN.{length-set}
-use Rattle.grow.proofs.Filling.{row-put}
+use Rattle.insert.proofs.Filling.{row-put}
 use native.Mathlib.Omega.{arith}
 use borrow.Author.Needs.{needs}
-use Rattle.grow.proofs.put_row.Statement.{statement}
-use Rattle.grow.proofs.put_row.Tie as tie
+use Rattle.insert.proofs.put_row.Statement.{statement}
+use Rattle.insert.proofs.put_row.Tie as tie
 
 cast-i : tie.Need-cast-i
 cast-i c = search needs

@@ -1,10 +1,10 @@
 -- `put_rows` meets its contract.
 use Rattle.record.specs.Inner.{meant}
-use Rattle.grow.proofs.Growing.{both-put}
+use Rattle.insert.proofs.Putting.{both-put}
 use native.Mathlib.Omega.{arith}
 use borrow.Author.Needs.{needs}
-use Rattle.grow.proofs.put_rows.Statement.{statement}
-use Rattle.grow.proofs.put_rows.Tie as tie
+use Rattle.insert.proofs.put_rows.Statement.{statement}
+use Rattle.insert.proofs.put_rows.Tie as tie
 
 put-row-requires : tie.Need-put-row-requires
 put-row-requires c κs = search needs

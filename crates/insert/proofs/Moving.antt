@@ -5,7 +5,7 @@ use Prim.Native.Nat.{ℕ, suc, _+_, _-_, _≤_, _<_}
 use native.Mathlib.Omega.{arith}
 use lib.ListN.{length, take, drop, getD, set, length-set, drop-of-length-le}
 use lib.Seq.{take-take, take-set-le, drop-cons, drop-set-lt, getD-set-same, getD-take, length-take-le}
-use Rattle.grow.specs.Room.{MovedOn}
+use Rattle.insert.specs.Moved.{MovedOn}
 
 -- those from k up to j have moved
 pub record MovedTo (j : ℕ) (room : List ℕ) (k : ℕ) (room′ : List ℕ) : Type 0 where
