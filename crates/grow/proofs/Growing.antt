@@ -18,7 +18,7 @@ use Rattle.growth.proofs.Accepting.{local-accepts}
 use Rattle.growth.proofs.Main.{accepted-local}
 use Rattle.record.specs.declared.Corner.{Corner}
 use Rattle.ends.specs.declared.Ends.the-variants.{At, Nothing}
-use Rattle.accept.specs.Noted.{Round}
+use Rattle.noted.specs.Noted.{Round}
 use Rattle.accept.specs.Test.{Answered}
 use Rattle.grow.specs.Walk.{Walkable, Renamed}
 use Rattle.record.specs.Front.{standing, filled, front-rows}

@@ -8,19 +8,11 @@ use native.Mathlib.Omega.{arith}
 use lib.ListN.{length, getD, set, length-set}
 use lib.Seq.{getD-set-same, getD-set-other}
 use Rattle.surface.specs.Rows.{rows}
-use Rattle.surface.specs.Table.{Edge, Used}
+use Rattle.surface.specs.Table.{Edge}
 use Rattle.slots.specs.Slot.{next-slot, Whole, Under}
 use Rattle.slots.specs.Marks.{Blank}
-use Rattle.slots.proofs.Slots.{next-inside, follows-at, at-edge, at-used}
-use Rattle.accept.specs.Noted.{Noted, NotedTo, Round, IsNoted}
-
--- used: a slot holds it
-module _ (t : List ℕ) (w : Whole t) (v : ℕ) where
-  pub held-used : (e : ℕ) → e < length t → getD t e 0 ≡ v → Used (rows t) v
-  held-used e h q = rw q at (at-used t (w .threes) e h)
-
-  pub not-held : ((e : ℕ) → e < length t → getD t e 0 ≢ v) → ¬ Used (rows t) v
-  not-held h u = let a = follows-at t (w .threes) (u .1 .1) in h (a .e) (a .inside) (a .is-v)
+use Rattle.slots.proofs.Slots.{next-inside, follows-at, at-edge}
+use Rattle.noted.specs.Noted.{Noted, NotedTo, Round, IsNoted}
 
 -- noting a slot at a time
 pub note-none : (t : List ℕ) (a : ℕ) (at : List ℕ) → Blank at → NotedTo t a 0 at

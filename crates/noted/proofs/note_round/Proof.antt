@@ -2,12 +2,12 @@
 use mathlib.Core.Path.{_≡_, refl, _∙_}
 use Prim.Native.Nat.{_-_, _≤_}
 use lib.ListN.{length}
-use Rattle.accept.specs.Noted.{NotedTo}
-use Rattle.accept.proofs.Notes.{note-none, note-end}
+use Rattle.noted.specs.Noted.{NotedTo}
+use Rattle.noted.proofs.Notes.{note-none, note-end}
 use native.Mathlib.Omega.{arith}
 use borrow.Author.Needs.{needs}
-use Rattle.accept.proofs.note_round.Statement.{statement}
-use Rattle.accept.proofs.note_round.Tie as tie
+use Rattle.noted.proofs.note_round.Statement.{statement}
+use Rattle.noted.proofs.note_round.Tie as tie
 
 abbrev Inv-loop : tie.InvT-loop
 Inv-loop t kept at₀ e₀ at e = (e ≤ length t) × (length at ≡ length at₀) × NotedTo t (kept .0) e at

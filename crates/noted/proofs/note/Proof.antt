@@ -1,12 +1,12 @@
 -- `note` meets its contract.
 use Rattle.slots.proofs.Slots.{next-inside}
-use Rattle.accept.proofs.Notes.{note-other, note-more}
+use Rattle.noted.proofs.Notes.{note-other, note-more}
 use lib.ListN.{length}
 use Rattle.slots.specs.Slot.{next-slot}
 use native.Mathlib.Omega.{arith}
 use borrow.Author.Needs.{needs}
-use Rattle.accept.proofs.note.Statement.{statement}
-use Rattle.accept.proofs.note.Tie as tie
+use Rattle.noted.proofs.note.Statement.{statement}
+use Rattle.noted.proofs.note.Tie as tie
 
 mul-if1 : tie.Need-mul-if1
 mul-if1 c = search needs

@@ -2,8 +2,8 @@
 use Rattle.refusal.proofs.Tells.{tells-true, tells-false}
 use native.Mathlib.Omega.{arith}
 use borrow.Author.Needs.{needs}
-use Rattle.accept.proofs.near.Statement.{statement}
-use Rattle.accept.proofs.near.Tie as tie
+use Rattle.noted.proofs.near.Statement.{statement}
+use Rattle.noted.proofs.near.Tie as tie
 
 cast-i : tie.Need-cast-i
 cast-i c = search needs

@@ -2,8 +2,8 @@
 use borrow.Author.Tests.{not-true, not-false}
 use Rattle.refusal.proofs.Tells.{tells-true, tells-false}
 use borrow.Author.Needs.{needs}
-use Rattle.accept.proofs.two_near.Statement.{statement}
-use Rattle.accept.proofs.two_near.Tie as tie
+use Rattle.noted.proofs.two_near.Statement.{statement}
+use Rattle.noted.proofs.two_near.Tie as tie
 
 returns : tie.Need-returns
 returns c =
