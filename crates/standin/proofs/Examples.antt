@@ -6,7 +6,7 @@ use native.Mathlib.Decide.{ℕ-discrete}
 use Rattle.surface.specs.Rows.{row}
 use Rattle.surface.specs.Contract.{replace}
 use Rattle.surface.specs.Record.{Record}
-use Rattle.shift.specs.StandIn.{counted, stand-in, moves}
+use Rattle.standin.specs.StandIn.{counted, stand-in, moves}
 
 -- a record that keeps a and removes b; what else it says is not read
 step : ℕ → ℕ → Record

@@ -1,11 +1,11 @@
 -- `follow` meets its contract: `Following` holds at every place of the log.
 use mathlib.Core.Logic.{⊎-elim}
 use Prim.Native.Nat.{_-_}
-use Rattle.shift.proofs.Following.{Following, follow-start, follow-moved, follow-stayed, follow-end}
+use Rattle.standin.proofs.Following.{Following, follow-start, follow-moved, follow-stayed, follow-end}
 use native.Mathlib.Omega.{arith}
 use borrow.Author.Needs.{needs}
-use Rattle.shift.proofs.follow.Statement.{statement}
-use Rattle.shift.proofs.follow.Tie as tie
+use Rattle.standin.proofs.follow.Statement.{statement}
+use Rattle.standin.proofs.follow.Tie as tie
 
 abbrev Inv-loop : tie.InvT-loop
 Inv-loop log corner count at₀ moved₀ j₀ at moved j = Following log corner at moved j

@@ -12,7 +12,7 @@ use Rattle.surface.proofs.Renumber.{replace-at, replace-off}
 use Rattle.record.specs.declared.Contracted.{Contracted}
 use Rattle.record.specs.Layout.{width, record-at, records}
 use Rattle.record.specs.Inner.{IsContracted}
-use Rattle.shift.specs.StandIn.{counted, stand-in, moves}
+use Rattle.standin.specs.StandIn.{counted, stand-in, moves}
 use Rattle.record.proofs.Places.{records-length, records-from}
 
 -- ---- one record
