@@ -11,6 +11,7 @@ from pathlib import Path
 import numpy as np
 
 from . import calls, lent, readers
+from .faults import in_sheet
 from .header import LIMITS
 from .lengths import CENTIMETRES
 from .refusals import Fault, FileFault, Refused, UsageFault
@@ -196,6 +197,11 @@ def no_unit(points: np.ndarray, name: str) -> str:
 # Files
 
 
+def shown(path) -> str:
+    """A file's name with nothing in it that a terminal would act on."""
+    return "".join(letter if letter.isprintable() else "?" for letter in Path(path).name)
+
+
 def _open(path: Path):
     """A file to be read, which is no folder, pipe or device."""
     try:
@@ -231,7 +237,7 @@ def read(path, unit: str | None, origin=None, weld: str = "auto", drop_flat: boo
     kind = path.suffix.lower()
     if kind == SHEET:
         if unit not in (None, "cm") or origin or weld != "auto" or drop_flat or turn:
-            raise UsageFault(f"{path.name}: a sheet is in whole centimetres and taken as it stands: no unit, origin, weld, drop-flat or turn goes with it")
+            raise UsageFault(f"{shown(path)}: a sheet is in whole centimetres and taken as it stands: no unit, origin, weld, drop-flat or turn goes with it")
         return read_sheet(path)
     if kind not in readers.READERS:
         raise FileFault(f"{kind or 'no suffix'!r} is no format that is read; these are {' '.join(readers.READERS)} {SHEET}")
@@ -240,27 +246,27 @@ def read(path, unit: str | None, origin=None, weld: str = "auto", drop_flat: boo
     with _open(path) as file:
         count = readers.told_rows(file, os.fstat(file.fileno()).st_size, kind)
         if count > LIMITS.MOST_ROWS * (FLAT_ROOM if drop_flat else 1):
-            refuse_count(count, path.name)
+            refuse_count(count, shown(path))
         file.seek(0)
         data = _read_bytes(file)
     points, rows, single = readers.READERS[kind](data)
     joined = weld == "equal" or (weld == "auto" and kind == ".stl")
-    return _prepared(points, rows, unit, origin, joined, drop_flat, turn, single, path.name, hashlib.sha256(data).hexdigest())
+    return _prepared(points, rows, unit, origin, joined, drop_flat, turn, single, shown(path), hashlib.sha256(data).hexdigest())
 
 
 # Sheets
 
 
 def read_sheet(path) -> Skin:
-    """A skin from a sheet. The library reads it; where it refuses, Refused has the sheet's bytes for those who look for the place."""
+    """A skin from a sheet, which the library reads and checks."""
     with _open(Path(path)) as file:
         data = _read_bytes(file, LIMITS.MOST_SHEET_BYTES + 1)
     try:
         rows, corners = calls.read_sheet(data)
     except Refused as refused:
-        refused.sheet = data
+        refused.faults = in_sheet(data, refused.number)
         raise
-    return Skin(rows, corners, name=Path(path).name, digest=hashlib.sha256(data).hexdigest())
+    return Skin(rows, corners, name=shown(path), digest=hashlib.sha256(data).hexdigest())
 
 
 def sheet_text(skin: Skin) -> str:
