@@ -40,7 +40,7 @@ class Finder:
         self.rows = np.asarray(rows, np.int64).reshape(-1, 3)
         self.corners = np.asarray(corners, np.int64).reshape(-1, 3)
         self.points = self.corners if points is None else points
-        self.unit, self.digits = unit, 9 if single else 15
+        self.unit, self.kind = unit, np.float32 if single else (lambda value: value)
         self.names = (np.arange(len(self.rows)) if file_rows is None else file_rows).tolist()
 
     def find(self, number: int, limit=None) -> tuple[Fault, ...]:
@@ -59,7 +59,7 @@ class Finder:
     def corner(self, corner: int) -> str:
         """A corner with its place."""
         at = self.at(corner)
-        return f"corner {corner}" if at is None else f"corner {corner} at ({', '.join(format(value, f'.{self.digits}g') for value in at)}) {self.unit}"
+        return f"corner {corner}" if at is None else f"corner {corner} at ({', '.join(str(self.kind(value)) for value in at)}) {self.unit}"
 
     def fault(self, text: str, rows=(), corners=()) -> Fault:
         return Fault(text, tuple(self.names[row] for row in rows), tuple(corners), self.at(corners[0]) if corners else None)
@@ -96,8 +96,8 @@ class Finder:
     def edges_twice(self):
         for (a, b), rows in self.directed().items():
             if len(rows) > 1:
-                names = " and ".join(str(self.names[row]) for row in rows[:SOME])
-                yield self.fault(f"rows {names} all go from {self.corner(a)} to {self.corner(b)}".replace(" all go", " both go" if len(rows) == 2 else " all go"), rows, [a, b])
+                names = _listed([self.names[row] for row in rows])
+                yield self.fault(f"rows {names} go from {self.corner(a)} to {self.corner(b)}", rows, [a, b])
 
     def holes(self):
         """Edges without a reverse, gathered to holes: one line a hole."""
