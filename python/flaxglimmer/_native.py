@@ -77,7 +77,7 @@ def library() -> c.CDLL:
         carried = told(loaded)
     except (OSError, AttributeError, ValueError) as fault:
         raise LibraryMissing(f"{place} is no library of this version: {fault}") from None
-    del carried["sources"]
+    carried.pop("sources", None)
     if carried != {name: str(value) for name, value in vars(LIMITS).items()}:
         raise LibraryMissing(f"{place} is of another version: its limits or record width are not this package's")
     return loaded

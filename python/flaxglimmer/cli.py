@@ -18,6 +18,7 @@ from .refusals import Fault, FileFault, LibraryMissing, OurFault, Refused, Usage
 
 DONE, REFUSED, USAGE, NO_FILE, NOT_SHOWN, OURS = range(6)
 INTERRUPTED = 130  # as shells have it
+PATIENCE = 2  # seconds before it is said that there is work
 MOST_FAULTS = 10  # lines; --json has them all
 
 EXITS = """
@@ -47,7 +48,8 @@ def refusal(refused: Refused) -> Outcome:
     answer = {"status": refused.number, "meaning": refused.meaning, "faults": [asdict(fault) for fault in refused.faults], "hint": hint}
     lines = [str(refused)] + [f"  {fault.text}" for fault in refused.faults[:MOST_FAULTS]]
     lines += [f"  and {len(refused.faults) - MOST_FAULTS:,} more"] if len(refused.faults) > MOST_FAULTS else []
-    return Outcome(answer, errors=lines, notes=[f"hint: {hint}"] if hint else [], exit=REFUSED)
+    warnings = [note for note in refused.notes if note.startswith("warning: ")]
+    return Outcome({**answer, "notes": refused.notes}, errors=lines, notes=warnings + ([f"hint: {hint}"] if hint else []), exit=REFUSED)
 
 
 def outcome(act) -> Outcome:
@@ -69,7 +71,7 @@ def outcome(act) -> Outcome:
 
 def tell(told: Outcome, as_json: bool, quiet: bool) -> None:
     if as_json:
-        click.echo(json.dumps({"exit": told.exit, **told.answer, "notes": told.notes if told.exit != REFUSED else []}))
+        click.echo(json.dumps({"exit": told.exit, "notes": told.notes, **told.answer}))
         return
     for line in told.lines:
         click.echo(line)
@@ -86,7 +88,7 @@ def command(name: str, **settings):
         @click.option("--quiet", is_flag=True, help="No notes and no hints.")
         @wraps(function)
         def run(as_json, quiet, **words):
-            working = threading.Timer(2, click.echo, ["working"], {"err": True})
+            working = threading.Timer(PATIENCE, click.echo, ["working"], {"err": True})
             working.daemon = True
             if not quiet:
                 working.start()
@@ -150,10 +152,20 @@ def opened_log(log) -> files.Answer:
 
 def apart(reads: list, writes: list) -> None:
     """What is written is none of what is read, and no two are one."""
-    places = [os.path.realpath(path) for path in reads + [path for path in writes if path is not None]]
-    for place in places:
+    paths = reads + [path for path in writes if path is not None]
+    places = [_place(path) for path in paths]
+    for path, place in zip(paths, places):
         if places.count(place) > 1:
-            raise UsageFault(f"{files.shown(place)} is named twice: what is read is never written over")
+            raise UsageFault(f"{files.shown(path)} is named twice: what is read is never written over")
+
+
+def _place(path):
+    """Which file a name means, by whatever name it goes."""
+    try:
+        there = os.stat(path)
+        return there.st_dev, there.st_ino
+    except (OSError, ValueError):
+        return os.path.realpath(path)
 
 
 def write(path, text: str) -> None:
@@ -165,8 +177,7 @@ def write(path, text: str) -> None:
 
 
 def told_of(skin: skins.Skin, figure: int) -> list:
-    inward = ["the volume is below zero: the rows turn inward; --turn turns them over"] if figure < 0 else []
-    return [f"warning: {warning}" for warning in skin.warnings] + skin.notes + inward
+    return skin.told() + (["the volume is below zero: the rows turn inward; --turn turns them over"] if figure < 0 else [])
 
 
 # Scans
@@ -271,7 +282,7 @@ def placed(skin: skins.Skin, rows, log, **asked):
         yield
     except Refused as refused:
         finder = faults.Finder(rows, skin.corners, skin.points, skin.unit, skin.file_rows if rows is skin.rows else None, skin.single)
-        refused.faults = faults.in_log(refused.number, finder, log, refused.records, **asked)
+        refused.faults, refused.notes = faults.in_log(refused.number, finder, log, refused.records, **asked), skin.told()
         raise
 
 
@@ -296,7 +307,7 @@ def change(file, log, **prepared):
     try:
         figure = calls.change(skin.rows, answer.rows, skin.corners)
     except Refused as refused:
-        refused.faults = in_either(skin, answer.rows, refused.number)
+        refused.faults, refused.notes = in_either(skin, answer.rows, refused.number), skin.told()
         raise
     return Outcome({"status": 0, "change": figure}, [f"{figure} cubic metres"], notes=told_of(skin, 0))
 

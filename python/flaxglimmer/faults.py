@@ -14,7 +14,7 @@ SOME = 8  # most rows that one line names
 HINTS = {
     1: "give a limit from 0 to 2,000 m, or none",
     2: f"thin the scan to at most {LIMITS.MOST_ROWS:,} triangles first (MeshLab: Quadric Edge Collapse Decimation), or cut it into closed lengths;"
-    " corners repeated instead of shared are joined by --weld equal",
+    " corners repeated instead of shared are joined by --weld equal; fewer than 4 enclose nothing: is it the whole scan?",
     3: "lend more room: the header says how much a call needs",
     4: "is the unit right? Else move the origin near the shaft: --origin X,Y,Z in whole metres, or --origin auto",
     5: "rows name points that the file does not have: write it again with the tool that made it",
@@ -211,8 +211,7 @@ def in_log(number: int, finder: Finder, log, records: int, backward: bool = Fals
     if number == 2:
         return (Fault(f"{len(finder.rows):,} rows, {len(finder.corners):,} corners, {len(log):,} records"),)
     if number == 5 and corner is not None:
-        past = [("the corner asked about", corner)] + [(f"record {at}", max(pair)) for at, pair in enumerate(log[:, :2].tolist())]
-        found = tuple(Fault(f"{what} has corner {number}, and there are {len(finder.corners)}, counted from 0", corners=(number,)) for what, number in past if number >= len(finder.corners))
-        if found:
-            return found
+        count = len(finder.corners)
+        named = [("the corner asked about", corner)] + [(f"record {at}", max(pair)) for at, pair in enumerate(log[:, :2].tolist())]
+        return tuple(Fault(f"{what} has corner {one}, and there are {count}, counted from 0", corners=(one,)) for what, one in named if one >= count)
     return finder.find(number)

@@ -152,7 +152,8 @@ def _skin(scan: Scan, unit: str, origin, single: bool, name: str, digest: str) -
     rounded = to_centimetres(scan.points, unit, origin)
     notes = scan.notes + [f"coordinates were rounded once to whole centimetres; the largest move is {_told_move(rounded)} cm, at corner {rounded.corner}"]
     if any(origin):
-        notes.append(f"the origin ({', '.join(f'{metres:,}' for metres in origin)}) m was taken off before rounding; halves of a centimetre may round otherwise without it")
+        told = ", ".join(f"{metres:,}" for metres in origin)
+        notes.append(f"the origin ({told}) m was taken off before rounding; halves of a centimetre may round otherwise without it")
     together = _together(rounded.corners)
     notes += [f"corners {', '.join(map(str, group))} lie on one point after rounding; they stay apart" for group in together[:TOLD]]
     notes += [f"{len(together) - TOLD} more groups of corners lie on one point"] if len(together) > TOLD else []
@@ -166,6 +167,8 @@ def _skin(scan: Scan, unit: str, origin, single: bool, name: str, digest: str) -
 
 def from_points(points, rows, unit: str, origin=None, weld: str = "none", drop_flat: bool = False, turn: bool = False) -> Skin:
     """A skin from coordinates in a unit and rows of numbers from 0; both are copied."""
+    if weld not in WELDS:
+        raise UsageFault(f"{weld!r} is no way to weld: these are {', '.join(WELDS)}")
     points = np.array(points, float).reshape(-1, 3)
     rows = calls.whole(rows, np.uint32, "rows").astype(np.int64).reshape(-1, 3)
     return _prepared(points, rows, unit, origin, weld == "equal", drop_flat, turn)

@@ -21,7 +21,7 @@ def order(limit) -> tuple[int, float]:
         typed = FIGURE.fullmatch(limit)
         figure, unit = typed.groups() if typed else (0, None)
     else:
-        unit, figure = limit
+        unit, figure = limit if isinstance(limit, tuple) and len(limit) == 2 else (None, 0)
     if unit not in UNITS:
         raise UsageFault(f"{limit!r} is no limit: a figure and its unit, as '0.3 m', '4.75 ft' or '30 cm', or none")
     return UNITS[unit], float(figure)

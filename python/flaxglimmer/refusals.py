@@ -57,9 +57,9 @@ def meaning(number: int) -> str:
 
 class Refused(ValueError):
     """The library said no. `number` is the refusal; `records` and `rows` are, for 13, how many records were done and the stage that they led to;
-    `faults` are the places, where they were looked for."""
+    `faults` are the places, where they were looked for, and `notes` what was done to the file before."""
 
     def __init__(self, number: int, records: int = 0, rows=None, faults: tuple[Fault, ...] = ()):
-        self.number, self.records, self.rows, self.faults = int(number), int(records), rows, tuple(faults)
+        self.number, self.records, self.rows, self.faults, self.notes = int(number), int(records), rows, tuple(faults), []
         self.meaning = meaning(self.number)
         super().__init__(f"refused, {self.number}: {self.meaning}")

@@ -36,7 +36,15 @@ class Skin:
         """Raises Refused, with its places, unless this is a skin."""
         number = calls.check(self.rows, self.corners)
         if number:
-            raise Refused(number, faults=self.finder().find(number))
+            raise self.placed(Refused(number))
+
+    def placed(self, refused: Refused, limit=None) -> Refused:
+        """The refusal of this skin with its places, and with what was done to the file."""
+        refused.faults, refused.notes = self.finder().find(refused.number, limit), self.told()
+        return refused
+
+    def told(self) -> list:
+        return [f"warning: {warning}" for warning in self.warnings] + self.notes
 
     def volume(self) -> int:
         return calls.volume(self.rows, self.corners)
@@ -89,7 +97,6 @@ def thin(skin: Skin, limit) -> Thinned:
     try:
         rows, log = calls.thin(skin.rows, skin.corners, limit)
     except Refused as refused:
-        refused.faults = skin.finder().find(refused.number, limit)
-        raise
+        raise skin.placed(refused, limit)
     typed = limit if isinstance(limit, str) else "none" if limit is None else f"{limit[1]} {limit[0]}"
     return Thinned(skin, rows, log, calls.limit(limit) if unit else None, typed.strip())

@@ -270,6 +270,34 @@ def test_inward_rows_are_told_and_meet_nothing(run, folder):
     assert run("thin", folder / "in.off", "--unit", "m", "--limit", "1 m", "--length", "30 m", "--mean-at-least", "1 mm", "--turn").exit == 0
 
 
+def test_a_refusal_tells_what_was_done_to_the_file_before(run, folder):
+    stl(folder / "far.stl", POINTS + [0, 7123457, 0], ROWS)
+    told = run("check", folder / "far.stl", "--unit", "m", "--json").told
+    assert told["status"] == 4 and any("equal points were joined" in note for note in told["notes"]) and told["notes"][0].startswith("warning: ")
+    assert "warning: the file's numbers have 32 bits" in run("check", folder / "far.stl", "--unit", "m").err
+
+
+def test_that_there_is_work_is_said_after_a_while(run, folder, monkeypatch):
+    check, volume = ["check", folder / "o.sheet"], calls.volume
+    monkeypatch.setattr(cli, "PATIENCE", 0.05)
+    monkeypatch.setattr(calls, "volume", lambda *lists: (time.sleep(0.4), volume(*lists))[1])
+    assert run(*check).err == "working\n" and run(*check, "--quiet").err == ""
+    monkeypatch.undo()
+    assert run(*check).err == ""
+
+
+def test_what_is_read_is_not_written_over_by_another_name(run, folder):
+    (folder / "link.off").hardlink_to(folder / "shaft.off")
+    before = (folder / "shaft.off").read_bytes()
+    assert run("thin", folder / "shaft.off", "--unit", "m", "--limit", "none", "--sheet", folder / "link.off").exit == 2
+    assert (folder / "shaft.off").read_bytes() == before
+
+
+def test_an_origin_may_lie_below_zero(run, folder):
+    off(folder / "grid.off", POINTS - [412345, 0, 0], ROWS)
+    assert run("check", folder / "grid.off", "--unit", "m", "--origin", "-412345,0,0").exit == 0
+
+
 def test_quiet_leaves_out_notes_and_hints(run, folder):
     told = run("check", folder / "shaft.off", "--unit", "m", "--quiet")
     assert told.err == "" and told.out.startswith("sound: ")

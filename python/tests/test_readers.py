@@ -6,13 +6,14 @@ from pathlib import Path
 
 import numpy as np
 import pytest
+from conftest import ROOT
 from hypothesis import given, settings
 from hypothesis import strategies as st
 from scans import WRITERS, ascii_ply, ascii_stl, obj, off, ply, shaft, stl
 from tables import O_CORNERS, O_ROWS
 
 import flaxglimmer as fg
-from flaxglimmer import files, readers
+from flaxglimmer import calls, faults, files, readers
 
 POINTS, ROWS = shaft(16, 31)
 
@@ -345,6 +346,54 @@ def test_good_files_cut_spliced_and_spoiled(kind, data):
         piece = data.draw(st.sampled_from(WORDS) | st.binary(max_size=6))
         whole[at : at + data.draw(st.sampled_from([0, 0, 1, len(piece), 40]))] = piece
     ends_well(kind, bytes(whole))
+
+
+SHEET = (ROOT / "sheets" / "octahedron.sheet").read_bytes()
+MARKS = [b"", b"\n", b"\t", b" ", b"0", b"-", b"-0", b"7", b"999999", b"1000000", b"50001", b"C", b"R\t0\t1\t2\n", b"SKIN\t", b"\r", b"\xff", b"\0"]
+
+
+def spliced(whole):
+    """Up to three pieces put in or in place of bytes."""
+    change = st.tuples(st.integers(0, len(whole)), st.integers(0, 3), st.sampled_from(MARKS) | st.binary(max_size=3))
+    return st.lists(change, max_size=3).map(lambda changes: _spliced(whole, changes))
+
+
+def _spliced(whole, changes):
+    for at, gone, piece in changes:
+        whole = whole[:at] + piece + whole[at + gone :]
+    return whole
+
+
+@settings(max_examples=600)
+@given(spliced(SHEET) | st.binary(max_size=60))
+def test_a_spoiled_sheet_is_read_or_has_a_place(data):
+    try:
+        rows, corners = calls.read_sheet(data)
+    except fg.Refused as refused:
+        found = faults.in_sheet(data, refused.number)
+        assert found and all("\n" not in fault.text for fault in found)
+        if refused.number not in (2, 12):  # then the form holds, and no place of a 12 is found
+            with pytest.raises(fg.OurFault):
+                faults.in_sheet(data, 12)
+    else:
+        assert files.sheet_text(fg.Skin(rows, corners)).encode() == data
+
+
+@settings(max_examples=400)
+@given(spliced(calls.reply(SHEET)) | st.binary(max_size=60))
+def test_a_spoiled_log_is_read_or_told(data):
+    with tempfile.TemporaryDirectory() as folder:
+        (Path(folder) / "a.log").write_bytes(data)
+        try:
+            answer = files.read_answer(Path(folder) / "a.log")
+        except fg.FileFault as fault:
+            assert "\n" not in str(fault)
+            return
+    for call in (lambda: calls.replay(O_ROWS, 6, answer.log), lambda: calls.grow_back(answer.rows, 6, answer.log)):
+        try:
+            call()
+        except fg.Refused as refused:
+            assert refused.number in range(1, 14)
 
 
 @settings(max_examples=60)
