@@ -38,7 +38,7 @@ class Scan:
 
 def weld(scan: Scan) -> None:
     """Joins equal points, 0.0 and -0.0 too; numbers go by first appearance, so that the file's order alone decides them."""
-    _, first, same = np.unique(scan.points + 0.0, axis=0, return_index=True, return_inverse=True)
+    _, first, same = np.unique(scan.points, axis=0, return_index=True, return_inverse=True)
     kept = np.sort(first)
     if len(kept) < len(scan.points):
         scan.notes.append(f"{len(scan.points):,} points of the file are {len(kept):,} corners: equal points were joined")

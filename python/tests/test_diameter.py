@@ -22,6 +22,14 @@ def test_the_ends_hold_the_exact_diameters_and_no_whole_millimetre_more(figure, 
         assert low <= least < low + 1 and high - 1 < most <= high
 
 
+@pytest.mark.parametrize("figure,whole", [(1, 100), (221, 3063), (10**6, 10**5)])
+def test_ends_next_to_a_whole_millimetre_go_outward(figure, whole):
+    # with p for π these lengths give just that diameter; the first p is below π and the second above it, both by less than 10⁻²⁰
+    for half, p, end, expected in ((-0.5, "3.141592653589793238461", 0, whole - 1), (0.5, "3.1415926535897932384627", 1, whole + 1)):
+        length = 4 * (figure + Fraction(half)) * 10**9 / (Fraction(p) * whole**2)
+        assert diameter.interval(figure, length)[end] == expected
+
+
 @given(st.integers(0, 10**6), st.integers(0, 50), st.fractions(0, 10**6))
 def test_met_needs_the_lower_end(low, wide, least):
     verdict = diameter.verdict(low, low + wide, least)

@@ -158,6 +158,7 @@ BROKEN = [
     ("many.ply", PLY.replace("face 8", "face 99999999").encode(), "99,999,999 faces"),
     ("cut.ply", (PLY + PLY_BODY[:60]).encode(), "the file ends after"),
     ("quad.ply", (PLY + PLY_BODY.replace("9 3 0 1 2", "9 4 0 1 2 3", 1)).encode(), "face 0 has 4 corners"),
+    ("below.ply", (PLY + PLY_BODY.replace("9 3 0 1 2", "9 -3 0 1 2", 1)).encode(), "line 22: a list of a length below zero"),
     ("word.ply", (PLY + PLY_BODY.replace("100 0 0 255", "100 0 x 255", 1)).encode(), "line 17: no numbers"),
     ("scan.pdf", b"%PDF", "'.pdf' is no format that is read"),
     ("scan", b"", "'no suffix' is no format that is read"),

@@ -6,10 +6,11 @@ from html.parser import HTMLParser
 import numpy as np
 import pytest
 from conftest import ROOT
-from scans import off, shaft, ship
+from scans import shaft, ship
+from tables import O_CORNERS, O_ROWS
 
 import flaxglimmer as fg
-from flaxglimmer import calls, files, report
+from flaxglimmer import calls, files, painter, report
 from flaxglimmer.header import LIMITS
 
 SCANS = ROOT / "scans"
@@ -118,6 +119,8 @@ def test_the_band_is_half_a_cubic_metre_either_way():
     step = float(re.search(r'height="([\d.]+)"/></g>', drawn)[1])
     ys = {int(figure): float(y) for y, figure in re.findall(r'y="([\d.]+)" text-anchor="end">(\d+)<', drawn)}
     assert ys[8] - ys[9] == pytest.approx(step, abs=0.2)  # a whole cubic metre from top to foot
+    top, line = float(re.search(r'<rect x="[\d.]+" y="([\d.]+)"', drawn)[1]), float(re.search(r'd="M[\d.]+ ([\d.]+)H', drawn[drawn.index("<rect") :])[1])
+    assert line - top == pytest.approx(step / 2, abs=0.2)
     assert len(re.findall("<rect", drawn)) == 2
 
 
@@ -139,7 +142,17 @@ def test_a_skin_that_does_not_change_has_a_report(thinned):
     assert "No corner moved." in page and "diameter" not in page
     inward = fg.Skin(thinned.skin.rows[:, ::-1].copy(), thinned.skin.corners, name="inward")
     page = report.page(fg.thin(inward, "1 m"), "30 m", "1 mm")
-    assert "the rows turn inward" in page and "undecided" in page and page.count("<polygon") > 200
+    assert "the rows turn inward" in page and "undecided" in page
+    # it looks as the skin does from outside
+    assert report.Frame(inward).picture(inward.rows, "") == report.Frame(thinned.skin).picture(thinned.skin.rows, "")
+
+
+def test_the_rows_that_turn_to_the_eye_are_painted():
+    points = [painter.seen(corner) for corner in O_CORNERS.tolist()]
+    drawn = painter.polygons(O_ROWS.tolist(), points, lambda x, y: (x, y))
+    # round the origin a row turns to the eye where the sum of its corners lies before it
+    seen = {frozenset("%.1f,%.1f" % points[v][:2] for v in row) for row in O_ROWS.tolist() if sum(points[v][2] for v in row) < 0}
+    assert {frozenset(found.split()) for found in re.findall('points="([^"]*)"', drawn)} == seen and len(seen) == 4
 
 
 def test_warnings_stand_before_the_figures(tmp_path):
