@@ -54,6 +54,7 @@ def refusal(refused: Refused) -> Outcome:
 
 def outcome(act) -> Outcome:
     """What an act comes to, each kind of fault by its exit."""
+    line = None
     try:
         return act()
     except Refused as refused:
@@ -61,12 +62,12 @@ def outcome(act) -> Outcome:
     except UsageFault as fault:
         text, ended = str(fault), USAGE
     except FileFault as fault:
-        text, ended = str(fault), NO_FILE
+        text, ended, line = str(fault), NO_FILE, fault.line
     except (LibraryMissing, OurFault) as fault:
         text, ended = f"our fault: {fault}", OURS
     except Exception as fault:  # no traceback for people: what it is, and that it is ours
         text, ended = f"our fault: {type(fault).__name__}: {fault}", OURS
-    return Outcome({"status": None, "error": text}, errors=[f"flaxglimmer: {text}"], exit=ended)
+    return Outcome({"status": None, "error": text, "line": line}, errors=[f"flaxglimmer: {text}"], exit=ended)
 
 
 def tell(told: Outcome, as_json: bool, quiet: bool) -> None:

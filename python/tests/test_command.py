@@ -338,7 +338,7 @@ def test_what_must_not_happen_ends_with_5(run, folder, monkeypatch):
     assert told.exit == 5 and "refuses by 8, and no place of it is found" in told.err
     monkeypatch.setattr(calls, "volume", lambda *_: 1 // 0)
     told = run("volume", folder / "o.sheet", "--json")
-    assert told.exit == 5 and json.loads(told.out) == {"exit": 5, "status": None, "error": "our fault: ZeroDivisionError: integer division or modulo by zero", "notes": []}
+    assert told.exit == 5 and json.loads(told.out) == {"exit": 5, "status": None, "error": "our fault: ZeroDivisionError: integer division or modulo by zero", "line": None, "notes": []}
 
 
 def test_without_a_library_the_exit_is_5(script, folder):

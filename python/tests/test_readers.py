@@ -1,5 +1,6 @@
 """Readers: every format gives the same skin; broken files have one clear line; any bytes end in an answer or a FileFault."""
 import os
+import re
 import struct
 import tempfile
 from pathlib import Path
@@ -171,7 +172,9 @@ def test_broken_files_have_one_clear_line(name, data, message, run, tmp_path):
     told = run("thin", tmp_path / name, "--unit", "m", "--limit", "none")
     assert told.exit == 3 and told.out == "" and told.err.count("\n") == 1
     assert told.err.startswith(f"flaxglimmer: {name}: ") and message in told.err
-    assert run("check", tmp_path / name, "--unit", "m", "--json").told["exit"] == 3
+    told = run("check", tmp_path / name, "--unit", "m", "--json").told
+    line = re.match(r"line (\d+): ", message)
+    assert told["exit"] == 3 and told["status"] is None and message in told["error"] and (line is None or told["line"] == int(line[1]))
 
 
 @pytest.mark.parametrize("head", [b"scan", b"solid scan"])

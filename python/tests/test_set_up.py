@@ -30,10 +30,10 @@ def copy(tmp_path):
     program(bin / "apt-cache", "exit 0")
     program(bin / "id", "echo 0")
 
-    def running(*arguments, **environment):
+    def running(*arguments, command="flaxglimmer", **environment):
         asked = tmp_path / "asked"
         asked.unlink(missing_ok=True)
-        ended = subprocess.run([root / "flaxglimmer", *arguments], capture_output=True, text=True, env={**os.environ, "PATH": f"{bin}:{os.environ['PATH']}", "ASKED": str(asked), **environment})
+        ended = subprocess.run([root / command, *arguments], capture_output=True, text=True, env={**os.environ, "PATH": f"{bin}:{os.environ['PATH']}", "ASKED": str(asked), **environment})
         ended.asked = asked.read_text().splitlines() if asked.exists() else []
         return ended
 
@@ -75,6 +75,22 @@ def test_set_up_by_a_sudo_that_asks_nothing(copy):
     program(copy.bin / "sudo", "exit 1")
     told = copy("set-up")
     assert told.returncode == 2 and told.asked == [] and f"as root: {LINE}" in told.stderr
+
+
+def test_the_gate_installs_what_it_needs_before_its_parts(copy, tmp_path):
+    root = tmp_path / "root"
+    shutil.copy(ROOT / "test", root)
+    (root / "crates").mkdir()
+    (root / "crates.txt").write_text("one:\n")
+    (root / "tests").mkdir()
+    program(root / "tools" / "quick", 'echo quick >>$ASKED; echo "1 passed, 0 failed"')
+    program(root / "tests" / "one", 'echo one >>$ASKED; echo "2 passed, 0 failed"')
+    program(copy.bin / "rt", "exit 1")
+    line = f"{LINE} python3-pytest python3-hypothesis"
+    for environment, asked, told in (({}, [f"{line} -y", "quick", "one"], f"installing from Debian: {line}"), ({"FLAXGLIMMER_INSTALL": "no"}, ["quick", "one"], f"nothing is installed; this would be: {line}")):
+        ended = copy("quick", command="test", **environment)
+        assert ended.returncode == 0 and ended.stdout.splitlines()[-1] == "3 passed, 0 failed"
+        assert ended.asked == asked and told in ended.stderr
 
 
 def test_set_up_where_all_is_there(script):
