@@ -58,7 +58,7 @@ def drop_flat(scan: Scan) -> None:
     flat = (a == b) | (b == c) | (c == a)
     if flat.any():
         some = ", ".join(map(str, scan.file_rows[flat][:TOLD])) + (", …" if flat.sum() > TOLD else "")
-        scan.notes.append(f"{flat.sum():,} flat rows, with one corner twice, were left out: {some}")
+        scan.notes.append(f"flat rows, with one corner twice, were left out ({flat.sum():,}): {some}")
         scan.rows, scan.file_rows = scan.rows[~flat], scan.file_rows[~flat]
 
 
@@ -67,7 +67,7 @@ def drop_unused(scan: Scan) -> None:
     used = np.zeros(len(scan.points), bool)
     used[scan.rows[scan.rows < len(scan.points)]] = True
     if not used.all():
-        scan.notes.append(f"{np.count_nonzero(~used):,} points of the file that no row uses were left out")
+        scan.notes.append(f"points of the file that no row uses were left out ({np.count_nonzero(~used):,})")
         _renumber(scan, np.flatnonzero(used), np.cumsum(used) - 1)
 
 
@@ -171,7 +171,7 @@ def from_points(points, rows, unit: str, origin=None, weld: str = "none", drop_f
         raise UsageFault(f"{weld!r} is no way to weld: these are {', '.join(WELDS)}")
     points = np.array(points, float).reshape(-1, 3)
     rows = calls.whole(rows, np.uint32, "rows").astype(np.int64).reshape(-1, 3)
-    return _prepared(points, rows, unit, origin, weld == "equal", drop_flat, turn)
+    return _prepared(points, rows, unit, origin, weld == "equal", drop_flat, turn, name="skin from points")
 
 
 def _prepared(points, rows, unit, origin, joined, flat, turned, single=False, name="", digest="") -> Skin:
@@ -186,13 +186,16 @@ def _prepared(points, rows, unit, origin, joined, flat, turned, single=False, na
             act(scan)
     if len(scan.points) == 0:
         raise FileFault("none of its rows has a point of the file, or none is left")
+    if len(scan.rows) > LIMITS.MOST_ROWS:
+        refuse_count(len(scan.rows), name)
     return _skin(scan, unit, origin, single, name, digest)
 
 
 def no_unit(points: np.ndarray, name: str) -> str:
     """What the file would measure in each unit: nothing is guessed."""
     finite = points[np.isfinite(points).all(1)]
-    sizes = np.ptp(finite, axis=0).tolist() if len(finite) else (0, 0, 0)
+    with np.errstate(over="ignore"):
+        sizes = np.ptp(finite, axis=0).tolist() if len(finite) else (0, 0, 0)
     lines = [f"  --unit {unit:2}: {' x '.join(f'{size * float(factor) / 100:,.4g}' for size in sizes)} m" for unit, factor in CENTIMETRES.items()]
     return "\n".join([f"{name}: the file does not tell its unit. It would measure", *lines])
 

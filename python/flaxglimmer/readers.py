@@ -34,12 +34,16 @@ def _numbers(words, at: int, kind=float, count: int = 3) -> list:
         raise FileFault(f"no numbers: {_shown(words)}", at) from None
 
 
-def _table(points: list, rows: list) -> tuple:
-    """Lists as arrays. Numbers that 32 bits do not hold are no corner numbers of any table."""
+def _points(points: list) -> np.ndarray:
+    return np.array(points, float).reshape(-1, 3)
+
+
+def _rows(rows: list) -> np.ndarray:
+    """Numbers that 32 bits do not hold are no corner numbers of any table."""
     for at, row in enumerate(rows):
         if not all(0 <= number < 2**32 for number in row):
             raise FileFault(f"row {at} ({', '.join(map(str, row))[:60]}): a corner number below 0 or past 32 bits")
-    return np.array(points, float).reshape(-1, 3), np.array(rows, np.int64).reshape(-1, 3), False
+    return np.array(rows, np.int64).reshape(-1, 3)
 
 
 # STL
@@ -76,7 +80,7 @@ def read_stl(data: bytes) -> tuple:
         raise FileFault("it begins with 'solid' but has no facet: an empty ASCII STL, or a binary one that is cut short")
     if len(points) != 3 * facets:
         raise FileFault("the file ends inside a facet", at)
-    return np.array(points).reshape(-1, 3), np.arange(3 * facets).reshape(-1, 3), False
+    return _points(points), np.arange(3 * facets).reshape(-1, 3), False
 
 
 # OBJ
@@ -97,7 +101,7 @@ def read_obj(data: bytes) -> tuple:
             rows.append([number - 1 if number > 0 else len(points) + number for number in row])
             if min(rows[-1]) < 0:
                 raise FileFault("a number that counts back past the first point", at)
-    return _table(points, rows)
+    return _points(points), _rows(rows), False
 
 
 # OFF
@@ -129,7 +133,7 @@ def read_off(data: bytes) -> tuple:
         if words[0] != b"3":
             raise FileFault(f"a face of {_shown(words[:1])} corners: {TRIANGLES}", at)
         rows.append(_numbers(words[1:], at, int))
-    return _table(points, rows)
+    return _points(points), _rows(rows), False
 
 
 # PLY
@@ -282,7 +286,7 @@ def read_ply(data: bytes) -> tuple:
             raise FileFault(f"face {at} has {len(row)} corners: {TRIANGLES}")
     points = np.stack([np.asarray(taken["vertex"][axis], float) for axis in "xyz"], 1)
     vertex = next(element for element in needed if element.name == "vertex")
-    return points, _table([], rows)[1], bool(order) and all(vertex.kind(axis) == "f" for axis in "xyz")
+    return points, _rows(rows), bool(order) and all(vertex.kind(axis) == "f" for axis in "xyz")
 
 
 READERS = {".stl": read_stl, ".obj": read_obj, ".ply": read_ply, ".off": read_off}

@@ -249,7 +249,7 @@ def test_flat_rows_are_left_out_only_when_asked(tmp_path):
     assert refused.value.number == 6 and [fault.rows for fault in refused.value.faults] == [(5,), (len(flat) - 1,)]
     skin = fg.read(tmp_path / "a.off", "m", drop_flat=True)
     assert np.array_equal(skin.rows, ROWS) and skin.file_rows.tolist() == [k for k in range(len(flat)) if k not in (5, len(flat) - 1)]
-    assert "2 flat rows, with one corner twice, were left out: 5, 993" in skin.notes
+    assert "flat rows, with one corner twice, were left out (2): 5, 993" in skin.notes
 
 
 def test_rows_are_told_by_their_numbers_in_the_file(tmp_path):
@@ -271,10 +271,24 @@ def test_flat_rows_past_the_limit_are_read_when_they_are_dropped(tmp_path):
     assert len(fg.read(tmp_path / "a.ply", "m", drop_flat=True).rows) == len(ROWS)
 
 
+def test_too_many_rows_are_refused_before_they_are_rounded():
+    points = np.tile(POINTS, (1000, 1))
+    with pytest.raises(fg.Refused) as refused:
+        fg.from_points(points, np.tile(ROWS, (1000, 1)), "m")
+    assert refused.value.number == 2 and refused.value.faults[0].text.startswith("992,000 rows")
+
+
+def test_numbers_at_the_ends_of_binary64(run, tmp_path):
+    obj(tmp_path / "a.obj", (POINTS + [0, 0, 15]) / 16 * 1.7e308, ROWS)  # their extent is infinite
+    assert run("check", tmp_path / "a.obj").exit == 2
+    told = run("check", tmp_path / "a.obj", "--unit", "m", "--json").told
+    assert told["status"] == 4 and len(told["faults"]) == len(POINTS)
+
+
 def test_points_that_no_row_uses_are_left_out(tmp_path):
     off(tmp_path / "a.off", np.concatenate([[[np.nan, 0, 0]], POINTS]), ROWS + 1)
     skin = fg.read(tmp_path / "a.off", "m")
-    assert np.array_equal(skin.rows, ROWS) and "1 points of the file that no row uses were left out" in skin.notes
+    assert np.array_equal(skin.rows, ROWS) and "points of the file that no row uses were left out (1)" in skin.notes
 
 
 def test_rows_are_turned_only_when_asked(tmp_path):
