@@ -13,8 +13,7 @@ SOME = 8  # most rows that one line names
 
 HINTS = {
     1: "give a limit from 0 to 2,000 m, or none",
-    2: f"thin the scan to at most {LIMITS.MOST_ROWS:,} triangles first (MeshLab: Quadric Edge Collapse Decimation), or cut it into closed lengths;"
-    " corners repeated instead of shared are joined by --weld equal; fewer than 4 enclose nothing: is it the whole scan?",
+    2: f"thin the scan to at most {LIMITS.MOST_ROWS:,} triangles first (MeshLab: Quadric Edge Collapse Decimation), or cut it into closed lengths",
     3: "lend more room: the header says how much a call needs",
     4: "is the unit right? Else move the origin near the shaft: --origin X,Y,Z in whole metres, or --origin auto",
     5: "rows name points that the file does not have: write it again with the tool that made it",
@@ -65,8 +64,11 @@ class Finder:
         return Fault(text, tuple(self.names[row] for row in rows), tuple(corners), self.at(corners[0]) if corners else None)
 
     def counts(self):
-        if not (LIMITS.LEAST_ROWS <= len(self.rows) <= LIMITS.MOST_ROWS and LIMITS.LEAST_CORNERS <= len(self.corners) <= LIMITS.MOST_CORNERS):
-            yield Fault(f"{len(self.rows):,} rows and {len(self.corners):,} corners")
+        rows, corners = len(self.rows), len(self.corners)
+        few = rows < LIMITS.LEAST_ROWS or corners < LIMITS.LEAST_CORNERS
+        if few or rows > LIMITS.MOST_ROWS or corners > LIMITS.MOST_CORNERS:
+            why = "; so few enclose nothing: is it the whole scan?" if few else "; no row shares a corner, and --weld equal joins equal points" if corners == 3 * rows else ""
+            yield Fault(f"{rows:,} rows and {corners:,} corners{why}")
 
     def ranges(self):
         for corner in np.flatnonzero((np.abs(self.corners) > LIMITS.MOST_COORDINATE).any(1)).tolist():

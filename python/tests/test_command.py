@@ -64,7 +64,8 @@ TWO = np.concatenate([T_ROWS, [[0, 4, 5], [0, 5, 6], [0, 6, 4], [4, 6, 5]]])
 REFUSALS = [
     (1, "limit unusable", lambda f: ["limit", "-1 m"], "the limit '-1 m'"),
     (1, "limit unusable", lambda f: ["thin", f / "shaft.off", "--unit", "m", "--limit", "2001 m"], "the limit '2001 m'"),
-    (2, "counts outside limits: 4 to 1,024 rows, 4 to 514 corners", lambda f: scan(f, ROWS[:3]), f"3 rows and {len(np.unique(ROWS[:3]))} corners"),
+    (2, "counts outside limits: 4 to 1,024 rows, 4 to 514 corners", lambda f: scan(f, ROWS[:3]), f"3 rows and {len(np.unique(ROWS[:3]))} corners; so few enclose nothing"),
+    (2, "counts outside limits", lambda f: scan(f, np.arange(3 * len(ROWS)).reshape(-1, 3), POINTS[ROWS].reshape(-1, 3)), "480 rows and 1,440 corners; no row shares a corner, and --weld equal"),
     (2, "counts outside limits", lambda f: scan(f, np.concatenate([ROWS] * 3)), "1,440 rows in a.off"),
     (2, "counts outside limits", lambda f: on_sheet(f, "SKIN\t3\t8\n"), "line 1: 8 rows and 3 corners"),
     (2, "counts outside limits", lambda f: on_log(f, "replay", lambda log: log.replace("OK\t4\t2", "OK\t4\t3") + log.splitlines()[-1] + "\n"), "8 rows, 6 corners, 3 records"),
