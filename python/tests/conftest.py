@@ -25,7 +25,7 @@ socket.socket.connect = _no_network
 
 
 @pytest.fixture
-def run(capsys, monkeypatch):
+def run(capsys):
     """Runs the command: exit, both outputs, and the object where --json was asked."""
 
     def running(*arguments):
