@@ -1,0 +1,3 @@
+from .cli import start
+
+start()

@@ -1,0 +1,136 @@
+"""Every call on numpy arrays or lists. Arrays of the right kind are lent as they stand, others are copied with their numbers looked at; what is
+handed in is never written."""
+import numpy as np
+
+from . import lent
+from .header import LIMITS
+from .lent import Shift
+from .refusals import Refused
+
+
+def whole(array, kind, what: str) -> np.ndarray:
+    """The array itself where it can be lent, else one of this kind with the same numbers. A number that does not fit is an error, never wrapped."""
+    if type(array) is np.ndarray and array.dtype == kind and array.flags.c_contiguous and array.flags.aligned:
+        return array
+    array = np.asarray(array)
+    if array.size == 0:
+        return np.empty(0, kind)
+    if array.dtype.kind not in "iu":
+        raise TypeError(f"{what} must be whole numbers, not {array.dtype}; from_points rounds coordinates of other units")
+    bounds = np.iinfo(kind)
+    if int(array.min()) < bounds.min or int(array.max()) > bounds.max:
+        raise OverflowError(f"{what}: a number does not fit {np.dtype(kind).name}")
+    return np.ascontiguousarray(array, kind)
+
+
+def _rows(array) -> np.ndarray:
+    return whole(array, np.uint32, "rows")
+
+
+def _corners(array) -> np.ndarray:
+    return whole(array, np.int32, "corners")
+
+
+def _log(array) -> np.ndarray:
+    return whole(array, np.uint32, "log")
+
+
+def _log_room(corners) -> np.ndarray:
+    return np.empty(max(0, LIMITS.WIDTH * (corners.size // 3 - LIMITS.LEAST_CORNERS)), np.uint32)
+
+
+def thin(rows, corners, limit) -> tuple[np.ndarray, np.ndarray]:
+    """The last stage and the log, (k, 3) and (r, width). `limit` is None or 'none', a text as '0.8 m', or ('m', 0.8)."""
+    table, corners = np.array(_rows(rows)).reshape(-1), _corners(corners)
+    log = _log_room(corners)
+    records = lent.thin(table, corners, log, limit)
+    return _stage(table, records), log[: LIMITS.WIDTH * records].reshape(-1, LIMITS.WIDTH)
+
+
+def _stage(table, records: int) -> np.ndarray:
+    """The rows in front of a table from which so many records took two each."""
+    return table[: table.size - 6 * records].reshape(-1, 3)
+
+
+def check(rows, corners) -> int:
+    """The refusal of a first table, 0 for a skin. No call checks alone: a copy is thinned under a limit of 0 cm."""
+    try:
+        thin(rows, corners, ("cm", 0.0))
+    except Refused as refused:
+        return refused.number
+    return 0
+
+
+def grow_back(rows, corner_count: int, log) -> np.ndarray:
+    """The stage before the log. On 13 the stage reached is Refused's rows."""
+    rows, log = _rows(rows), _log(log)
+    room = np.zeros(rows.size + 6 * (log.size // LIMITS.WIDTH), np.uint32)
+    room[: rows.size] = rows.reshape(-1)
+    try:
+        lent.grow_back(rows.size // 3, corner_count, room, log)
+    except Refused as refused:
+        if refused.number == 13:
+            refused.rows = room[: rows.size + 6 * refused.records].reshape(-1, 3)
+        raise
+    return room.reshape(-1, 3)
+
+
+def replay(rows, corner_count: int, log) -> np.ndarray:
+    """The stage after the log. On 13 the stage reached is Refused's rows."""
+    table, log = np.array(_rows(rows)).reshape(-1), _log(log)
+    try:
+        records = lent.replay(corner_count, table, log)
+    except Refused as refused:
+        if refused.number == 13:
+            refused.rows = _stage(table, refused.records)
+        raise
+    return _stage(table, records)
+
+
+def volume(rows, corners) -> int:
+    """The figure of a stage in cubic metres, to the nearest whole."""
+    return lent.volume(_rows(rows), _corners(corners))
+
+
+def change(earlier, later, corners) -> int:
+    """The change between two stages in cubic metres, rounded once."""
+    return lent.change(_rows(earlier), _rows(later), _corners(corners))
+
+
+def shift(corner: int, corners, log) -> Shift:
+    """The stand-in of a corner, how many records moved it, and the squared distance in square centimetres."""
+    return lent.shift(corner, _corners(corners), _log(log))
+
+
+def limit(typed) -> int:
+    """A typed limit in whole centimetres, as the library rounds it down: '0.3 m' is 29."""
+    return lent.limit(typed)
+
+
+def shorter_ring(first, second) -> np.ndarray:
+    return lent.shorter_ring(whole(first, np.uint32, "first"), whole(second, np.uint32, "second"))
+
+
+def catch_up(first, second) -> np.ndarray:
+    return lent.catch_up(whole(first, np.uint32, "first"), whole(second, np.uint32, "second"))
+
+
+def read_sheet(sheet: bytes) -> tuple[np.ndarray, np.ndarray]:
+    """Rows and corners of a sheet."""
+    table, corners = np.empty(3 * LIMITS.MOST_SHEET_ROWS, np.uint32), np.empty(3 * LIMITS.MOST_SHEET_CORNERS, np.int32)
+    count, rows = lent.read_sheet(np.frombuffer(sheet, np.uint8), table, corners)
+    return table[: 3 * rows].reshape(-1, 3), corners[: 3 * count].reshape(-1, 3)
+
+
+def trial_ring() -> np.ndarray:
+    """The stored table of the trial ring, as rows."""
+    numbers = []
+    while (number := lent.trial_number(len(numbers))) is not None:
+        numbers.append(number)
+    return np.array(numbers, np.uint32).reshape(-1, 3)
+
+
+def reply(sheet: bytes) -> bytes:
+    """The desk's whole answer to a sheet."""
+    text = np.empty(LIMITS.MOST_TEXT, np.uint8)
+    return text[: lent.reply(np.frombuffer(sheet, np.uint8), text)].tobytes()

@@ -1,0 +1,400 @@
+"""The command flaxglimmer. Results go to standard output, all else to standard error; the exit tells how it ended."""
+from __future__ import annotations
+
+import json
+import os
+import sys
+import threading
+from contextlib import contextmanager
+from dataclasses import asdict, dataclass, field
+from functools import wraps
+
+import click
+import numpy as np
+
+from . import calls, faults, files, lengths, skins
+from .diameter import of_skin
+from .refusals import Fault, FileFault, LibraryMissing, OurFault, Refused, UsageFault
+
+DONE, REFUSED, USAGE, NO_FILE, NOT_SHOWN, OURS = range(6)
+INTERRUPTED = 130  # as shells have it
+PATIENCE = 2  # seconds before it is said that there is work
+MOST_FAULTS = 10  # lines; --json has them all
+
+EXITS = """
+\b
+Exit: 0  done; and, if a least mean diameter was asked, shown to be met
+      1  the library refused: number, meaning, places, hint
+      2  wrong usage: no unit, no such option, a limit that is no figure and unit
+      3  the file cannot be turned into points and rows: line or byte, and why
+      4  done, but the least mean diameter is not shown to be met
+      5  our fault: no library or one of another version, places and number disagree
+"""
+
+
+@dataclass
+class Outcome:
+    """What a command came to: an object for --json; or lines for standard output, and for standard error words and notes."""
+
+    answer: dict
+    lines: list = field(default_factory=list)
+    errors: list = field(default_factory=list)
+    notes: list = field(default_factory=list)
+    exit: int = DONE
+
+
+def refusal(refused: Refused) -> Outcome:
+    hint = faults.HINTS.get(refused.number)
+    answer = {"status": refused.number, "meaning": refused.meaning, "faults": [asdict(fault) for fault in refused.faults], "hint": hint}
+    lines = [str(refused)] + [f"  {fault.text}" for fault in refused.faults[:MOST_FAULTS]]
+    lines += [f"  and {len(refused.faults) - MOST_FAULTS:,} more"] if len(refused.faults) > MOST_FAULTS else []
+    warnings = [note for note in refused.notes if note.startswith("warning: ")]
+    return Outcome({**answer, "notes": refused.notes}, errors=lines, notes=warnings + ([f"hint: {hint}"] if hint else []), exit=REFUSED)
+
+
+def outcome(act) -> Outcome:
+    """What an act comes to, each kind of fault by its exit."""
+    line = None
+    try:
+        return act()
+    except Refused as refused:
+        return refusal(refused)
+    except UsageFault as fault:
+        text, ended = str(fault), USAGE
+    except FileFault as fault:
+        text, ended, line = str(fault), NO_FILE, fault.line
+    except (LibraryMissing, OurFault) as fault:
+        text, ended = f"our fault: {fault}", OURS
+    except Exception as fault:  # no traceback for people: what it is, and that it is ours
+        text, ended = f"our fault: {type(fault).__name__}: {fault}", OURS
+    return Outcome({"status": None, "error": text, "line": line}, errors=[f"flaxglimmer: {text}"], exit=ended)
+
+
+def tell(told: Outcome, as_json: bool, quiet: bool) -> None:
+    if as_json:
+        click.echo(json.dumps({"exit": told.exit, "notes": told.notes, **told.answer}))
+        return
+    for line in told.lines:
+        click.echo(line)
+    for line in told.errors + ([] if quiet else [f"  {note}" for note in told.notes]):
+        click.echo(line, err=True)
+
+
+def command(name: str, **settings):
+    """A command of the group, with --json and --quiet, whose function gives an Outcome."""
+
+    def made(function):
+        @main.command(name, context_settings=settings)
+        @click.option("--json", "as_json", is_flag=True, help="One object on standard output.")
+        @click.option("--quiet", is_flag=True, help="No notes and no hints.")
+        @wraps(function)
+        def run(as_json, quiet, **words):
+            working = threading.Timer(PATIENCE, click.echo, ["working"], {"err": True})
+            working.daemon = True
+            if not quiet:
+                working.start()
+            told = outcome(lambda: function(**words))
+            working.cancel()
+            tell(told, as_json, quiet)
+            return told.exit
+
+        return run
+
+    return made
+
+
+@click.group(epilog=EXITS)
+def main():
+    """Thins scanned skins of shafts by a proved library: checks them, says where a fault lies, and reports.
+
+    FILE is a scan (.stl, .obj, .ply, .off), whose --unit has to be told, or a sheet (.sheet). LOG is an answer of the desk: OK, R and K lines."""
+
+
+# Options that several commands share
+
+
+def with_file(function):
+    for option in (
+        click.option("--turn", is_flag=True, help="Turn every row over."),
+        click.option("--drop-flat", is_flag=True, help="Leave out rows that have one corner twice."),
+        click.option("--weld", type=click.Choice(files.WELDS), default="auto", show_default=True, help="Join equal points; auto: those of an STL."),
+        click.option("--origin", metavar="X,Y,Z|auto", help="Whole metres, taken off before rounding; auto: nearest the middle."),
+        click.option("--unit", type=click.Choice(list(lengths.CENTIMETRES)), help="The file's unit: no format tells it."),
+        click.argument("file"),
+    ):
+        function = option(function)
+    return function
+
+
+def to_write(name: str, what: str):
+    return click.option(f"--{name}", type=click.Path(), help=what)
+
+
+@contextmanager
+def named(path):
+    """Puts a file's name before what is wrong with it."""
+    try:
+        yield
+    except FileFault as fault:
+        named_fault = FileFault(f"{files.shown(path)}: {fault}")
+        named_fault.line = fault.line
+        raise named_fault from None
+
+
+def opened(file, unit, origin, weld, drop_flat, turn) -> skins.Skin:
+    with named(file):
+        return files.read(file, unit, origin, weld, drop_flat, turn)
+
+
+def opened_log(log) -> files.Answer:
+    with named(log):
+        return files.read_answer(log)
+
+
+def apart(reads: list, writes: list) -> None:
+    """What is written is none of what is read, and no two are one."""
+    paths = reads + [path for path in writes if path is not None]
+    places = [_place(path) for path in paths]
+    for path, place in zip(paths, places):
+        if places.count(place) > 1:
+            raise UsageFault(f"{files.shown(path)} is named twice: what is read is never written over")
+
+
+def _place(path):
+    """Which file a name means, by whatever name it goes."""
+    try:
+        there = os.stat(path)
+        return there.st_dev, there.st_ino
+    except (OSError, ValueError):
+        return os.path.realpath(path)
+
+
+def write(path, text: str) -> None:
+    try:
+        with open(path, "w", encoding="utf-8", newline="\n") as out:
+            out.write(text)
+    except (OSError, ValueError) as fault:
+        raise UsageFault(f"{files.shown(path)} cannot be written: {getattr(fault, 'strerror', None) or fault}") from None
+
+
+def told_of(skin: skins.Skin, figure: int) -> list:
+    return skin.told() + (["the volume is below zero: the rows turn inward; --turn turns them over"] if figure < 0 else [])
+
+
+# Scans
+
+
+@command("thin")
+@with_file
+@click.option("--limit", required=True, help="As '0.8 m', '4.75 ft', '30 cm', or none.")
+@to_write("report", "Write the report, one HTML file.")
+@click.option("--length", help="The shaft's, as '30 m', for the mean diameter of the skin.")
+@click.option("--mean-at-least", help="As '3000 mm': whether the mean diameter is shown to be as much.")
+@to_write("sheet", "Write the scanned skin as a sheet.")
+@to_write("log", "Write rows and log as the desk's answer.")
+def thin(file, limit, report, length, mean_at_least, sheet, log, **prepared):
+    """Thin the skin in FILE under a limit."""
+    lengths.order(limit)
+    for typed in filter(None, (length, mean_at_least)):
+        lengths.millimetres(typed)
+    if mean_at_least and not length:
+        raise UsageFault("--mean-at-least needs --length, the shaft's, as '30 m'")
+    apart([file], [report, sheet, log])
+    skin = opened(file, **prepared)
+    thinned = skins.thin(skin, limit)
+    thinned.hold()
+    first, last = thinned.volumes()
+    diameter = of_skin(first, skin.move, length, mean_at_least) if length else None
+    if report:
+        from .report import page
+
+        write(report, page(thinned, length, mean_at_least))
+    if sheet:
+        write(sheet, files.sheet_text(skin))
+    if log:
+        write(log, files.answer_text(thinned.rows, thinned.log, first, last))
+    return thinned_outcome(thinned, first, last, diameter)
+
+
+def thinned_outcome(thinned: skins.Thinned, first: int, last: int, diameter) -> Outcome:
+    """The table of facts."""
+    skin, change, farthest = thinned.skin, thinned.change(), thinned.farthest()
+    used = [len(np.unique(rows)) for rows in (skin.rows, thinned.rows)]
+    limit = "no limit" if thinned.limit is None else f"limit {thinned.typed} = {thinned.limit:,} cm"
+    lines = [f"{skin.name}: {limit}", f"{'':24}{'scanned':>10}{'thinned':>10}"]
+    for what, before, after in (
+        ("rows", len(skin.rows), len(thinned.rows)),
+        ("corners used", *used),
+        ("volume, cubic metres", first, last),
+        ("change, cubic metres", None, change),
+        ("records", None, len(thinned.log)),
+    ):
+        lines.append(f"{what:24}{'' if before is None else format(before, ','):>10}{after:>10,}")
+    if farthest:
+        corner, shift = farthest
+        lines.append(f"farthest moved: corner {corner}; corner {shift.stand_in} stands in after {shift.count}, squared distance {shift.squared:,} square cm")
+    answer = {
+        "status": 0, "file": skin.name, "limit": thinned.limit, "rows": [len(skin.rows), len(thinned.rows)], "corners": used, "records": len(thinned.log),
+        "volume": [first, last], "change": change, "farthest": {"corner": farthest[0], **farthest[1]._asdict()} if farthest else None, "mean_diameter": None,
+    }  # fmt: skip
+    if diameter:
+        lines += [diameter.line(), "  it does not cover:"] + [f"    {what}" for what in diameter.not_covered()]
+        answer["mean_diameter"] = {**asdict(diameter), "line": diameter.line(), "not_covered": diameter.not_covered()}
+    shown = diameter is None or diameter.verdict in (None, "met")
+    return Outcome(answer, lines, notes=told_of(skin, first), exit=DONE if shown else NOT_SHOWN)
+
+
+@command("check")
+@with_file
+def check(file, **prepared):
+    """Say whether the skin in FILE is sound, or where it is not; nothing is written."""
+    skin = opened(file, **prepared)
+    skin.check()
+    figure = skin.volume()
+    answer = {"status": 0, "file": skin.name, "rows": len(skin.rows), "corners": len(skin.corners), "volume": figure}
+    return Outcome(answer, [f"sound: {len(skin.rows):,} rows, {len(skin.corners):,} corners, volume {figure:,} cubic metres"], notes=told_of(skin, figure))
+
+
+@command("sheet")
+@with_file
+@to_write("sheet", "Write it here, and not to standard output.")
+def sheet(file, sheet, **prepared):
+    """Write the skin in FILE as a sheet, for the desk."""
+    apart([file], [sheet])
+    skin = opened(file, **prepared)
+    skin.check()
+    return text_outcome(files.sheet_text(skin), sheet, "sheet", told_of(skin, skin.volume()))
+
+
+def text_outcome(text: str, path, name: str, notes: list) -> Outcome:
+    """A sheet or an answer, to a file or to standard output."""
+    if path:
+        write(path, text)
+    return Outcome({"status": 0, name: None if path else text}, [] if path else text.splitlines(), notes=notes)
+
+
+# One call each
+
+
+@contextmanager
+def placed(skin: skins.Skin, rows, log, **asked):
+    """Gives a refusal of a call on a stage and a log its places."""
+    try:
+        yield
+    except Refused as refused:
+        finder = faults.Finder(rows, skin.corners, skin.points, skin.unit, skin.file_rows if rows is skin.rows else None, skin.single)
+        refused.faults, refused.notes = faults.in_log(refused.number, finder, log, refused.records, **asked), skin.told()
+        raise
+
+
+@command("volume")
+@with_file
+@click.argument("log", required=False)
+def volume(file, log, **prepared):
+    """The volume of the skin in FILE, or with LOG of the rows left in it."""
+    skin = opened(file, **prepared)
+    rows = opened_log(log).rows if log else skin.rows
+    with placed(skin, rows, np.empty((0, 2))):
+        figure = calls.volume(rows, skin.corners)
+    return Outcome({"status": 0, "volume": figure}, [f"{figure} cubic metres"], notes=told_of(skin, figure))
+
+
+@command("change")
+@with_file
+@click.argument("log")
+def change(file, log, **prepared):
+    """The change of volume from the skin in FILE to the rows left in LOG."""
+    skin, answer = opened(file, **prepared), opened_log(log)
+    try:
+        figure = calls.change(skin.rows, answer.rows, skin.corners)
+    except Refused as refused:
+        refused.faults, refused.notes = in_either(skin, answer.rows, refused.number), skin.told()
+        raise
+    return Outcome({"status": 0, "change": figure}, [f"{figure} cubic metres"], notes=told_of(skin, 0))
+
+
+def in_either(skin: skins.Skin, later, number: int) -> tuple[Fault, ...]:
+    """The places in the table that has the refusal: the skin's, or the log's."""
+    try:
+        return skin.finder().find(number)
+    except OurFault:
+        return faults.Finder(later, skin.corners, skin.points, skin.unit, None, skin.single).find(number)
+
+
+@command("shift")
+@with_file
+@click.argument("log")
+@click.argument("corner", type=click.IntRange(0, 2**32 - 1))
+def shift(file, log, corner, **prepared):
+    """The shift of CORNER by LOG: stand-in, count and squared distance."""
+    skin, answer = opened(file, **prepared), opened_log(log)
+    with placed(skin, skin.rows, answer.log, corner=corner):
+        found = calls.shift(corner, skin.corners, answer.log)
+    line = f"corner {corner}: corner {found.stand_in} stands in after {found.count}, squared distance {found.squared:,} square cm"
+    return Outcome({"status": 0, "corner": corner, **found._asdict()}, [line], notes=told_of(skin, 0))
+
+
+@command("grow-back")
+@with_file
+@click.argument("log")
+@to_write("sheet", "Write the sheet here, and not to standard output.")
+def grow_back(file, log, sheet, **prepared):
+    """Grow LOG back from the rows left in it, over the corners of FILE; the grown skin is written as a sheet."""
+    apart([file, log], [sheet])
+    skin, answer = opened(file, **prepared), opened_log(log)
+    with placed(skin, answer.rows, answer.log, backward=True):
+        rows = calls.grow_back(answer.rows, len(skin.corners), answer.log)
+    same = np.array_equal(rows, skin.rows)
+    notes = [f"the grown rows are {'those of' if same else 'NOT those of'} {skin.name}, number for number"]
+    return text_outcome(files.sheet_text(skins.Skin(rows, skin.corners)), sheet, "sheet", told_of(skin, 0) + notes)
+
+
+@command("replay")
+@with_file
+@click.argument("answer", metavar="LOG")
+@to_write("log", "Write the answer here, and not to standard output.")
+def replay(file, answer, log, **prepared):
+    """Replay LOG on the skin in FILE; the rows reached and the log are written as the desk's answer."""
+    apart([file, answer], [log])
+    skin, told = opened(file, **prepared), opened_log(answer)
+    with placed(skin, skin.rows, told.log):
+        rows = calls.replay(skin.rows, len(skin.corners), told.log)
+        first, last = skin.volume(), calls.volume(rows, skin.corners)
+    same = np.array_equal(rows, told.rows)
+    notes = [f"the rows reached are {'those of' if same else 'NOT those of'} {files.shown(answer)}, number for number"]
+    return text_outcome(files.answer_text(rows, told.log, first, last), log, "log", told_of(skin, first) + notes)
+
+
+@command("limit", ignore_unknown_options=True)  # a limit below zero is no option
+@click.argument("typed", metavar="LIMIT")
+def limit(typed):
+    """A LIMIT as '0.3 m' in whole centimetres, as the library reads it."""
+    try:
+        whole = calls.limit(typed)
+    except Refused as refused:
+        refused.faults = (Fault(f"the limit {typed!r}"),)
+        raise
+    return Outcome({"status": 0, "limit": whole}, [f"{whole} cm"])
+
+
+def entry(arguments: list | None = None) -> int:
+    """Runs the command and gives its exit."""
+    try:
+        ended = main.main(arguments, prog_name="flaxglimmer", standalone_mode=False)
+        sys.stdout.flush()
+        return ended or DONE
+    except click.ClickException as fault:
+        fault.show()
+        return USAGE
+    except click.Abort:
+        return INTERRUPTED
+    except OSError as fault:
+        sys.stdout = open(os.devnull, "w")  # what could not be written is not tried again at the end
+        click.echo(f"flaxglimmer: the answer could not be written: {fault.strerror}", err=True)
+        return USAGE
+
+
+def start() -> None:
+    for stream in (sys.stdout, sys.stderr):
+        stream.reconfigure(errors="replace")
+    sys.exit(entry())

@@ -1,0 +1,15 @@
+"""The header's limits by their names, and the one table of them in this package. A loaded library must carry the same numbers."""
+from types import SimpleNamespace
+
+LIMITS = SimpleNamespace(
+    LEAST_ROWS=4,
+    MOST_ROWS=1024,
+    LEAST_CORNERS=4,
+    MOST_CORNERS=514,
+    MOST_COORDINATE=50_000,
+    WIDTH=10,
+    MOST_SHEET_BYTES=65_536,
+    MOST_SHEET_ROWS=1024,
+    MOST_SHEET_CORNERS=514,
+    MOST_TEXT=65_536,
+)

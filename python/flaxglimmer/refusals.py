@@ -1,0 +1,65 @@
+"""What can go wrong, by kind: the library's refusals with their numbers, files that cannot be read, wrong usage, and faults of our own."""
+from __future__ import annotations
+
+from dataclasses import dataclass
+
+from .header import LIMITS as most
+
+
+class LibraryMissing(ImportError):
+    """The library is not there, or is of another version."""
+
+
+class OurFault(RuntimeError):
+    """What must not happen: places and number disagree, a log that does not grow back."""
+
+
+class UsageFault(ValueError):
+    """What was asked cannot be meant: no unit, a limit that is no figure and unit."""
+
+
+class FileFault(ValueError):
+    """A file that cannot be turned into rows and corners, with the line where that shows if there is one. The library was asked nothing."""
+
+    def __init__(self, text: str, line: int | None = None):
+        self.line = line
+        super().__init__(text if line is None else f"line {line}: {text}")
+
+
+@dataclass(frozen=True)
+class Fault:
+    """One place that makes a refusal true. `at` is a corner's place in the file's unit, where one is told."""
+
+    text: str
+    rows: tuple[int, ...] = ()
+    corners: tuple[int, ...] = ()
+    at: tuple[float, ...] | None = None
+
+
+def meaning(number: int) -> str:
+    """What a refusal number says: 01's words, then what they come to."""
+    return {
+        1: "limit unusable: below zero, not finite, or above 200,000 cm",
+        2: f"counts outside limits: {most.LEAST_ROWS} to {most.MOST_ROWS:,} rows, {most.LEAST_CORNERS} to {most.MOST_CORNERS:,} corners",
+        3: "lent room short",
+        4: f"a coordinate out of range: -{most.MOST_COORDINATE:,} to {most.MOST_COORDINATE:,} cm",
+        5: "a corner number not below the count",
+        6: "a number twice in a row",
+        7: "a directed edge twice: two rows turn the same way along it",
+        8: "a reverse missing: an edge has no row on its other side, so the skin is not closed",
+        9: "a corner unused: no row has it",
+        10: "more than one ring round a corner",
+        11: "not connected: the skin is in parts that do not meet",
+        12: f"sheet not in its form, or over {most.MOST_SHEET_BYTES:,} bytes",
+        13: "a record does not grow back or replay",
+    }.get(number, f"refusal {number}, which has no words here")
+
+
+class Refused(ValueError):
+    """The library said no. `number` is the refusal; `records` and `rows` are, for 13, how many records were done and the stage that they led to;
+    `faults` are the places, where they were looked for, and `notes` what was done to the file before."""
+
+    def __init__(self, number: int, records: int = 0, rows=None, faults: tuple[Fault, ...] = ()):
+        self.number, self.records, self.rows, self.faults, self.notes = int(number), int(records), rows, tuple(faults), []
+        self.meaning = meaning(self.number)
+        super().__init__(f"refused, {self.number}: {self.meaning}")

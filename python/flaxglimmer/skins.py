@@ -1,0 +1,102 @@
+"""A skin, as a file or arrays gave it, and a thinned one."""
+from __future__ import annotations
+
+from dataclasses import dataclass, field
+
+import numpy as np
+
+from . import calls
+from .faults import Finder
+from .lent import Shift
+from .lengths import order
+from .refusals import OurFault, Refused
+
+
+@dataclass
+class Skin:
+    """Rows and corners as the library takes them; and where they come from, so that a fault can be found in the file again."""
+
+    rows: np.ndarray  # (n, 3) uint32
+    corners: np.ndarray  # (m, 3) int32, whole centimetres
+    unit: str = "cm"  # of the file
+    points: np.ndarray | None = None  # the coordinates as they stand in the file
+    file_rows: np.ndarray | None = None  # each row's number in the file
+    name: str = ""
+    digest: str = ""
+    origin: tuple = (0, 0, 0)  # whole metres
+    move: str = "0.000"  # the largest by rounding, in centimetres
+    single: bool = False  # whether the file's numbers have 32 bits
+    notes: list = field(default_factory=list)
+    warnings: list = field(default_factory=list)
+
+    def finder(self) -> Finder:
+        return Finder(self.rows, self.corners, self.points, self.unit, self.file_rows, self.single)
+
+    def check(self) -> None:
+        """Raises Refused, with its places, unless this is a skin."""
+        number = calls.check(self.rows, self.corners)
+        if number:
+            raise self.placed(Refused(number))
+
+    def placed(self, refused: Refused, limit=None) -> Refused:
+        """The refusal of this skin with its places, and with what was done to the file."""
+        refused.faults, refused.notes = self.finder().find(refused.number, limit), self.told()
+        return refused
+
+    def told(self) -> list:
+        return [f"warning: {warning}" for warning in self.warnings] + self.notes
+
+    def volume(self) -> int:
+        return calls.volume(self.rows, self.corners)
+
+
+@dataclass
+class Thinned:
+    """A skin, its last stage and the log between them, under a limit in whole centimetres or None."""
+
+    skin: Skin
+    rows: np.ndarray
+    log: np.ndarray
+    limit: int | None
+    typed: str
+
+    def volumes(self) -> tuple[int, int]:
+        return self.skin.volume(), calls.volume(self.rows, self.skin.corners)
+
+    def change(self) -> int:
+        return calls.change(self.skin.rows, self.rows, self.skin.corners)
+
+    def shift(self, corner: int) -> Shift:
+        return calls.shift(corner, self.skin.corners, self.log)
+
+    def farthest(self) -> tuple[int, Shift] | None:
+        """The corner whose stand-in is farthest from it, the lowest of such; None where no corner was removed."""
+        shifts = [(corner, self.shift(corner)) for corner in sorted(set(self.log[:, 1].tolist()))]
+        return max(shifts, key=lambda one: (one[1].squared, -one[0]), default=None)
+
+    def grow_back(self) -> np.ndarray:
+        return calls.grow_back(self.rows, len(self.skin.corners), self.log)
+
+    def hold(self) -> None:
+        """The log leads from one stage to the other, both ways, number for number."""
+        there = calls.replay(self.skin.rows, len(self.skin.corners), self.log)
+        if not (np.array_equal(self.grow_back(), self.skin.rows) and np.array_equal(there, self.rows)):
+            raise OurFault("the log does not lead from the scanned rows to the thinned ones and back")
+
+    def report(self, path, length: str | None = None, mean_at_least: str | None = None) -> None:
+        """Writes the report: one HTML file."""
+        from . import report
+
+        with open(path, "w", encoding="utf-8", newline="\n") as out:
+            out.write(report.page(self, length, mean_at_least))
+
+
+def thin(skin: Skin, limit) -> Thinned:
+    """Thins a skin under a limit: 'none', or a figure and its unit as '0.8 m'. Refused has the places."""
+    unit, _ = order(limit)
+    try:
+        rows, log = calls.thin(skin.rows, skin.corners, limit)
+    except Refused as refused:
+        raise skin.placed(refused, limit)
+    typed = limit if isinstance(limit, str) else "none" if limit is None else f"{limit[1]} {limit[0]}"
+    return Thinned(skin, rows, log, calls.limit(limit) if unit else None, typed.strip())

@@ -1,0 +1,301 @@
+"""The library: its table of limits, the calls against document 01, against exact integers, against the pipe and the desk; what is lent is checked."""
+import re
+import struct
+import subprocess
+import threading
+
+import numpy as np
+import pytest
+from conftest import ROOT
+from scans import shaft
+from tables import O_CORNERS, O_ROWS, T_CORNERS, T_ROWS, damaged, exact_sum, figure
+
+import flaxglimmer as fg
+from flaxglimmer import _native, calls, files, lengths, refusals
+from flaxglimmer.header import LIMITS
+
+HEADER = (ROOT / "include" / "flaxglimmer.h").read_text()
+
+# 01's answer to the octahedron
+O_LAST = [(0, 3, 4), (5, 3, 0), (5, 4, 3), (5, 0, 4)]
+O_LOG = [(0, 1, 0, 0, 1, 2, 3, 0, 4, 1), (0, 2, 0, 0, 2, 3, 2, 5, 2, 0)]
+
+
+def test_the_table_of_limits_is_the_headers():
+    defined = dict(re.findall(r"^#define FLAXGLIMMER_((?:LEAST|MOST|WIDTH)\w*) (\d+)$", HEADER, re.M))
+    assert {name: str(value) for name, value in vars(LIMITS).items()} == defined
+    carried = _native.told(_native.library())
+    assert re.fullmatch("[0-9a-f]{64}", carried.pop("sources")) and carried == defined
+
+
+def test_every_function_of_the_header_is_called_with_its_types():
+    kinds = {"uint32_t": _native.u32, "double": _native.c.c_double, "size_t": _native.size}
+    results = {"uint64_t": _native.u64, "uint32_t": _native.u32, **{f"struct flaxglimmer_{one.__name__.lower()}": one for one in
+               (_native.Counted, _native.Measure, _native.Centimetres, _native.Written, _native.Stored)}}
+    declared = re.findall(r"^((?:struct )?\w+) flaxglimmer_(\w+)\(([^;]*)\);", HEADER, re.M)
+    assert {name for _, name, _ in declared} == set(_native.SIGNATURES)
+    for result, name, arguments in declared:
+        expected = [_native.number if "uint64_t *" in one else _native.lent if "*" in one else kinds[one.split()[0]] for one in re.split(r",\s*", arguments)]
+        assert _native.SIGNATURES[name] == (results[result], expected), name
+
+
+def test_units_are_the_headers():
+    units = dict(re.findall(r"^    FLAXGLIMMER_(NO_LIMIT|METRES|FEET|CENTIMETRES) = (\d)", HEADER, re.M))
+    assert [lengths.NO_LIMIT, *(lengths.UNITS[unit] for unit in ("m", "ft", "cm"))] == [int(units[name]) for name in ("NO_LIMIT", "METRES", "FEET", "CENTIMETRES")]
+
+
+def test_every_refusal_has_the_headers_words():
+    told = re.findall(r"^    FLAXGLIMMER_\w+ = (\d+),? +/\* ([^,;:(]*?)(?:[,;:(].*)? \*/$", HEADER, re.M)
+    assert [int(number) for number, _ in told] == list(range(1, 14))
+    for number, words in told:
+        assert refusals.meaning(int(number)).startswith(words)
+
+
+def test_the_octahedron_is_01s():
+    rows, log = calls.thin(O_ROWS, O_CORNERS, None)
+    assert rows.tolist() == [list(row) for row in O_LAST] and log.tolist() == [list(record) for record in O_LOG]
+    middle = calls.replay(O_ROWS, 6, log[:1])
+    assert [calls.volume(stage, O_CORNERS) for stage in (O_ROWS, middle, rows)] == [1, 1, 0]
+    assert [calls.change(*pair, O_CORNERS) for pair in ((O_ROWS, middle), (middle, rows), (O_ROWS, rows))] == [-1, 0, -1]
+    assert calls.grow_back(rows, 6, log).tolist() == O_ROWS.tolist()
+    assert len(calls.thin(O_ROWS, O_CORNERS, "141 cm")[1]) == 0 and len(calls.thin(O_ROWS, O_CORNERS, "142 cm")[1]) == 2
+    assert calls.shift(1, O_CORNERS, log) == (0, 1, 20000)
+
+
+def test_the_tetrahedron_and_limits_are_01s():
+    assert calls.volume(T_ROWS, T_CORNERS) == -5 and len(calls.thin(T_ROWS, T_CORNERS, "none")[1]) == 0
+    for typed, whole in (("1.5 m", 150), ("1.375 m", 137), ("4.75 ft", 144), ("0.29 m", 28), ("0.3 m", 29), (("m", 0.3), 29), ("200000 cm", 200_000), ("0 m", 0), ("-0 m", 0)):
+        assert calls.limit(typed) == whole
+
+
+def test_the_trial_ring_is_01s():
+    at = lambda r, c: 8 * (r % 8) + c % 8
+    rule = [row for r in range(8) for c in range(8) for row in ((at(r, c), at(r + 1, c), at(r + 1, c + 1)), (at(r, c), at(r + 1, c + 1), at(r, c + 1)))]
+    assert calls.trial_ring().tolist() == [list(row) for row in rule]
+
+
+def test_rings_and_catching_up():
+    first, second = np.array([1, 2, 3], np.uint32), np.array([4, 5, 6], np.uint32)
+    assert calls.shorter_ring(first, second) is first and calls.shorter_ring(first, second[:2]).tolist() == [4, 5]
+    part = calls.catch_up(first[:1], first)
+    assert part.tolist() == [2, 3] and np.shares_memory(part, first)
+    assert calls.catch_up(first, second).size == 0 and calls.catch_up(first, first).size == 0
+
+
+@pytest.mark.parametrize("seed", range(40))
+def test_figures_are_the_exact_sums_and_logs_lead_both_ways(seed):
+    points, rows = shaft(5 + seed % 7, 4 + seed % 5, seed=seed)
+    skin = fg.from_points(points, rows, "m")
+    corners = skin.corners.astype(np.int64)
+    thinned = fg.thin(skin, f"{2 + seed % 9} m")
+    first, last = exact_sum(rows, corners), exact_sum(thinned.rows, corners)
+    assert thinned.volumes() == (figure(first), figure(last)) and thinned.change() == figure(last - first)
+    assert np.array_equal(thinned.grow_back(), rows)
+    corner, far = thinned.farthest()
+    gone = corners[corner] - corners[far.stand_in]
+    assert far.squared == int(gone @ gone) <= (far.count * thinned.limit) ** 2
+
+
+class Pipe:
+    """The calls over a pipe, as docs/CALLS.md has them."""
+
+    def __init__(self):
+        self.program = subprocess.Popen([ROOT / "tools" / "start", "calls"], stdin=subprocess.PIPE, stdout=subprocess.PIPE)
+
+    def words(self, count):
+        data = self.program.stdout.read(8 * count)
+        return list(struct.unpack(f"<{count}q", data))
+
+    def ask(self, *parts, lists):
+        """Asks with numbers and lists; the answer and so many written lists, each as a list."""
+        words = [word for part in parts for word in ([len(part), *part] if isinstance(part, list) else [part])]
+        self.program.stdin.write(struct.pack(f"<{len(words)}q", *words))
+        self.program.stdin.flush()
+        return [self.words(self.words(1)[0]) for _ in range(1 + lists)]
+
+    def close(self):
+        self.program.stdin.close()
+        self.program.stdout.close()
+        assert self.program.wait() == 0
+
+
+@pytest.fixture(scope="module")
+def pipe():
+    one = Pipe()
+    yield one
+    one.close()
+
+
+def lent_answer(call, *arguments):
+    """(status, value) of a lent call."""
+    try:
+        return [0, call(*arguments)]
+    except fg.Refused as refused:
+        return [refused.number, refused.records]
+
+
+@pytest.mark.parametrize("part", range(10))
+def test_the_library_is_the_pipe_in_every_number_of_every_buffer(pipe, part):
+    for seed in range(40 * part, 40 * part + 40):
+        rows, corners = damaged(seed)
+        rows, corners = rows.astype(np.uint32), corners.astype(np.int32)
+        table, log = rows.reshape(-1).copy(), np.full(max(0, 10 * (len(corners) - 4)) + seed % 3, 77, np.uint32)
+        unit, typed = (0, None) if seed % 2 else (1, ("m", 0.5 + seed % 9))
+        bits = struct.unpack("<q", struct.pack("<d", typed[1] if typed else 0.0))[0]
+        over = pipe.ask(1, unit, bits, table.tolist(), corners.reshape(-1).tolist(), log.tolist(), lists=2)
+        thinned = lent_answer(fg.lent.thin, table, corners, log, typed)
+        assert over == [thinned, table.tolist(), log.tolist()]
+        assert pipe.ask(4, rows.reshape(-1).tolist(), corners.reshape(-1).tolist(), lists=0) == [lent_answer(fg.lent.volume, rows, corners)]
+        done = thinned[1]
+        records = log[: 10 * done] if seed % 4 else log[: len(log) // 10 * 10]
+        for corner in (0, len(corners)):
+            status = lent_answer(fg.lent.shift, corner, corners, records)
+            expected = [0, *status[1]] if status[0] == 0 else [status[0], 0, 0, 0]
+            assert pipe.ask(6, corner, corners.reshape(-1).tolist(), records.tolist(), lists=0) == [expected]
+        again, left = rows.reshape(-1).copy(), pipe.ask(3, len(corners), rows.reshape(-1).tolist(), records.tolist(), lists=1)
+        assert left == [lent_answer(fg.lent.replay, len(corners), again, records), again.tolist()]
+        room = table.copy()
+        standing = len(table) // 3 - 2 * done
+        grown = pipe.ask(2, standing, len(corners), room.tolist(), records.tolist(), lists=1)
+        assert grown == [lent_answer(fg.lent.grow_back, standing, len(corners), room, records), room.tolist()]
+
+
+def test_the_answer_without_a_limit_is_the_desks_byte_for_byte():
+    for path in sorted((ROOT / "sheets").glob("*.sheet")):
+        skin = files.read_sheet(path)
+        thinned = fg.thin(skin, "none")
+        asked = subprocess.run([ROOT / "tools" / "start", "desk"], input=path.read_bytes(), capture_output=True, check=True).stdout
+        assert files.answer_text(thinned.rows, thinned.log, *thinned.volumes()).encode() == asked == calls.reply(path.read_bytes())
+        assert files.sheet_text(skin).encode() == path.read_bytes()
+
+
+def test_what_does_not_fit_never_crosses():
+    for call, error in (
+        (lambda: calls.volume([[-1, 1, 2]], O_CORNERS), OverflowError),
+        (lambda: calls.volume([[2**32, 1, 2]], O_CORNERS), OverflowError),
+        (lambda: calls.volume(O_ROWS, O_CORNERS * 1.5), TypeError),
+        (lambda: calls.volume(O_ROWS, O_CORNERS.astype(np.int64) * 2**30), OverflowError),
+        (lambda: calls.shift(-1, O_CORNERS, []), OverflowError),
+        (lambda: calls.shift(2**32, O_CORNERS, []), OverflowError),
+        (lambda: calls.shift(1.0, O_CORNERS, []), TypeError),
+        (lambda: calls.replay(O_ROWS, -1, []), OverflowError),
+        (lambda: calls.grow_back(O_ROWS, 2**64, []), OverflowError),
+        (lambda: fg.lent.trial_number(2**70), OverflowError),
+        (lambda: calls.limit("0.3"), fg.UsageFault),
+        (lambda: calls.limit("300 mm"), fg.UsageFault),
+        (lambda: calls.limit("nan m"), fg.UsageFault),
+        (lambda: calls.limit("٣ m"), fg.UsageFault),
+        (lambda: calls.limit(("yd", 1)), fg.UsageFault),
+    ):
+        with pytest.raises(error):
+            call()
+
+
+def test_what_is_handed_in_is_never_written():
+    rows, corners = O_ROWS.copy(), O_CORNERS.copy()
+    rows.flags.writeable = corners.flags.writeable = False
+    last, log = calls.thin(rows, corners, "none")
+    calls.grow_back(last, 6, log), calls.replay(rows, 6, log), calls.volume(rows, corners), calls.change(rows, last, corners)
+    assert np.array_equal(rows, O_ROWS) and np.array_equal(corners, O_CORNERS)
+
+
+def lent_arrays():
+    return O_ROWS.reshape(-1).copy(), O_CORNERS.copy(), np.zeros(20, np.uint32)
+
+
+def test_lent_memory_is_thinned_in_place():
+    table, corners, log = lent_arrays()
+    assert fg.lent.thin(table, corners, log, "none") == 2
+    assert table.tolist() == [v for row in O_LAST for v in row] + [0] * 12 and log.tolist() == [v for record in O_LOG for v in record]
+    room = np.concatenate([table[:12], np.full(14, 9, np.uint32)])
+    assert fg.lent.grow_back(4, 6, room, log) == 2 and room.tolist() == [*O_ROWS.reshape(-1).tolist(), 9, 9]
+
+
+def test_lent_memory_is_looked_at_first():
+    table, corners, log = lent_arrays()
+    locked = table.copy()
+    locked.flags.writeable = False
+    both = np.zeros(44, np.uint32)
+    for arguments, error in (
+        ((table.astype(np.int64), corners, log), TypeError),
+        ((table.astype(">u4"), corners, log), TypeError),
+        ((table.tolist(), corners, log), TypeError),
+        ((np.ma.array(table), corners, log), TypeError),
+        ((np.zeros(48, np.uint32)[::2], corners, log), TypeError),
+        ((table, corners.astype(np.uint32), log), TypeError),
+        ((np.frombuffer(b"\0" * 97, np.uint8)[1:].view(np.uint32), corners, log), TypeError),
+        ((locked, corners, log), ValueError),
+        ((both[:24], corners, both[20:40]), ValueError),
+        ((both[:24], both[18:36].view(np.int32), log), ValueError),
+    ):
+        with pytest.raises(error):
+            fg.lent.thin(*arguments, "none")
+    with pytest.raises(ValueError):
+        fg.lent.replay(6, both[:24], both[14:24])
+    with pytest.raises(ValueError):
+        fg.lent.grow_back(4, 6, both[:24], both[14:34])
+    with pytest.raises(ValueError):
+        fg.lent.read_sheet(both.view(np.uint8), both[:12], corners)
+    with pytest.raises(ValueError):
+        fg.lent.reply(both.view(np.uint8), both.view(np.uint8)[4:])
+    assert np.array_equal(locked, O_ROWS.reshape(-1)) and not both.any()
+
+
+def test_room_that_is_short_is_refused_and_left():
+    table, corners, log = lent_arrays()
+    with pytest.raises(fg.Refused) as refused:
+        fg.lent.thin(table, corners, log[:19], "none")
+    assert refused.value.number == 3 and np.array_equal(table, O_ROWS.reshape(-1)) and not log.any()
+
+
+def test_13_carries_the_stage_reached():
+    last, log = calls.thin(O_ROWS, O_CORNERS, "none")
+    wrong = log.copy()
+    wrong[1, 0] = 3
+    with pytest.raises(fg.Refused) as refused:
+        calls.replay(O_ROWS, 6, wrong)
+    assert (refused.value.number, refused.value.records) == (13, 1)
+    assert np.array_equal(refused.value.rows, calls.replay(O_ROWS, 6, log[:1]))
+    wrong = log.copy()
+    wrong[0, 0] = 3
+    with pytest.raises(fg.Refused) as refused:
+        calls.grow_back(last, 6, wrong)
+    assert (refused.value.number, refused.value.records) == (13, 1)
+    assert np.array_equal(refused.value.rows, calls.replay(O_ROWS, 6, log[:1]))
+
+
+@pytest.fixture
+def fresh(monkeypatch):
+    """The library is looked for anew, and again afterwards."""
+    _native.library.cache_clear()
+    yield monkeypatch
+    _native.library.cache_clear()
+
+
+def test_a_library_that_is_missing_or_of_another_version_is_told(fresh, tmp_path):
+    fresh.setenv("FLAXGLIMMER_LIBRARY", str(tmp_path / "none.so"))
+    with pytest.raises(fg.LibraryMissing, match="none.so"):
+        calls.limit("1 m")
+    (tmp_path / "none.so").write_bytes(b"no library")
+    with pytest.raises(fg.LibraryMissing, match="no library of this version"):
+        calls.limit("1 m")
+    fresh.delenv("FLAXGLIMMER_LIBRARY")
+    fresh.setattr(LIMITS, "WIDTH", 12)
+    with pytest.raises(fg.LibraryMissing, match="another version"):
+        calls.limit("1 m")
+    fresh.setattr(LIMITS, "WIDTH", 10)
+    assert calls.limit("1 m") == 100
+
+
+def test_threads_may_call_at_once_on_a_small_stack():
+    points, rows = shaft(16, 31)
+    skin = fg.from_points(points, rows, "m")
+    expected, found = fg.thin(skin, "0.8 m").log, []
+    threads = [threading.Thread(target=lambda: found.append(fg.thin(skin, "0.8 m").log)) for _ in range(8)]
+    before = threading.stack_size(256 * 1024)
+    for thread in threads:
+        thread.start()
+    threading.stack_size(before)
+    for thread in threads:
+        thread.join()
+    assert len(found) == 8 and all(np.array_equal(expected, one) for one in found)
