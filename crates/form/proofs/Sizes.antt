@@ -10,8 +10,9 @@ use Rattle.text.specs.Decimal.{decimal, signed}
 use Rattle.lines.specs.Lines.{fields, line, lines, FewDigits}
 use Rattle.lines.specs.Kinds.{corner-lines, row-lines}
 use Rattle.lines.proofs.Cut.{short-left, short-right}
-use Rattle.form.specs.Limits.{most-sheet-bytes, most-digits}
-use Rattle.form.specs.Form.{SKIN, first-line, CountsIn, SheetOf}
+use Rattle.heading.specs.Heading.{most-digits, first-line}
+use Rattle.form.specs.Limits.{most-sheet-bytes}
+use Rattle.form.specs.Form.{SKIN, CountsIn, SheetOf}
 
 pub signed-size : (z : ℤ) → length (signed z) ≤ 1 + length (decimal (natAbs z))
 signed-size (pos n) = omega arith
@@ -39,4 +40,4 @@ sheet-size {b} {n} {m} {xs} {t} s c =
     let f = line-size SKIN (pos n ∷ pos m ∷ []) (s .counts-short) in
     let x = lines-size 67 n xs (s .corners-short) (s .corners) in
     let y = lines-size 82 m (map pos t) (s .rows-short) (length-map t pos ∙ s .rows) in
-    omega (arith, ap length (s .text), length-append (first-line n m) (corner-lines n xs ++ row-lines m t), length-append (corner-lines n xs) (row-lines m t))
+    omega (arith, ap length (s .text), length-append (first-line SKIN n m) (corner-lines n xs ++ row-lines m t), length-append (corner-lines n xs) (row-lines m t))
