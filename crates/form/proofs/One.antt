@@ -7,6 +7,7 @@ use lib.IntN.{ℤ, pos}
 use lib.ListN.{length, length-map}
 use Rattle.lines.specs.Kinds.{C, R, corner-lines, row-lines}
 use Rattle.lines.proofs.Cut.{lines-unique}
+use Rattle.lines.proofs.Plain.{pos-same}
 use Rattle.form.specs.Form.{SKIN, sheet-text, SheetOf}
 use Rattle.heading.proofs.Heading.{same-first}
 use Rattle.form.proofs.Formed.{its-line}
@@ -28,12 +29,6 @@ pub record Same (n m n′ m′ : ℕ) (xs xs′ : List ℤ) (t t′ : List ℕ) 
   pub rows : m ≡ m′
   pub coordinates : xs ≡ xs′
   pub numbers : t ≡ t′
-
-pos-same : (t u : List ℕ) → map pos t ≡ map pos u → t ≡ u
-pos-same [] [] e = refl
-pos-same [] (y ∷ u) e = absurd (let z : _≡_ {A = ℕ} 0 1 = cc in omega arith)
-pos-same (x ∷ t) [] e = absurd (let z : _≡_ {A = ℕ} 0 1 = cc in omega arith)
-pos-same (x ∷ t) (y ∷ u) e = let a : x ≡ y = cc in let f : map pos t ≡ map pos u = cc in let b = pos-same t u f in λ i. a i ∷ b i
 
 -- a sheet has one table and one list of corners
 pub one-skin : {b : List ℕ} {n m n′ m′ : ℕ} {xs xs′ : List ℤ} {t t′ : List ℕ} → SheetOf b n m xs t → SheetOf b n′ m′ xs′ t′ → Same n m n′ m′ xs xs′ t t′

@@ -1,3 +1,4 @@
 pub mod Cut
 pub mod Turns
 pub mod Storing
+pub mod Plain
