@@ -39,7 +39,7 @@ lines-length w each (suc k) zs =
     omega (arith, length-append (line w (take each zs)) (lines w each k (drop each zs)), line-length w (take each zs), lines-length w each k (drop each zs))
 
 -- lines that take all of their plain numbers
-plain-length : (w : List ℕ) (each k : ℕ) (ns : List ℕ) → length ns ≡ k * each → length (plain w each k ns) ≡ k * (length w + 1) + length (fields (map pos ns))
+pub plain-length : (w : List ℕ) (each k : ℕ) (ns : List ℕ) → length ns ≡ k * each → length (plain w each k ns) ≡ k * (length w + 1) + length (fields (map pos ns))
 plain-length w each k ns h =
     let m = length-map ns pos in
     let e = ap (λ l. length (fields l)) (take-all (k * each) (map pos ns) (omega arith)) in
