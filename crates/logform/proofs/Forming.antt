@@ -1,7 +1,7 @@
 -- A log sheet's form: why each answer of its reader is right, and that a sheet has one log.
 use mathlib.Core.Path.{_≡_, refl, sym, _∙_, ap, subst}
 use mathlib.Core.List.{List, [], _∷_, _++_, append-nil, map}
-use Prim.Native.Nat.{ℕ, zero, suc, _+_, _-_, _*_, _≤_, _<_}
+use Prim.Native.Nat.{ℕ, zero, suc, _+_, _-_, _≤_, _<_}
 use native.Mathlib.Omega.{arith}
 use lib.IntN.{ℤ, pos}
 use lib.ListN.{length, length-map, drop}
@@ -12,7 +12,7 @@ use Rattle.lines.proofs.Cut.{lines-unique, cut-lines}
 use Rattle.lines.proofs.Plain.{pos-same}
 use Rattle.heading.specs.Heading.{most-digits, first-line, NoFirstLine}
 use Rattle.heading.proofs.Heading.{same-first}
-use Rattle.logform.specs.LogSheet.{LOG, most-log-bytes, log-text, LogSheetOf, NoLogSheet}
+use Rattle.logform.specs.LogSheet.{LOG, most-log-bytes, LogSheetOf}
 use Rattle.logform.specs.Inner.{Records, LinesLeft, LogFormRead, BadLogForm, no-sheet}
 
 -- a log sheet has its first line, and its lines of records after it

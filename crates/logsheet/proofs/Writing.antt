@@ -1,14 +1,13 @@
 -- Writing a log sheet: its length, and that its parts one after the other are its text.
 use mathlib.Core.Path.{_≡_, refl, sym, _∙_, ap, subst}
-use mathlib.Core.List.{List, [], _∷_, _++_, append-nil, map}
+use mathlib.Core.List.{List, [], _∷_, append-nil, map}
 use Prim.Native.Nat.{ℕ, _+_, _*_, _≤_, _<_}
 use native.Mathlib.Omega.{arith}
 use lib.IntN.{ℤ, pos}
-use lib.ListN.{length, length-append, drop}
+use lib.ListN.{length, length-append}
 use mir.Syntax.{w64}
 use mir.Val.{SFits, toZ}
 use mir.ValLaws.{toZ-ofZ}
-use Rattle.refusal.specs.First.{First}
 use Rattle.refusal.specs.declared.Refusal.the-variants.{CountsOutside, RoomShort}
 use Rattle.refusal.specs.declared.Verdict.the-variants as verdict
 use Rattle.refusal.proofs.Laws.{verdicts, given-first, passes-none, none-yet, _nor_}

@@ -31,7 +31,7 @@ use Rattle.lines.specs.Lines.{fields, line, lines, FewDigits}
 use Rattle.lines.proofs.Cut.{short-append}
 use Rattle.heading.specs.Heading.{most-digits}
 use Rattle.form.specs.Limits.{most-sheet-rows}
-use Rattle.form.proofs.Sizes.{signed-size, fields-size}
+use Rattle.heading.proofs.Sizes.{signed-size, fields-size}
 use Rattle.lines.specs.Kinds.{R, K, row-lines, record-lines}
 use Rattle.tell.specs.Text.{OK, NO, most-text, no-text, ok-text}
 use Rattle.reply.specs.Outcome.{TellsRun, SkinOf, Answers, no, ok}

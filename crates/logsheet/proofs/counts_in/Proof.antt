@@ -1,7 +1,6 @@
 -- `counts_in` meets its contract.
 use Rattle.refusal.proofs.Tells.{tells-true, tells-false}
 use native.Mathlib.Omega.{arith}
-use borrow.Author.Needs.{needs}
 use Rattle.logsheet.proofs.counts_in.Statement.{statement}
 use Rattle.logsheet.proofs.counts_in.Tie as tie
 

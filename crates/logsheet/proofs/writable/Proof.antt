@@ -1,7 +1,6 @@
 -- `writable` meets its contract.
 use borrow.Author.Tests.{not-true, not-false}
 use Rattle.refusal.proofs.Tells.{tells-false}
-use native.Mathlib.Omega.{arith}
 use borrow.Author.Needs.{needs}
 use Rattle.logsheet.proofs.writable.Statement.{statement}
 use Rattle.logsheet.proofs.writable.Tie as tie
