@@ -1,8 +1,9 @@
 -- A log sheet: "first line `LOG`, corners, rows, tab-parted; then one `K` line a record with its ten numbers, number rules as in 01."
 use mathlib.Core.Path.{_≡_}
 use mathlib.Core.List.{List, [], _∷_, _++_, map}
-use Prim.Native.Nat.{ℕ}
+use Prim.Native.Nat.{ℕ, _-_, _≤_}
 use lib.IntN.{pos}
+use Rattle.surface.specs.Limits.{least-rows, most-rows, least-corners, most-corners}
 use Rattle.record.specs.Layout.{count, WholeRecords}
 use Rattle.lines.specs.Lines.{FewDigits}
 use Rattle.lines.specs.Kinds.{record-lines}
@@ -31,3 +32,11 @@ pub record LogSheetOf (b : List ℕ) (n m : ℕ) (log : List ℕ) : Type 0 where
 -- the form of some line is bad, or something else stands among the lines or after them
 abbrev pub NoLogSheet : List ℕ → Type 0
 NoLogSheet b = (n m : ℕ) (log : List ℕ) → ¬ LogSheetOf b n m log
+
+-- counts inside the limits, and no more than corners - 4 records
+pub record CountsIn (n m records : ℕ) : Type 0 where
+  pub few : least-corners ≤ n
+  pub many : n ≤ most-corners
+  pub least : least-rows ≤ m
+  pub most : m ≤ most-rows
+  pub fewer : records ≤ n - least-corners

@@ -1,4 +1,6 @@
 // A log sheet's form: its size, its first line, and lines of records to its end. Nothing is written: lines are passed over and counted.
+ghost use Rattle.refusal.specs.InnerTells.{Tells};
+ghost use Rattle.logform.specs.LogSheet.{CountsIn};
 ghost use Rattle.logform.specs.Inner.{PassedOver, WhatIsLeft, ReadLogForm};
 ghost use lib.ListN.{drop};
 use heading::FirstLine;
@@ -20,12 +22,42 @@ pub enum LogForm {
     Bad,
 }
 
+// Inner: whether the counts are inside their limits, and the records no more than the corners allow.
+pub fn counts_in(n: usize, m: usize, records: usize) -> bool
+    ensures { λ r. ⌜ Tells r (CountsIn n m records) (¬ CountsIn n m records) ⌝ }
+{
+    if n < surface::LEAST_CORNERS {
+        return false;
+    }
+    if surface::MOST_CORNERS < n {
+        return false;
+    }
+    if m < surface::LEAST_ROWS {
+        return false;
+    }
+    if surface::MOST_ROWS < m {
+        return false;
+    }
+    if n - surface::LEAST_CORNERS < records {
+        return false;
+    }
+    true
+}
+
 // Passes over a record's line.
 fn pass_line(s: &[u8], from: Cursor) -> Passed
     ensures { λ r. ⌜ PassedOver (now (s .entry)) (from .at) r ⌝ }
 {
     let mut numbers = [0u32; record::WIDTH];
-    reading::number_line(s, from, b"K", heading::MOST_DIGITS, record::WIDTH, &mut numbers, 0)
+    reading::number_line(
+        s,
+        from,
+        b"K",
+        heading::MOST_DIGITS,
+        record::WIDTH,
+        &mut numbers,
+        0,
+    )
 }
 
 // Passes over lines of records to the end.

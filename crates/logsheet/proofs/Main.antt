@@ -22,7 +22,7 @@ use Rattle.logform.specs.LogSheet.{LOG, most-log-bytes, log-text, LogSheetOf}
 use Rattle.logform.proofs.Forming.{one-log}
 use Rattle.tell.specs.declared.Answer.{Answer}
 use Rattle.tell.specs.declared.Answer.the-variants as written
-use Rattle.tell.proofs.Telling.{line-length, plain-length}
+use Rattle.lines.proofs.Lengths.{line-length, plain-length}
 use Rattle.logsheet.specs.declared.LogSheet.{LogSheet}
 use Rattle.logsheet.specs.declared.LogSheet.the-variants.{Read, Refused}
 use Rattle.logsheet.specs.Answer.{told}

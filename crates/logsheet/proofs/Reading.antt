@@ -20,11 +20,11 @@ use Rattle.lines.proofs.Plain.{pos-same}
 use Rattle.lines.proofs.Turns.{in-front}
 use Rattle.reading.specs.Inner.{LinesOf}
 use Rattle.heading.specs.Heading.{most-digits}
-use Rattle.logform.specs.LogSheet.{most-log-bytes, NoLogSheet}
+use Rattle.logform.specs.LogSheet.{most-log-bytes, NoLogSheet, CountsIn}
 use Rattle.logform.specs.Inner.{LogFormRead, BadLogForm, too-long, no-sheet}
 use Rattle.logform.proofs.Forming.{one-log}
 use Rattle.logsheet.specs.declared.LogSheet.the-variants as sheet
-use Rattle.logsheet.specs.Outcome.{CountsIn, CountsOut, NoRoom, read-refusals, ReadLogSheet, read}
+use Rattle.logsheet.specs.Outcome.{CountsOut, NoRoom, read-refusals, ReadLogSheet, read}
 
 pub bad-form : {b : List ℕ} (room : ℕ) → BadLogForm b → First (read-refusals b room) (Refused SheetForm)
 unfolding read-refusals

@@ -19,7 +19,7 @@ use Rattle.lines.proofs.Turns.{in-front}
 use Rattle.writing.proofs.Writing.{Onward, onward-start, onward, onward-end, onward-fits, onward-front}
 use Rattle.logform.specs.LogSheet.{LOG, log-text}
 use Rattle.tell.specs.declared.Answer.the-variants as written
-use Rattle.tell.proofs.Telling.{line-length, plain-length}
+use Rattle.lines.proofs.Lengths.{line-length, plain-length}
 use Rattle.logsheet.specs.Outcome.{Writable, write-refusals, WroteLogSheet, unwritten, wrote}
 
 pub not-writable : {n m : ℕ} {log text : List ℕ} → (¬ Writable n m log) → WroteLogSheet n m log text text (written.Refused CountsOutside)

@@ -2,10 +2,9 @@
 -- "Bad form is 12; counts outside limits, a log of more than corners - 4 records, or a number over six digits to be written is 2; short room is 3; tested in that order."
 use mathlib.Core.Path.{_≡_}
 use mathlib.Core.List.{List, [], _∷_, _++_, map}
-use Prim.Native.Nat.{ℕ, _-_, _≤_, _<_}
+use Prim.Native.Nat.{ℕ, _<_}
 use lib.IntN.{pos}
 use lib.ListN.{length, drop}
-use Rattle.surface.specs.Limits.{least-rows, most-rows, least-corners, most-corners}
 use Rattle.refusal.specs.First.{Refusals, _when_, First}
 use Rattle.refusal.specs.declared.Refusal.{Refusal}
 use Rattle.refusal.specs.declared.Refusal.the-variants.{CountsOutside, RoomShort, SheetForm}
@@ -13,19 +12,11 @@ use Rattle.refusal.specs.declared.Verdict.the-variants as verdict
 use Rattle.record.specs.Layout.{count, WholeRecords}
 use Rattle.lines.specs.Lines.{FewDigits}
 use Rattle.heading.specs.Heading.{most-digits}
-use Rattle.logform.specs.LogSheet.{most-log-bytes, log-text, LogSheetOf, NoLogSheet}
+use Rattle.logform.specs.LogSheet.{most-log-bytes, log-text, LogSheetOf, NoLogSheet, CountsIn}
 use Rattle.tell.specs.declared.Answer.{Answer}
 use Rattle.tell.specs.declared.Answer.the-variants as written
 use Rattle.logsheet.specs.declared.LogSheet.{LogSheet}
 use Rattle.logsheet.specs.declared.LogSheet.the-variants.{Read, Refused}
-
--- counts inside the limits, and no more than corners - 4 records
-pub record CountsIn (n m records : ℕ) : Type 0 where
-  pub few : least-corners ≤ n
-  pub many : n ≤ most-corners
-  pub least : least-rows ≤ m
-  pub most : m ≤ most-rows
-  pub fewer : records ≤ n - least-corners
 
 -- ---- reading
 

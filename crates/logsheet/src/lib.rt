@@ -1,7 +1,6 @@
 // The log sheet: a log as text, written and read whole or refused.
-ghost use lib.ListN.{length};
 ghost use Rattle.refusal.specs.InnerTells.{Tells};
-ghost use Rattle.logsheet.specs.Outcome.{CountsIn, ReadLogSheet, Writable, WroteLogSheet};
+ghost use Rattle.logsheet.specs.Outcome.{ReadLogSheet, Writable, WroteLogSheet};
 ghost use Rattle.logsheet.specs.Inner.{Short};
 use logform::LogForm;
 use refusal::Refusal;
@@ -16,28 +15,6 @@ pub enum LogSheet {
     Refused(Refusal),
 }
 
-// Whether the counts are inside their limits, and the records no more than the corners allow.
-fn counts_in(n: usize, m: usize, records: usize) -> bool
-    ensures { λ r. ⌜ Tells r (CountsIn n m records) (¬ CountsIn n m records) ⌝ }
-{
-    if n < surface::LEAST_CORNERS {
-        return false;
-    }
-    if surface::MOST_CORNERS < n {
-        return false;
-    }
-    if m < surface::LEAST_ROWS {
-        return false;
-    }
-    if surface::MOST_ROWS < m {
-        return false;
-    }
-    if n - surface::LEAST_CORNERS < records {
-        return false;
-    }
-    true
-}
-
 // Reads a log sheet: its numbers go in front of the lent room, and the rest of it stays. The lines are passed over first, so that nothing is
 // written where it is refused.
 pub fn read_log_sheet(bytes: &[u8], log: &mut [u32]) -> LogSheet
@@ -47,13 +24,21 @@ pub fn read_log_sheet(bytes: &[u8], log: &mut [u32]) -> LogSheet
     let LogForm::Read(n, m, k, after) = form else {
         return LogSheet::Refused(Refusal::SheetForm);
     };
-    if !counts_in(n, m, k) {
+    if !logform::counts_in(n, m, k) {
         return LogSheet::Refused(Refusal::CountsOutside);
     }
     if log.len() < k * record::WIDTH {
         return LogSheet::Refused(Refusal::RoomShort);
     }
-    reading::number_lines(bytes, after, b"K", heading::MOST_DIGITS, record::WIDTH, k, log);
+    reading::number_lines(
+        bytes,
+        after,
+        b"K",
+        heading::MOST_DIGITS,
+        record::WIDTH,
+        k,
+        log,
+    );
     LogSheet::Read(n, m, k)
 }
 
@@ -78,7 +63,7 @@ fn writable(n: usize, m: usize, log: &[u32]) -> bool
     if log.len() % record::WIDTH != 0 {
         return false;
     }
-    if !counts_in(n, m, log.len() / record::WIDTH) {
+    if !logform::counts_in(n, m, log.len() / record::WIDTH) {
         return false;
     }
     short(log)

@@ -94,12 +94,12 @@ module _ {A : Type 0} {f : A → ℤ} {most : ℕ} {w : List ℕ} {width i : ℕ
       let first : map f (take width us) ≡ take width (v .ts) = map-take f width us ∙ ap (take width) (sym is) in
       let all = length-drop (i * width) ys in
       none (take width us) (lines w width j (drop width (v .ts)) ++ q) (length-take-le width us (omega arith)) (
-        rw first (
-          record {
-            bytes = v .after ∙ append-assoc (line w (take width (v .ts))) (lines w width j (drop width (v .ts))) q;
-            short = short-left most (take width (v .ts)) (drop width (v .ts)) (subst (FewDigits most) (sym (take-append-drop width (v .ts))) short);
-          }
-        )
+      rw first (
+      record {
+        bytes = v .after ∙ append-assoc (line w (take width (v .ts))) (lines w width j (drop width (v .ts))) q;
+        short = short-left most (take width (v .ts)) (drop width (v .ts)) (subst (FewDigits most) (sym (take-append-drop width (v .ts))) short);
+      }
+      )
       )
 
 module _ {A : Type 0} (f : A → ℤ) (most width count : ℕ) (s : List ℕ) (at : ℕ) (w : List ℕ) (room : List A) where

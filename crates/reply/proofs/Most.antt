@@ -35,7 +35,7 @@ use Rattle.heading.proofs.Sizes.{signed-size, fields-size}
 use Rattle.lines.specs.Kinds.{R, K, row-lines, record-lines}
 use Rattle.tell.specs.Text.{OK, NO, most-text, no-text, ok-text}
 use Rattle.reply.specs.Outcome.{TellsRun, SkinOf, Answers, no, ok}
-use Rattle.tell.proofs.Telling.{line-length, lines-length}
+use Rattle.lines.proofs.Lengths.{line-length, lines-length}
 use Rattle.form.proofs.Counted.{counts-within}
 
 -- ---- numbers of at most six digits

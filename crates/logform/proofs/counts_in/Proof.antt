@@ -1,8 +1,8 @@
 -- `counts_in` meets its contract.
 use Rattle.refusal.proofs.Tells.{tells-true, tells-false}
 use native.Mathlib.Omega.{arith}
-use Rattle.logsheet.proofs.counts_in.Statement.{statement}
-use Rattle.logsheet.proofs.counts_in.Tie as tie
+use Rattle.logform.proofs.counts_in.Statement.{statement}
+use Rattle.logform.proofs.counts_in.Tie as tie
 
 returns : tie.Need-returns
 returns c = tells-false (λ k. let a = k .few in let b = c .if1 .taken in omega arith)
