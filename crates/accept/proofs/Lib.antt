@@ -1,2 +1,2 @@
-pub mod Notes
+pub mod Holding
 pub mod Rule

@@ -16,12 +16,12 @@ use Rattle.growth.specs.InnerLocal.{Local}
 use Rattle.growth.proofs.Accepting.{ends-one}
 use Rattle.record.specs.declared.Corner.{Corner}
 use Rattle.ends.specs.declared.Ends.the-variants.{At, Nothing}
-use Rattle.accept.specs.Noted.{Round, IsNoted, BothNoted}
+use Rattle.noted.specs.Noted.{Round, IsNoted, BothNoted}
 use Rattle.ends.specs.Rows.{EndsAre}
 use Rattle.accept.specs.Test.{InBounds, Answered}
 use Rattle.slots.proofs.Slots.{under-more}
 use Rattle.slots.proofs.Staged.{table-whole, table-under}
-use Rattle.accept.proofs.Notes.{near-edge, edge-near}
+use Rattle.noted.proofs.Notes.{near-edge, edge-near}
 
 module _ (n : ℕ) (T : List Row) (k : Record) (s : Stage n T) where
   pub local-bounds : Local n T k → InBounds n (length T) k

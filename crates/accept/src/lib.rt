@@ -2,17 +2,17 @@
 use ends::Ends;
 use record::Corner;
 use record::Record;
-ghost use Prim.Native.Nat.{_+_, _≤_, _<_};
+ghost use Prim.Native.Nat.{_≤_};
 ghost use lib.ListN.{length};
 ghost use Rattle.surface.specs.Limits.{most-rows};
 ghost use Rattle.surface.specs.Rows.{rows};
 ghost use Rattle.surface.specs.Table.{Used};
 ghost use Rattle.surface.specs.InnerStageTable.{StageTable};
 ghost use Rattle.record.specs.Inner.{meant};
-ghost use Rattle.slots.specs.Slot.{Whole, Under};
+ghost use Rattle.slots.specs.Slot.{Whole};
 ghost use Rattle.slots.specs.Marks.{Blank};
 ghost use Rattle.refusal.specs.InnerTells.{Tells};
-ghost use Rattle.accept.specs.Noted.{NotedTo, Round, IsNoted, BothNoted};
+ghost use Rattle.noted.specs.Noted.{Round};
 ghost use Rattle.accept.specs.Test.{InBounds, Answered};
 
 // Whether a record's numbers and places can be those of a step to so many rows.
@@ -54,65 +54,6 @@ fn uses(t: &[u32], v: Corner) -> bool
     found
 }
 
-// Notes a slot by the corner next in its row, if it holds the kept one.
-fn note(t: &[u32], e: usize, kept: Corner, at: &mut [usize])
-    requires { ⌜ Whole (now t) ⌝ }
-    requires { ⌜ Under (now t) (length (now at)) ⌝ }
-    requires { ⌜ e < length (now t) ⌝ }
-    requires { ⌜ NotedTo (now t) (kept .0) e (now at) ⌝ }
-    ensures { λ _. ⌜ NotedTo (now (t .entry)) (kept .0) (e + 1) (now (at .exit)) ⌝ }
-{
-    if t[e] != kept.0 {
-        return;
-    }
-    let p = t[slots::next(e)] as usize;
-    at[p] = e + 1;
-}
-
-// Notes the rows round the kept corner.
-fn note_round(t: &[u32], kept: Corner, at: &mut [usize])
-    requires { ⌜ Whole (now t) ⌝ }
-    requires { ⌜ Under (now t) (length (now at)) ⌝ }
-    requires { ⌜ Blank (now at) ⌝ }
-    ensures { λ _. ⌜ Round (now (t .entry)) (kept .0) (now (at .exit)) ⌝ }
-{
-    let mut e: usize = 0;
-    while e < t.len() {
-        note(t, e, kept, at);
-        e += 1;
-    }
-}
-
-// Whether a corner is noted.
-fn near(at: &[usize], p: Corner) -> bool
-    ensures { λ r. ⌜ Tells r (IsNoted (now (at .entry)) (p .0)) (¬ IsNoted (now (at .entry)) (p .0)) ⌝ }
-{
-    let i = p.0 as usize;
-    if at.len() <= i {
-        return false;
-    }
-    if at[i] == 0 {
-        return false;
-    }
-    true
-}
-
-// Whether x and y are two corners, both noted.
-fn two_near(at: &[usize], x: Corner, y: Corner) -> bool
-    ensures { λ r. ⌜ Tells r (BothNoted (now (at .entry)) (x .0) (y .0)) (¬ BothNoted (now (at .entry)) (x .0) (y .0)) ⌝ }
-{
-    if x.0 == y.0 {
-        return false;
-    }
-    if !near(at, x) {
-        return false;
-    }
-    if !near(at, y) {
-        return false;
-    }
-    true
-}
-
 // Inner: x and y of a record that is accepted at a stage; at has the rows round its kept corner.
 pub fn accepts(t: &[u32], corners: usize, r: Record, at: &mut [usize]) -> Ends
     requires { ⌜ StageTable corners (now t) ⌝ }
@@ -123,7 +64,7 @@ pub fn accepts(t: &[u32], corners: usize, r: Record, at: &mut [usize]) -> Ends
 {
     let kept = r.kept;
     let removed = r.removed;
-    note_round(t, kept, at);
+    noted::note_round(t, kept, at);
     if !in_bounds(r, t.len() / 3, corners) {
         return Ends::Nothing;
     }
@@ -134,7 +75,7 @@ pub fn accepts(t: &[u32], corners: usize, r: Record, at: &mut [usize]) -> Ends
     match e {
         Ends::Nothing => e,
         Ends::At(x, y) => {
-            if two_near(at, x, y) {
+            if noted::two_near(at, x, y) {
                 return e;
             }
             Ends::Nothing

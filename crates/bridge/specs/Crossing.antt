@@ -42,9 +42,8 @@ use Rattle.across.specs.declared.Stored.{Stored}
 use Rattle.bridge.specs.declared.Part.{Part}
 use Rattle.across.specs.Units.{length-of, order-of}
 use Rattle.across.specs.Says.{Says}
-use Rattle.across.specs.Fields.{of-counted, of-measure, of-stand-in, of-centimetres, of-counts, of-written}
+use Rattle.across.specs.Fields.{of-counted, of-measure, of-stand-in, of-centimetres, of-counts, of-written, Stores}
 use Rattle.bridge.specs.Calls.{ThinShown, GrowShown, ReplayShown, VolumeShown, ChangeShown, ShiftShown, LimitShown, SheetShown, ReplyShown}
-use Rattle.across.specs.Fields.{Stores}
 use Rattle.bridge.specs.Lent.{TrialShown, Which, RingShown, Places, PartShown}
 
 -- the calls in the order of their numbers over a pipe, 1 to 12

@@ -159,7 +159,7 @@ fn call_volume() -> bool {
         return false;
     }
     let a = bridge::flaxglimmer_volume(&table[..t], &corners[..c]);
-    answer_two(a.status, words::word_of(a.figure))
+    answer_two(a.status, word::word_of(a.figure))
 }
 
 // A change: earlier table; later table; corners.
@@ -175,7 +175,7 @@ fn call_change() -> bool {
         return false;
     }
     let a = bridge::flaxglimmer_change(&earlier[..e], &later[..l], &corners[..c]);
-    answer_two(a.status, words::word_of(a.figure))
+    answer_two(a.status, word::word_of(a.figure))
 }
 
 // A shift: corner; corners; log.

@@ -20,7 +20,8 @@ use Rattle.refusal.specs.Told.{Told}
 use Rattle.regrow.specs.declared.Regrown.{Regrown}
 use Rattle.regrow.specs.declared.Regrown.the-variants.{Done, Stopped}
 use Rattle.regrow.specs.Answer.{told}
-use Rattle.regrow.specs.Outcome.{GrowFits, GrownAs}
+use Rattle.growable.specs.Refusals.{GrowFits}
+use Rattle.regrow.specs.Outcome.{GrownAs}
 use Rattle.regrow.proofs.Main.{grow-passes, grown-one}
 use Rattle.replay.specs.Outcome.{ReplayedAs}
 use Rattle.promises.proofs.Back.{restored, replayed}

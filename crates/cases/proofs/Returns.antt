@@ -13,7 +13,7 @@ use Rattle.surface.specs.Table.{edges}
 use Rattle.surface.specs.Contract.{contract, renumber, replace, stays?, holds?}
 use Rattle.surface.specs.Record.{later, leaving, Record}
 use Rattle.corners.specs.Skin.{Skin}
-use Rattle.figure.specs.Corners.{squared-distance}
+use Rattle.distance.specs.Corners.{squared-distance}
 use Rattle.length.specs.declared.Order.{Order}
 use Rattle.length.specs.declared.Order.the-variants.{Limit}
 use Rattle.length.specs.declared.Length.the-variants.{Centimetres}

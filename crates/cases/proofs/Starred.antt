@@ -24,7 +24,7 @@ use Rattle.faults.specs.Words.{Twice, again, later as after}
 use Rattle.faults.specs.Order.{refusals-after-counts, row-refusals}
 use Rattle.faults.proofs.Opposites.{in-or-out, below-or-not, twice-or-apart}
 use Rattle.run.specs.Run.{Run}
-use Rattle.figure.specs.Corners.{squared-distance}
+use Rattle.distance.specs.Corners.{squared-distance}
 use Rattle.figure.specs.Sum.{minor, determinant, sixfold}
 use Rattle.figure.specs.Rounding.{figure, change}
 use Rattle.volume.specs.declared.Measured.{Measured}

@@ -6,7 +6,7 @@ ghost use lib.ListN.{length};
 ghost use Rattle.surface.specs.Limits.{most-corners};
 ghost use Rattle.surface.specs.Rows.{rows};
 ghost use Rattle.surface.specs.InnerStageTable.{StageTable};
-ghost use Rattle.link.specs.InnerAround.{Unmarked};
+ghost use Rattle.neighbours.specs.Around.{Unmarked};
 ghost use Rattle.least.specs.Limited.{Allowed};
 ghost use Rattle.least.specs.Inner.{Measurable};
 ghost use Rattle.least.specs.InnerSearch.{FoundLeast};

@@ -2,5 +2,4 @@ pub mod Rounded
 pub mod Division
 pub mod Sizes
 pub mod Turn
-pub mod Shift
 pub mod Examples

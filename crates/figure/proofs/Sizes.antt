@@ -1,11 +1,11 @@
--- How large a sum, a change and a squared distance can be, by the names of the limits: all fit a machine number.
-use mathlib.Core.Path.{_≡_, refl}
-use mathlib.Core.List.{List, [], _∷_, List·Memᴰ·head, List·Memᴰ·tail}
-use Prim.Native.Nat.{ℕ, zero, suc, _+_, _*_, _^_, _≤_, _<_}
+-- How large a sum and a change can be, by the names of the limits: all fit a machine number.
+use mathlib.Core.Path.{_≡_}
+use mathlib.Core.List.{List, [], _∷_}
+use Prim.Native.Nat.{ℕ, _+_, _*_, _^_, _≤_, _<_}
 use native.Mathlib.Omega.{arith}
-use lib.IntN.{ℤ, pos, _-ℤ_, natAbs}
-use lib.ListN.{length, getD}
-use mir.Syntax.{w32, w64}
+use lib.IntN.{ℤ, _-ℤ_, natAbs}
+use lib.ListN.{length}
+use mir.Syntax.{w64}
 use mir.Val.{SFits, toZ, ofZ}
 use Rattle.surface.specs.Rows.{Row, row}
 use Rattle.surface.specs.Stage.{Stage}
@@ -13,7 +13,8 @@ use Rattle.corners.specs.Limits.{most-coordinate}
 use Rattle.corners.specs.Skin.{InRange}
 use Rattle.ints.proofs.Ints.{abs-add, abs-minus}
 use Rattle.ints.proofs.Machine.{Is, var, fits, kept, times, plus, less, sfits-abs}
-use Rattle.figure.specs.Corners.{coordinate}
+use Rattle.distance.specs.Corners.{coordinate}
+use Rattle.distance.proofs.Ranges.{in-range-coordinate}
 use Rattle.figure.specs.Sum.{minor, determinant, sixfold}
 use Rattle.figure.specs.Inner.{WithCoordinates, minor-bound, row-bound, sum-bound}
 
@@ -21,25 +22,9 @@ use Rattle.figure.specs.Inner.{WithCoordinates, minor-bound, row-bound, 
 pub stage-coordinates : {n : ℕ} {T : List Row} {xs : List ℤ} → Stage n T → length xs ≡ 3 * n → InRange xs → WithCoordinates T xs
 stage-coordinates s e r = record { most = s .most; corners = λ f. omega (arith, s .below f, e); in-range = r }
 
--- ---- coordinates
-
-rest-in-range : {z : ℤ} {xs : List ℤ} → InRange (z ∷ xs) → InRange xs
-rest-in-range r = record { range = λ m. r .range (List·Memᴰ·tail m) }
-
-pub in-range-at : (xs : List ℤ) (k : ℕ) → InRange xs → natAbs (getD xs k (pos 0)) ≤ most-coordinate
-in-range-at [] k r = omega arith
-in-range-at (z ∷ xs) zero r = r .range (List·Memᴰ·head refl)
-in-range-at (z ∷ xs) (suc k) r = in-range-at xs k (rest-in-range r)
-
 module _ (xs : List ℤ) (r : InRange xs) where
   at : (v j : ℕ) → Is most-coordinate (coordinate xs v j) (coordinate xs v j)
-  at v j = record { same = refl; size = in-range-at xs (3 * v + j) r }
-
-  -- as it stands in the table, an i32
-  pub element : (v j : ℕ) → Is most-coordinate (coordinate xs v j) (toZ w32 (ofZ w32 (coordinate xs v j)))
-  element v j = kept w32 (at v j) (omega arith)
-
-  -- ---- sums
+  at v j = in-range-coordinate xs r v j
 
   of-two : (b c j k : ℕ) → Is minor-bound (minor xs b c j k) (minor xs b c j k)
   unfolding minor
@@ -53,7 +38,6 @@ module _ (xs : List ℤ) (r : InRange xs) where
   unfolding sixfold
   sixfold-size [] = omega arith
   sixfold-size (row a b c ∷ T) = omega (arith, abs-add (determinant xs a b c) (sixfold xs T), determinant-size a b c, sixfold-size T)
-  -- ---- squared distances
 
 -- ---- what fits an i64: these two fail first where the limits grow
 

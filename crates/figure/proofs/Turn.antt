@@ -8,7 +8,8 @@ use lib.ListN.{length, drop, getD}
 use Rattle.surface.specs.Rows.{Row, row, rows, Turned, turn-0, turn-1, turn-2}
 use Rattle.surface.proofs.Flat.{one-row, no-row}
 use Rattle.ints.proofs.Ints.{abs-add}
-use Rattle.figure.specs.Inner.{Has, WithCoordinates, row-bound, sum-bound}
+use Rattle.distance.specs.Inner.{Has}
+use Rattle.figure.specs.Inner.{WithCoordinates, row-bound, sum-bound}
 use Rattle.figure.specs.Sum.{determinant, sixfold}
 use Rattle.figure.proofs.Sizes.{determinant-size}
 

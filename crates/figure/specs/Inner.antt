@@ -1,6 +1,6 @@
 -- What inner functions are asked on and give: no public contract names it.
 use mathlib.Core.List.{List}
-use Prim.Native.Nat.{ℕ, _+_, _*_, _≤_}
+use Prim.Native.Nat.{ℕ, _*_, _≤_}
 use lib.IntN.{ℤ}
 use lib.ListN.{length}
 use Rattle.surface.specs.Limits.{most-rows}
@@ -8,14 +8,7 @@ use Rattle.surface.specs.Rows.{Row}
 use Rattle.surface.specs.Table.{Follows}
 use Rattle.corners.specs.Limits.{most-coordinate}
 use Rattle.corners.specs.Skin.{InRange}
-
--- the table has the corner v
-abbrev pub Has : List ℤ → ℕ → Type 0
-Has xs v = 3 * v + 3 ≤ length xs
-
--- at most twice the largest coordinate
-abbrev pub gap-bound : ℕ
-gap-bound = 2 * most-coordinate
+use Rattle.distance.specs.Inner.{Has}
 
 -- what a checked stage with its coordinates gives: no more rows than a table may have, each corner of a row in the table (rows turn, so this speaks of all
 -- three), coordinates in range

@@ -3,7 +3,7 @@ use mathlib.Core.List.{List, [], _∷_}
 use Prim.Native.Nat.{ℕ}
 use lib.IntN.{ℤ, pos, _+ℤ_, _-ℤ_, _*ℤ_}
 use Rattle.surface.specs.Rows.{Row, row}
-use Rattle.figure.specs.Corners.{coordinate}
+use Rattle.distance.specs.Corners.{coordinate}
 
 -- b and c in the coordinates j and k: their determinant of two by two
 unfoldable pub minor : List ℤ → ℕ → ℕ → ℕ → ℕ → ℤ

@@ -1,13 +1,12 @@
-// The figures: the volume of a stage and the change between two, each an exact sum rounded once, and the squared distance of two corners.
+// The figures: the volume of a stage and the change between two, each an exact sum rounded once.
 // All here is inner: the calls that report figures check the stages and their coordinates first. No sum leaves this crate.
 ghost use mathlib.Core.Path.{_≡_};
-ghost use Prim.Native.Nat.{_*_, _<_, _≤_};
+ghost use Prim.Native.Nat.{_<_, _≤_};
 ghost use lib.IntN.{natAbs};
 ghost use Rattle.surface.specs.Rows.{rows};
-ghost use Rattle.corners.specs.Limits.{most-coordinate};
 ghost use Rattle.corners.specs.Skin.{InRange};
-ghost use Rattle.figure.specs.Corners.{coordinate, gap, squared-distance};
-ghost use Rattle.figure.specs.Inner.{Has, gap-bound, WithCoordinates, minor-bound, row-bound, sum-bound};
+ghost use Rattle.distance.specs.Inner.{Has};
+ghost use Rattle.figure.specs.Inner.{WithCoordinates, minor-bound, row-bound, sum-bound};
 ghost use Rattle.figure.specs.Sum.{minor, determinant, sixfold};
 ghost use Rattle.figure.specs.Rounding.{figure, change};
 
@@ -39,22 +38,13 @@ fn change_of(earlier: i64, later: i64) -> i64
     cubic_metres(later - earlier)
 }
 
-// Coordinate j of the corner v.
-fn coordinate_of(xs: &[i32], v: u32, j: usize) -> i64
-    requires { ⌜ Has (now xs) v × (j < 3) × InRange (now xs) ⌝ }
-    ensures { λ r. ⌜ (r ≡ coordinate (now (xs .entry)) v j) × (natAbs r ≤ most-coordinate) ⌝ }
-{
-    let i = 3 * (v as usize) + j;
-    xs[i] as i64
-}
-
 // The determinant of two by two of the corners b and c in the coordinates j and k.
 fn minor_of(xs: &[i32], b: u32, c: u32, j: usize, k: usize) -> i64
     requires { ⌜ Has (now xs) b × Has (now xs) c × (j < 3) × (k < 3) × InRange (now xs) ⌝ }
     ensures { λ r. ⌜ (r ≡ minor (now (xs .entry)) b c j k) × (natAbs r ≤ minor-bound) ⌝ }
 {
-    coordinate_of(xs, b, j) * coordinate_of(xs, c, k)
-        - coordinate_of(xs, b, k) * coordinate_of(xs, c, j)
+    distance::coordinate_of(xs, b, j) * distance::coordinate_of(xs, c, k)
+        - distance::coordinate_of(xs, b, k) * distance::coordinate_of(xs, c, j)
 }
 
 // The determinant of three corners.
@@ -62,9 +52,9 @@ fn determinant_of(xs: &[i32], a: u32, b: u32, c: u32) -> i64
     requires { ⌜ Has (now xs) a × Has (now xs) b × Has (now xs) c × InRange (now xs) ⌝ }
     ensures { λ r. ⌜ (r ≡ determinant (now (xs .entry)) a b c) × (natAbs r ≤ row-bound) ⌝ }
 {
-    coordinate_of(xs, a, 0) * minor_of(xs, b, c, 1, 2)
-        + coordinate_of(xs, a, 1) * minor_of(xs, b, c, 2, 0)
-        + coordinate_of(xs, a, 2) * minor_of(xs, b, c, 0, 1)
+    distance::coordinate_of(xs, a, 0) * minor_of(xs, b, c, 1, 2)
+        + distance::coordinate_of(xs, a, 1) * minor_of(xs, b, c, 2, 0)
+        + distance::coordinate_of(xs, a, 2) * minor_of(xs, b, c, 0, 1)
 }
 
 // The exact sixfold volume. Only whole rows count.
@@ -95,21 +85,4 @@ pub fn change_between(earlier: &[u32], later: &[u32], xs: &[i32]) -> i64
     ensures { λ r. ⌜ r ≡ change (sixfold (now (xs .entry)) (rows (now (earlier .entry)))) (sixfold (now (xs .entry)) (rows (now (later .entry)))) ⌝ }
 {
     change_of(sixfold_sum(earlier, xs), sixfold_sum(later, xs))
-}
-
-// The square of how far a and b lie apart in coordinate j.
-fn squared_gap(xs: &[i32], a: u32, b: u32, j: usize) -> u64
-    requires { ⌜ Has (now xs) a × Has (now xs) b × (j < 3) × InRange (now xs) ⌝ }
-    ensures { λ r. ⌜ (r ≡ gap (now (xs .entry)) a b j * gap (now (xs .entry)) a b j) × (r ≤ gap-bound * gap-bound) ⌝ }
-{
-    let d = coordinate_of(xs, a, j) - coordinate_of(xs, b, j);
-    (d * d) as u64
-}
-
-// Inner: the squared distance of two corners.
-pub fn squared_distance(xs: &[i32], a: u32, b: u32) -> u64
-    requires { ⌜ Has (now xs) a × Has (now xs) b × InRange (now xs) ⌝ }
-    ensures { λ r. ⌜ r ≡ squared-distance (now (xs .entry)) a b ⌝ }
-{
-    squared_gap(xs, a, b, 0) + squared_gap(xs, a, b, 1) + squared_gap(xs, a, b, 2)
 }

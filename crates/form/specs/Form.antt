@@ -45,7 +45,7 @@ pub record CountsOut (b : List ℕ) : Type 0 where
   pub begins : Begins SKIN b n m
   pub out : ¬ CountsIn n m
 
--- the other lines are not in their form, or something follows the last row
+-- no sheet has this text. Where the first line is in its form and its counts are in, the other lines are not in theirs, or something follows the last row
 abbrev pub NoSheet : List ℕ → Type 0
 NoSheet b = (n m : ℕ) (xs : List ℤ) (t : List ℕ) → ¬ SheetOf b n m xs t
 

@@ -1,4 +1,5 @@
--- The limits of a sheet, each by one name, apart from the library's. The consts of src/lib.rt are the same numbers.
+-- The most that a sheet may have, each by one name, apart from the library's limits; the least of rows and corners is the library's. The consts of
+-- src/lib.rt are the same numbers.
 use Prim.Native.Nat.{ℕ, _*_}
 
 -- over 65,536 bytes is 12

@@ -18,24 +18,12 @@ use Rattle.growth.proofs.Accepting.{local-accepts}
 use Rattle.growth.proofs.Main.{accepted-local}
 use Rattle.record.specs.declared.Corner.{Corner}
 use Rattle.ends.specs.declared.Ends.the-variants.{At, Nothing}
-use Rattle.accept.specs.Noted.{Round}
+use Rattle.noted.specs.Noted.{Round}
 use Rattle.accept.specs.Test.{Answered}
 use Rattle.grow.specs.Walk.{Walkable, Renamed}
 use Rattle.record.specs.Front.{standing, filled, front-rows}
 use Rattle.grow.specs.Room.{GrewBack}
 use Rattle.record.proofs.Front.{standing-length, standing-filled, filled-again}
-
--- the earlier row put in, then the later
-pub both-put : (m : ℕ) (k : Record) (room room₁ room₂ : List ℕ) → 3 * m ≤ length room →
-    room₁ ≡ filled (put (k .place-1) (k .row-1) (standing m room)) room → room₂ ≡ filled (put (k .place-2) (k .row-2) (standing (m + 1) room₁)) room₁ →
-    room₂ ≡ filled (put-back (placed k) (standing m room)) room
-unfolding put-back
-both-put m k room room₁ room₂ h e f =
-    let T = put (k .place-1) (k .row-1) (standing m room) in
-    let l : length T ≡ m + 1 = let p = put-length (k .place-1) (k .row-1) (standing m room) in let q = standing-length m room h in omega arith in
-    let g : standing (m + 1) room₁ ≡ T = ap (standing (m + 1)) e ∙ standing-filled (m + 1) T room l in
-    let n = put-length (k .place-2) (k .row-2) T in
-    f ∙ (λ i. filled (put (k .place-2) (k .row-2) (g i)) (e i)) ∙ filled-again T (put (k .place-2) (k .row-2) T) room (omega arith)
 
 module _ (n m : ℕ) (k : Record) (room : List ℕ) (w : StageTable n (front-rows m room)) (fits : 3 * (m + 2) ≤ length room) where
   many : length (standing m room) ≡ m

@@ -1,4 +1,2 @@
 pub mod Walking
-pub mod Moving
-pub mod Filling
 pub mod Growing

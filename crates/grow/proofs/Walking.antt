@@ -21,9 +21,9 @@ use Rattle.growth.specs.Grow.{Between, RowRegrown, renamed, left-be, Each, each
 use Rattle.growth.proofs.Walked.{fan, fan-step}
 use Rattle.slots.specs.Slot.{next-slot}
 use Rattle.slots.proofs.Slots.{next-0, next-1, next-2, next-inside, at-follows, one-slot, under-more}
-use Rattle.accept.specs.Noted.{Noted, IsNoted}
+use Rattle.noted.specs.Noted.{Noted, IsNoted}
 use Rattle.slots.proofs.Staged.{table-whole, table-under}
-use Rattle.accept.proofs.Notes.{edge-near}
+use Rattle.noted.proofs.Notes.{edge-near}
 use Rattle.grow.specs.Walk.{Walkable, Renamed}
 
 -- what has become of a number c of a row, with next after it: changed, if it is a and next is among P

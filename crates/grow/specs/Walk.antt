@@ -6,7 +6,7 @@ use Rattle.surface.specs.Rows.{rows}
 use Rattle.surface.specs.Table.{Edge}
 use Rattle.surface.specs.InnerStageTable.{StageTable}
 use Rattle.growth.specs.Grow.{RowRegrown, Each}
-use Rattle.accept.specs.Noted.{Round}
+use Rattle.noted.specs.Noted.{Round}
 
 -- t is a stage, at has its rows round a, and x and y are neighbours of a
 pub record Walkable (t at : List ℕ) (a x y : ℕ) : Type 0 where

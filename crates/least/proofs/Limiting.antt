@@ -1,16 +1,14 @@
 -- The limit, by its two cases.
 use mathlib.Core.Path.{_≡_}
+use mathlib.Core.Bool.{Bool}
 use mathlib.Core.List.{List}
-use Prim.Native.Nat.{ℕ, _*_, _≤_, _<_}
-use native.Mathlib.Nat.{mul-le-mul}
+use Prim.Native.Nat.{ℕ, _≤_, _<_}
 use native.Mathlib.Omega.{arith}
-use borrow.Author.Tests.{leb-true, leb-false}
-use lib.Dec.{leb}
 use lib.IntN.{ℤ}
 use Rattle.corners.specs.Skin.{InRange}
 use Rattle.length.specs.Limit.{most-limit}
-use Rattle.figure.specs.Corners.{squared-distance}
-use Rattle.figure.specs.Inner.{Has}
+use Rattle.distance.specs.Corners.{Short}
+use Rattle.distance.specs.Inner.{Has}
 use Rattle.refusal.specs.InnerTells.{Tells}
 use Rattle.least.specs.declared.Bound.{Bound}
 use Rattle.least.specs.declared.Bound.the-variants.{Free, Within}
@@ -23,16 +21,9 @@ free-allowed bound xs a b e = rw e tt
 pub within-at : (bound : Bound) (xs : List ℤ) (v : ℕ) {l : ℕ} → bound ≡ Within l → MeasurableAt bound xs v → (l ≤ most-limit) × Has xs v × InRange xs
 within-at bound xs v e h = rw e at h
 
--- the comparison tells
-pub limit-tells : (bound : Bound) (xs : List ℤ) (a b : ℕ) {l d : ℕ} → bound ≡ Within l → d ≡ squared-distance xs a b → Tells (leb d (l * l)) (Allowed bound xs a b) (¬ Allowed bound xs a b)
-limit-tells bound xs a b {l} {d} e q = rw (e, q) (record {
-  when-true = λ h. leb-true (squared-distance xs a b) (l * l) h;
-  when-false = λ h k. let z = leb-false (squared-distance xs a b) (l * l) h in omega arith;
-})
-
--- a usable limit's square fits
-pub square-small : {l : ℕ} → l ≤ most-limit → l * l ≤ most-limit * most-limit
-square-small h = mul-le-mul h h
+-- what tells of the length tells of the limit
+pub within-tells : (bound : Bound) (xs : List ℤ) (a b : ℕ) {l : ℕ} {r : Bool} → bound ≡ Within l → Tells r (Short xs l a b) (¬ Short xs l a b) → Tells r (Allowed bound xs a b) (¬ Allowed bound xs a b)
+within-tells bound xs a b e t = rw e t
 
 -- all corners below n are measured
 pub measured-at : (bound : Bound) (n : ℕ) (xs : List ℤ) (v : ℕ) → v < n → Measurable bound n xs → MeasurableAt bound xs v

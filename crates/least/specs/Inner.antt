@@ -6,7 +6,7 @@ use lib.IntN.{ℤ}
 use lib.ListN.{length}
 use Rattle.corners.specs.Skin.{InRange}
 use Rattle.length.specs.Limit.{most-limit}
-use Rattle.figure.specs.Inner.{Has}
+use Rattle.distance.specs.Inner.{Has}
 use Rattle.least.specs.declared.Bound.{Bound}
 use Rattle.least.specs.declared.Bound.the-variants.{Free, Within}
 

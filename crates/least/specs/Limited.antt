@@ -2,7 +2,7 @@
 use mathlib.Core.List.{List}
 use Prim.Native.Nat.{ℕ}
 use lib.IntN.{ℤ}
-use Rattle.figure.specs.Corners.{Short}
+use Rattle.distance.specs.Corners.{Short}
 use Rattle.least.specs.declared.Bound.{Bound}
 use Rattle.least.specs.declared.Bound.the-variants.{Free, Within}
 

@@ -1,4 +1,4 @@
--- The lines of sheets, by their words: one definition for all that reads or writes them.
+-- The lines of sheets and of the desk's answer, by their words: one definition for all that reads or writes them.
 use mathlib.Core.List.{List, [], _∷_}
 use Prim.Native.Nat.{ℕ}
 use lib.IntN.{ℤ}

@@ -5,7 +5,6 @@ use Prim.Native.Nat.{ℕ, zero, suc, _≤_}
 use lib.IntN.{ℤ, pos, natAbs}
 use lib.ListN.{length, take, drop}
 use Rattle.text.specs.Decimal.{decimal, signed}
-use Rattle.text.specs.declared.Signed.the-variants as whole
 
 abbrev pub tab : ℕ
 tab = 9

@@ -15,7 +15,8 @@ use Rattle.surface.specs.InnerStageTable.{StageTable}
 use Rattle.surface.proofs.Main.{link-counts, counts-one}
 use Rattle.surface.specs.Link.{Meets, Common}
 use Rattle.refusal.specs.InnerTells.{Tells}
-use Rattle.link.specs.InnerAround.{Neighbours, Both}
+use Rattle.neighbours.specs.Around.{Neighbours}
+use Rattle.link.specs.InnerBoth.{Both}
 use Rattle.link.proofs.Tally.{exactly-same}
 
 module _ {n : ℕ} (t : List ℕ) (s : StageTable n t) {a b : ℕ} where

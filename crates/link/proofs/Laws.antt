@@ -7,7 +7,7 @@ use native.Mathlib.Omega.{arith}
 use denote.Ref.{RefT}
 use Rattle.surface.specs.Lists.{_∈_}
 use Rattle.link.specs.Chosen.{Chosen}
-use Rattle.link.specs.InnerAround.{Both}
+use Rattle.link.specs.InnerBoth.{Both}
 
 -- no second answer satisfies them
 pub chosen-one : {a b r s : RefT (List ℕ)} → Chosen a b r → Chosen a b s → r ≡ s

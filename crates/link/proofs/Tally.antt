@@ -3,37 +3,19 @@ use mathlib.Core.Path.{_≡_, refl, sym, _∙_}
 use mathlib.Core.Logic.{_⊎_, inl, inr}
 use mathlib.Core.List.{List, [], _∷_, _++_, List·Memᴰ·head, List·Memᴰ·not-nil, List·Memᴰ·eq-of-singleton, List·Memᴰ·append-cases, Memᴰ·append-left, Memᴰ·append-right, Memᴰ·cast}
 use Prim.Native.Nat.{ℕ, _+_, _≤_, _<_}
-use native.Mathlib.Numerals.{add-one}
 use native.Mathlib.Omega.{arith}
 use lib.ListN.{length, getD, take, length-append}
-use lib.Seq.{take-suc, take-all, getD-take, length-take-le}
+use lib.Seq.{take-all, getD-take, length-take-le}
 use Rattle.surface.specs.Lists.{_∈_, Distinct, none, more, Exactly}
 use Rattle.surface.proofs.Counted.{distinct-append}
 use Rattle.surface.proofs.Flat.{at-place, place-of, places-differ}
+use Rattle.neighbours.proofs.Firsts.{first-split, first-old, first-new}
 
 pub stands-at : (l : List ℕ) (i w : ℕ) → i < length l → getD l i 0 ≡ w → w ∈ l
 stands-at l i w h e = Memᴰ·cast (sym e) (at-place l i 0 h)
 
 pub stands-nowhere : (l : List ℕ) (w : ℕ) → ((i : ℕ) → i < length l → getD l i 0 ≡ w → ⊥) → ¬ (w ∈ l)
 stands-nowhere l w h m = let r = place-of 0 m in h (r .0) (r .1) (r .2)
-
--- the first i + 1 numbers of l are the first i and the one at i
-module _ (l : List ℕ) (i : ℕ) (h : i < length l) where
-  first-more : take (i + 1) l ≡ take i l ++ (getD l i 0 ∷ [])
-  first-more = rw add-one (take-suc l i 0 h)
-
-  pub first-split : {w : ℕ} → w ∈ take (i + 1) l → (w ∈ take i l) ⊎ (w ≡ getD l i 0)
-  first-split {w} m = go (List·Memᴰ·append-cases (take i l) (rw first-more at m))
-    where
-      go : (w ∈ take i l) ⊎ (w ∈ getD l i 0 ∷ []) → (w ∈ take i l) ⊎ (w ≡ getD l i 0)
-      go (inl k) = inl k
-      go (inr k) = inr (List·Memᴰ·eq-of-singleton k)
-
-  pub first-old : {w : ℕ} → w ∈ take i l → w ∈ take (i + 1) l
-  first-old m = rw first-more (Memᴰ·append-left (getD l i 0 ∷ []) m)
-
-  pub first-new : {w : ℕ} → w ≡ getD l i 0 → w ∈ take (i + 1) l
-  first-new e = rw first-more (Memᴰ·append-right (take i l) (List·Memᴰ·head e))
 
 -- what holds of the same things is counted alike
 pub exactly-same : {P Q : ℕ → Type 0} {k : ℕ} → ((w : ℕ) → P w → Q w) → ((w : ℕ) → Q w → P w) → Exactly P k → Exactly Q k

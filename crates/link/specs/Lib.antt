@@ -1,2 +1,2 @@
 pub mod Chosen
-pub mod InnerAround
+pub mod InnerBoth

@@ -1,4 +1,4 @@
-// The ring chooser, and the published link condition as a test: whether an edge may be contracted.
+// The ring chooser, and the published link condition as a test, at a corner whose neighbours are gathered.
 use record::Corner;
 ghost use Prim.Native.Nat.{_≤_, _<_};
 ghost use lib.ListN.{length};
@@ -8,7 +8,8 @@ ghost use Rattle.surface.specs.Rows.{rows};
 ghost use Rattle.surface.specs.Link.{Meets};
 ghost use Rattle.refusal.specs.InnerTells.{Tells};
 ghost use Rattle.link.specs.Chosen.{Chosen};
-ghost use Rattle.link.specs.InnerAround.{Charted, Gathered, CornerNumbers, Marked, Unmarked, MarkedTwice, Both, TellsEdge};
+ghost use Rattle.neighbours.specs.Around.{Charted, Marked, Unmarked};
+ghost use Rattle.link.specs.InnerBoth.{MarkedTwice, Both, TellsEdge};
 
 // The numbers of four rows: the tetrahedron.
 const FOUR_ROWS: usize = 12;
@@ -21,65 +22,6 @@ pub fn shorter_ring<'a>(first: &'a [u32], second: &'a [u32]) -> &'a [u32]
         second
     } else {
         first
-    }
-}
-
-// Inner: writes the neighbours of v to the front of ring, each once; answers how many. Each slot of v has one of them next to it.
-pub fn gather(t: &[u32], last: &[usize], prev: &[usize], v: Corner, ring: &mut [u32]) -> usize
-    requires { ⌜ Charted (now t) (now last) (now prev) ⌝ }
-    requires { ⌜ v .0 < length (now last) ⌝ }
-    requires { ⌜ most-corners ≤ length (now ring) ⌝ }
-    ensures { λ r. ⌜ Gathered (rows (now (t .entry))) (v .0) (now (ring .exit)) r ⌝ }
-{
-    let corner = v.0 as usize;
-    let mut x = last[corner];
-    let mut k: usize = 0;
-    while x != 0 {
-        ring[k] = t[slots::next(x - 1)];
-        k += 1;
-        x = prev[x - 1];
-    }
-    k
-}
-
-// Whether a number stands in a list.
-fn contains(l: &[u32], w: u32) -> bool
-    ensures { λ r. ⌜ Tells r (w ∈ now (l .entry)) (¬ (w ∈ now (l .entry))) ⌝ }
-{
-    let mut i: usize = 0;
-    while i < l.len() {
-        if l[i] == w {
-            return true;
-        }
-        i += 1;
-    }
-    false
-}
-
-// Inner: marks the numbers of a ring.
-pub fn mark(ring: &[u32], m: &mut [u8])
-    requires { ⌜ CornerNumbers (now ring) ⌝ }
-    requires { ⌜ Unmarked (now m) ⌝ }
-    ensures { λ _. ⌜ Marked (now (ring .entry)) (now (m .exit)) ⌝ }
-{
-    let mut i: usize = 0;
-    while i < ring.len() {
-        let w = ring[i] as usize;
-        m[w] = 1;
-        i += 1;
-    }
-}
-
-// Inner: takes the marks of a ring away again.
-pub fn unmark(ring: &[u32], m: &mut [u8])
-    requires { ⌜ Marked (now ring) (now m) ⌝ }
-    ensures { λ _. ⌜ Unmarked (now (m .exit)) ⌝ }
-{
-    let mut i: usize = 0;
-    while i < ring.len() {
-        let w = ring[i] as usize;
-        m[w] = 0;
-        i += 1;
     }
 }
 
@@ -138,39 +80,9 @@ pub fn meets_round(
     if t.len() <= FOUR_ROWS {
         return false;
     }
-    let k = gather(t, last, prev, b, second);
-    mark(&second[..k], far);
+    let k = neighbours::gather(t, last, prev, b, second);
+    neighbours::mark(&second[..k], far);
     let shared = common(first, &second[..k], near, far);
-    unmark(&second[..k], far);
+    neighbours::unmark(&second[..k], far);
     shared == 2
-}
-
-// Inner: whether the edge ab may be contracted. The rest is scratch: room for the rings of a and b, and marks for each, blank again when it is
-// told.
-pub fn may_contract(
-    t: &[u32],
-    last: &[usize],
-    prev: &[usize],
-    a: Corner,
-    b: Corner,
-    first: &mut [u32],
-    near: &mut [u8],
-    second: &mut [u32],
-    far: &mut [u8],
-) -> bool
-    requires { ⌜ Charted (now t) (now last) (now prev) ⌝ }
-    requires { ⌜ (a .0 < length (now last)) × (b .0 < length (now last)) ⌝ }
-    requires { ⌜ (most-corners ≤ length (now first)) × (most-corners ≤ length (now second)) ⌝ }
-    requires { ⌜ Unmarked (now near) × Unmarked (now far) ⌝ }
-    ensures { λ r. ⌜ Tells r (Meets (rows (now (t .entry))) (a .0) (b .0)) (¬ Meets (rows (now (t .entry))) (a .0) (b .0)) ⌝ }
-    ensures { λ _. ⌜ Unmarked (now (near .exit)) × Unmarked (now (far .exit)) ⌝ }
-{
-    let j = gather(t, last, prev, a, first);
-    if !contains(&first[..j], b.0) {
-        return false;
-    }
-    mark(&first[..j], near);
-    let r = meets_round(t, last, prev, &first[..j], near, b, second, far);
-    unmark(&first[..j], near);
-    r
 }

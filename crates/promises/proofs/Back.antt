@@ -31,7 +31,8 @@ use Rattle.record.proofs.Front.{standing-front, zeroed-whole}
 use Rattle.regrow.specs.declared.Regrown.{Regrown}
 use Rattle.regrow.specs.declared.Regrown.the-variants.{Done}
 use Rattle.regrow.specs.Answer.{told}
-use Rattle.regrow.specs.Outcome.{GrowFits, room-need, GrownAs}
+use Rattle.growable.specs.Refusals.{GrowFits, room-need}
+use Rattle.regrow.specs.Outcome.{GrownAs}
 use Rattle.regrow.proofs.Main.{restores}
 use Rattle.replay.specs.Outcome.{ReplayFits, ReplayedAs}
 use Rattle.follow.proofs.Leading.{leads-one}

@@ -9,7 +9,7 @@ use Rattle.surface.specs.Record.{Record}
 use Rattle.faults.specs.Counts.{corners}
 use Rattle.run.specs.Run.{Taken}
 use Rattle.run.proofs.Main.{taken-replayed}
-use Rattle.figure.specs.Corners.{Short}
+use Rattle.distance.specs.Corners.{Short}
 use Rattle.figure.specs.Sum.{sixfold}
 use Rattle.figure.specs.Rounding.{figure}
 use Rattle.figure.proofs.Rounded.{figure-near}

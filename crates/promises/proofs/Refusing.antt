@@ -30,7 +30,8 @@ use Rattle.regrow.specs.declared.Regrown.{Regrown}
 use Rattle.regrow.specs.declared.Regrown.the-variants as regrown
 use Rattle.regrow.specs.Answer as regrowths
 use Rattle.record.specs.Front.{filled, zeroed}
-use Rattle.regrow.specs.Outcome.{grow-refusals, growing, GrownAs, regrown as regrown-answers}
+use Rattle.growable.specs.Refusals.{grow-refusals}
+use Rattle.regrow.specs.Outcome.{growing, GrownAs, regrown as regrown-answers}
 use Rattle.regrow.proofs.Main as grows
 use Rattle.regrow.proofs.Counted.{regrown-apart, failing-other, stops}
 use Rattle.replay.specs.Outcome.{replay-refusals, replaying, ReplayedAs}

@@ -29,7 +29,8 @@ use Rattle.record.specs.Front.{filled, zeroed}
 use Rattle.regrow.specs.declared.Regrown.{Regrown}
 use Rattle.regrow.specs.declared.Regrown.the-variants.{Stopped}
 use Rattle.regrow.specs.Answer as regrowths
-use Rattle.regrow.specs.Outcome.{grow-refusals, growing, GrownAs}
+use Rattle.growable.specs.Refusals.{grow-refusals}
+use Rattle.regrow.specs.Outcome.{growing, GrownAs}
 use Rattle.replay.specs.Outcome.{replay-refusals, replaying, ReplayedAs}
 use Rattle.volume.specs.declared.Measured.{Measured}
 use Rattle.volume.specs.Answer as volumes

@@ -5,7 +5,6 @@ use Prim.Native.Nat.{ℕ, zero, suc, _+_, _*_, _/_, _%_}
 use lib.ListN.{length, drop, getD}
 use Rattle.surface.specs.Rows.{Row, row}
 use Rattle.surface.specs.Record as surface
-use Rattle.record.specs.declared.Record.{Record}
 
 -- a record is ten numbers
 abbrev pub width : ℕ

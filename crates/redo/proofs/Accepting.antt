@@ -9,7 +9,7 @@ use Rattle.surface.specs.Link.{Meets}
 use Rattle.surface.specs.Record.{placed}
 use Rattle.record.specs.declared.Record.{Record}
 use Rattle.record.specs.Inner.{meant}
-use Rattle.step.specs.Step.{Recorded}
+use Rattle.leaving.specs.Leaving.{Recorded}
 use Rattle.redo.specs.Redo.{placed-as, Accepts}
 
 module _ (t : List ℕ) (r : Record) where

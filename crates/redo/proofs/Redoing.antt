@@ -10,7 +10,7 @@ use Rattle.record.specs.declared.Record.{Record}
 use Rattle.record.specs.Inner.{meant}
 use Rattle.record.specs.Front.{front-rows, standing}
 -- a caller's scratch, as it is made
-pub use Rattle.link.proofs.Marking.{unmarked-new}
+pub use Rattle.neighbours.proofs.Marking.{unmarked-new}
 use Rattle.step.specs.Front.{SteppedFront}
 use Rattle.step.proofs.Front.{fallen-none, front-replays, fallen-on, fallen-left}
 use Rattle.redo.specs.Redo.{Accepts, Redid}

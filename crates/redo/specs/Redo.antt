@@ -9,7 +9,7 @@ use Rattle.record.specs.declared.Leaving.{Leaving}
 use Rattle.record.specs.Front.{standing}
 use Rattle.record.specs.Inner.{lowered}
 -- what is asked of the scratch that a caller lends
-pub use Rattle.link.specs.InnerAround.{Unmarked}
+pub use Rattle.neighbours.specs.Around.{Unmarked}
 
 -- a leaving row with its place
 abbrev pub placed-as : Leaving → Placed

@@ -8,11 +8,10 @@ ghost use lib.ListN.{length};
 ghost use Rattle.surface.specs.Limits.{most-corners};
 ghost use Rattle.surface.specs.Rows.{rows};
 ghost use Rattle.surface.specs.InnerStageTable.{StageTable};
-ghost use Rattle.surface.specs.Link.{Meets};
 ghost use Rattle.refusal.specs.InnerTells.{Tells};
 ghost use Rattle.record.specs.Inner.{meant};
 ghost use Rattle.record.specs.Front.{front-rows};
-ghost use Rattle.link.specs.InnerAround.{Unmarked};
+ghost use Rattle.neighbours.specs.Around.{Unmarked};
 ghost use Rattle.redo.specs.Redo.{placed-as, Accepts, Redid};
 
 // Whether two rows with their places are the same.
@@ -29,30 +28,6 @@ fn same_leaving(a: Leaving, b: Leaving) -> bool
         return false;
     }
     a.c.0 == b.c.0
-}
-
-// Whether the edge ab of a stage may be contracted. The chains round its corners are built anew for each record; the rest is the link test's scratch.
-fn meets(
-    t: &[u32],
-    n: usize,
-    a: Corner,
-    b: Corner,
-    first: &mut [u32],
-    near: &mut [u8],
-    second: &mut [u32],
-    far: &mut [u8],
-) -> bool
-    requires { ⌜ StageTable n (now t) ⌝ }
-    requires { ⌜ (a .0 < n) × (b .0 < n) ⌝ }
-    requires { ⌜ (most-corners ≤ length (now first)) × (most-corners ≤ length (now second)) ⌝ }
-    requires { ⌜ Unmarked (now near) × Unmarked (now far) ⌝ }
-    ensures { λ r. ⌜ Tells r (Meets (rows (now (t .entry))) (a .0) (b .0)) (¬ Meets (rows (now (t .entry))) (a .0) (b .0)) ⌝ }
-    ensures { λ _. ⌜ Unmarked (now (near .exit)) × Unmarked (now (far .exit)) ⌝ }
-{
-    let mut last = [0usize; surface::MOST_CORNERS];
-    let mut prev = [0usize; slots::MOST_SLOTS];
-    slots::chains(t, &mut last, &mut prev);
-    link::may_contract(t, &last, &prev, a, b, first, near, second, far)
 }
 
 // Whether a record is accepted on a stage: its step may be done, and writes this record.
@@ -77,10 +52,10 @@ fn accepts(
     if n <= r.removed.0 as usize {
         return false;
     }
-    if !meets(t, n, r.kept, r.removed, first, near, second, far) {
+    if !contractible::may_contract(t, n, r.kept, r.removed, first, near, second, far) {
         return false;
     }
-    let e = step::record_of(t, r.kept, r.removed);
+    let e = leaving::record_of(t, r.kept, r.removed);
     if !same_leaving(e.earlier, r.earlier) {
         return false;
     }

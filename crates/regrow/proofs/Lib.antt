@@ -1,4 +1,4 @@
 pub mod Main
 pub mod Counted
 pub mod Undoing
-pub mod Judging
+pub mod Ready

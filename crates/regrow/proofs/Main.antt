@@ -25,9 +25,10 @@ use Rattle.record.proofs.Front.{standing-length, standing-filled}
 use Rattle.regrow.specs.declared.Regrown.{Regrown}
 use Rattle.regrow.specs.declared.Regrown.the-variants.{Done, Refused}
 use Rattle.regrow.specs.Answer.{told, CountTold}
-use Rattle.regrow.specs.Outcome.{GrowFits, room-need, grow-refusals, growing, GrownAs}
+use Rattle.growable.specs.Refusals.{GrowFits, room-need, grow-refusals}
+use Rattle.growable.proofs.Judging.{counts-told}
+use Rattle.regrow.specs.Outcome.{growing, GrownAs}
 use Rattle.regrow.proofs.Counted.{regrown-apart, did}
-use Rattle.regrow.proofs.Judging.{counts-told}
 use Rattle.regrow.proofs.Undoing.{grown-rows}
 
 -- a record is accepted to one table, or to none

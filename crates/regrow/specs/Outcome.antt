@@ -1,43 +1,21 @@
--- Growing back in 01's words: the refusals in their order, or the rows reached and what they leave.
+-- Growing back in 01's words: a refusal, or the rows reached and what they leave.
 use mathlib.Core.Path.{_≡_}
-use mathlib.Core.Bool.{false}
-use mathlib.Core.List.{List, _∷_, reverse}
-use Prim.Native.Nat.{ℕ, _+_, _*_, _≤_, _<_}
-use lib.ListN.{length}
+use mathlib.Core.List.{List, reverse}
+use Prim.Native.Nat.{ℕ}
 use Rattle.follow.specs.Follow.{Answering, Call, Outcome}
-use Rattle.surface.specs.Limits.{most-rows}
 use Rattle.surface.specs.Rows.{Row}
 use Rattle.surface.specs.Stage.{Stage}
 use Rattle.surface.specs.Record.{Record}
 use Rattle.growth.specs.Accept.{Accepted}
 use Rattle.refusal.specs.declared.Refusal.{Refusal}
-use Rattle.refusal.specs.declared.Refusal.the-variants.{CountsOutside, RoomShort, RecordFails}
+use Rattle.refusal.specs.declared.Refusal.the-variants.{RecordFails}
 use Rattle.refusal.specs.declared.Verdict.the-variants as verdict
-use Rattle.refusal.specs.First.{Refusals, _when_, First}
-use Rattle.faults.specs.Counts.{RowsFit, CornersFit}
-use Rattle.faults.specs.Order.{row-refusals}
-use Rattle.record.specs.Layout.{count, records, WholeRecords}
+use Rattle.refusal.specs.First.{First}
+use Rattle.record.specs.Layout.{records}
 use Rattle.record.specs.Front.{standing, filled}
+use Rattle.growable.specs.Refusals.{grow-refusals}
 use Rattle.regrow.specs.declared.Regrown.{Regrown}
 use Rattle.regrow.specs.declared.Regrown.the-variants.{Done, Stopped, Refused}
-
--- not 2: the rows told and the corner count are within their limits, the log is a multiple of 10, and the rows would not pass 1,024
-pub record GrowFits (n m : ℕ) (log : List ℕ) : Type 0 where
-  pub rows : RowsFit m
-  pub corners : CornersFit n
-  pub whole : WholeRecords log
-  pub most : m + 2 * count log ≤ most-rows
-
--- growing back needs 3 x (rows + 2k) numbers
-abbrev pub room-need : ℕ → List ℕ → ℕ
-room-need m log = 3 * (m + 2 * count log)
-
--- 2, 3, then 5 to 11 of the rows that stand in the room
-unfoldable pub grow-refusals : ℕ → ℕ → List ℕ → List ℕ → Refusals
-grow-refusals n m room log =
-    (CountsOutside when (¬ GrowFits n m log))
-    ∷ (RoomShort when (length room < room-need m log))
-    ∷ row-refusals false n (standing m room)
 
 -- the answers of growing back and of replay: both answer how many records were done
 abbrev pub regrown : Answering Refusal Refusal Regrown

@@ -89,8 +89,8 @@ module _ {xs : List ℤ} {t : List ℕ} (s : SheetSkin xs t) where
           record {
             threes = omega (arith, flat-length (w .last));
             whole = omega (arith, logged-numbers);
-            most-rows = let h = s .most in omega (arith, left-numbers);
-            most-records = omega (arith, logged-numbers, log-room);
+            table-fits = let h = s .most in omega (arith, left-numbers);
+            log-fits = omega (arith, logged-numbers, log-room);
           }
           )
 

@@ -1,5 +1,3 @@
-pub mod Following
 pub mod Checking
 pub mod Reporting
 pub mod Main
-pub mod Examples

@@ -22,19 +22,19 @@ use Rattle.record.specs.Layout.{log-of}
 use Rattle.record.proofs.Log.{log-length, records-log}
 use Rattle.faults.specs.Counts.{corners}
 use Rattle.faults.proofs.Opposites.{skin-corners, stage-corners}
-use Rattle.figure.specs.Corners.{Short, squared-distance}
-use Rattle.figure.specs.InnerChain.{Chain, chain-none, chain-more}
-use Rattle.figure.proofs.Shift.{chain-bound, distance-back}
+use Rattle.distance.specs.Corners.{Short, squared-distance}
+use Rattle.distance.specs.InnerChain.{Chain, chain-none, chain-more}
+use Rattle.distance.proofs.Shift.{chain-bound, distance-back}
 use Rattle.run.specs.Run.{Taken}
 use Rattle.run.proofs.Main.{step-stage, taken-allowed, taken-cut, taken-replayed}
 use Rattle.shift.specs.declared.Shifted.{Shifted}
 use Rattle.shift.specs.declared.Shifted.the-variants.{StandIn, Refused}
-use Rattle.shift.specs.StandIn.{stand-in, moves}
+use Rattle.standin.specs.StandIn.{stand-in, moves}
 use Rattle.shift.specs.Order.{ShiftFits}
 use Rattle.shift.specs.Inner.{BelowIn}
 use Rattle.shift.specs.Answer.{told}
 use Rattle.shift.specs.Report.{ShiftReport, Bounded}
-use Rattle.shift.proofs.Following.{moved-on, stayed}
+use Rattle.standin.proofs.Following.{moved-on, stayed}
 use Rattle.shift.proofs.Checking.{all-clear}
 use Rattle.shift.proofs.Reporting.{shift-done}
 

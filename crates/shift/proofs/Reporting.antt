@@ -13,12 +13,12 @@ use Rattle.refusal.specs.Told.{done, refused}
 use Rattle.refusal.proofs.Outcome.{passing, refusing}
 use Rattle.record.specs.Layout.{records}
 use Rattle.faults.specs.Counts.{corners}
-use Rattle.figure.specs.Corners.{squared-distance}
-use Rattle.figure.specs.Inner.{Has}
-use Rattle.shift.specs.StandIn.{stand-in, moves}
+use Rattle.distance.specs.Corners.{squared-distance}
+use Rattle.distance.specs.Inner.{Has}
+use Rattle.standin.specs.StandIn.{stand-in, moves}
 use Rattle.shift.specs.Inner.{BelowIn, Clear, CheckedShift}
 use Rattle.shift.specs.Report.{shift-of, ShiftReport}
-use Rattle.shift.proofs.Following.{moved-on, stayed}
+use Rattle.standin.proofs.Following.{moved-on, stayed}
 
 rest-below : {n : ℕ} {k : Record} {l : List Record} → BelowIn n (k ∷ l) → BelowIn n l
 rest-below b = record { kept = λ m. b .kept (List·Memᴰ·tail m); removed = λ m. b .removed (List·Memᴰ·tail m) }

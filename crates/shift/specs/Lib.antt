@@ -1,4 +1,3 @@
-pub mod StandIn
 pub mod Order
 pub mod Answer
 pub mod Report

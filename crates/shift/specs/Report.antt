@@ -8,10 +8,10 @@ use Rattle.refusal.specs.First.{First}
 use Rattle.refusal.specs.Told.{Told, done}
 use Rattle.refusal.specs.Outcome.{outcome}
 use Rattle.record.specs.Layout.{records}
-use Rattle.figure.specs.Corners.{squared-distance}
+use Rattle.distance.specs.Corners.{squared-distance}
 use Rattle.shift.specs.declared.Shifted.{Shifted}
 use Rattle.shift.specs.Answer.{told}
-use Rattle.shift.specs.StandIn.{stand-in, moves}
+use Rattle.standin.specs.StandIn.{stand-in, moves}
 use Rattle.shift.specs.Order.{shift-refusals}
 
 -- the shift report gives stand-in, count and squared distance

@@ -1,8 +1,6 @@
 // The shift report: where a log has led a corner, in how many steps, and how far. Nothing is written.
-ghost use mathlib.Core.Path.{_≡_};
 ghost use Rattle.record.specs.Layout.{records};
 ghost use Rattle.refusal.specs.InnerTells.{Tells};
-ghost use Rattle.shift.specs.StandIn.{stand-in, moves};
 ghost use Rattle.shift.specs.Order.{ShiftFits, PastIn};
 ghost use Rattle.shift.specs.Inner.{BelowIn, CheckedShift};
 ghost use Rattle.shift.specs.Answer.{told};
@@ -15,12 +13,6 @@ use refusal::Verdict;
 pub enum Shifted {
     StandIn(Corner, usize, u64),
     Refused(Refusal),
-}
-
-// Where the records of a log lead a corner, and how many of them moved it.
-struct Followed {
-    corner: Corner,
-    count: usize,
 }
 
 // 2: whether the log is made of whole records, and the coordinates of whole corners, as many as there may be.
@@ -72,28 +64,6 @@ fn check(corners: &[i32], log: &[u32], corner: u32) -> Verdict
     Verdict::Passes
 }
 
-// The stand-in of a corner after the records of a log, and its count.
-fn follow(log: &[u32], corner: u32) -> Followed
-    ensures { λ r. ⌜ (r .corner .0 ≡ stand-in corner (records (now (log .entry)))) × (r .count ≡ moves corner (records (now (log .entry)))) ⌝ }
-{
-    let count = log.len() / record::WIDTH;
-    let mut at = corner;
-    let mut moved: usize = 0;
-    let mut j: usize = 0;
-    while j < count {
-        let e = record::read_contracted(log, record::WIDTH * j);
-        if e.removed.0 == at {
-            at = e.kept.0;
-            moved += 1;
-        }
-        j += 1;
-    }
-    Followed {
-        corner: Corner(at),
-        count: moved,
-    }
-}
-
 // The shift of a corner by a log that was written over these coordinates.
 pub fn shift(corners: &[i32], log: &[u32], corner: u32) -> Shifted
     ensures { λ r. ⌜ ShiftReport (now (corners .entry)) (now (log .entry)) corner (told r) ⌝ }
@@ -101,9 +71,9 @@ pub fn shift(corners: &[i32], log: &[u32], corner: u32) -> Shifted
     let verdict = check(corners, log, corner);
     match verdict {
         Verdict::Passes => {
-            let f = follow(log, corner);
+            let f = standin::follow(log, corner);
             let stand_in = f.corner;
-            let squared = figure::squared_distance(corners, corner, stand_in.0);
+            let squared = distance::squared_distance(corners, corner, stand_in.0);
             Shifted::StandIn(stand_in, f.count, squared)
         }
         Verdict::Refused(first) => Shifted::Refused(first),

@@ -1,5 +1,2 @@
-pub mod Moving
-pub mod Leave
-pub mod Zeros
 pub mod Stepping
 pub mod Front

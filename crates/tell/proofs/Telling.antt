@@ -94,8 +94,8 @@ module _ (t log : List ℕ) (before after : ℤ) (g : CanTell t log) where
   module _ (fb : SFits w64 before) (fa : SFits w64 after) where
     head-is : machine-head ≡ head
     head-is =
-        let u = g .most-rows in
-        let v = g .most-records in
+        let u = g .table-fits in
+        let v = g .log-fits in
         let em = small-is m (omega arith) in
         let ek = small-is k (omega arith) in
         λ i. em i ∷ ek i ∷ toZ-ofZ w64 before fb i ∷ toZ-ofZ w64 after fa i ∷ []

@@ -13,5 +13,5 @@ most-told = 4294967296
 pub record CanTell (t log : List ℕ) : Type 0 where
   pub threes : length t % 3 ≡ 0
   pub whole : WholeRecords log
-  pub most-rows : length t ≤ most-told
-  pub most-records : length log ≤ most-told
+  pub table-fits : length t ≤ most-told
+  pub log-fits : length log ≤ most-told

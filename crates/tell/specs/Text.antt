@@ -1,4 +1,4 @@
--- What the desk writes: "one line, NO and the number", or the lines OK, R and K. Lines and their numbers are those of a sheet.
+-- What the desk writes: "one line, NO and the number", or the lines OK, R and K. Rows and records stand as in a sheet; a figure may have more digits than a number of a sheet.
 use mathlib.Core.List.{List, [], _∷_, _++_}
 use Prim.Native.Nat.{ℕ, _/_}
 use lib.IntN.{ℤ, pos}

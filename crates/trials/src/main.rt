@@ -8,6 +8,26 @@ use ring::Trial;
 use thin::Thinning;
 use volume::Measured;
 
+// The farthest that a coordinate may lie from 0.
+const FAR: i32 = corners::MOST_COORDINATE;
+
+// The numbers of five records.
+const FIVE_RECORDS: usize = 5 * record::WIDTH;
+
+// The numbers of the trial ring, and the coordinates of its 64 corners.
+const RING_NUMBERS: usize = 384;
+
+const RING_COORDINATES: usize = 192;
+
+// The 32 by 16 torus, built as the trial ring is: two rows for each corner, as many as a table may have.
+const DOWN: usize = 32;
+
+const ACROSS: usize = 16;
+
+const TORUS_NUMBERS: usize = 6 * DOWN * ACROSS;
+
+const TORUS_COORDINATES: usize = 3 * DOWN * ACROSS;
+
 // The octahedron, and what thinning it leaves: its last rows, and its two records.
 const O: [u32; 24] = [
     0,
@@ -57,13 +77,45 @@ const O_CORNERS: [i32; 18] = [
     -100,
 ];
 
-// The tetrahedron.
+// The tetrahedron, another that shares its corner 0, and one that stands apart.
 const T: [u32; 12] = [0, 1, 2, 0, 2, 3, 0, 3, 1, 1, 3, 2];
 
-const O_END: [u32; 12] = [0, 3, 4, 5, 3, 0, 5, 4, 3, 5, 0, 4];
+const T_SHARING: [u32; 12] = [0, 4, 5, 0, 5, 6, 0, 6, 4, 4, 6, 5];
 
-// The numbers of five records.
-const FIVE_RECORDS: usize = 5 * record::WIDTH;
+const T_APART: [u32; 12] = [4, 5, 6, 4, 6, 7, 4, 7, 5, 5, 7, 6];
+
+// Nine corners, no two on one point.
+const NINE_CORNERS: [i32; 27] = [
+    0,
+    1,
+    2,
+    3,
+    4,
+    5,
+    6,
+    7,
+    8,
+    9,
+    10,
+    11,
+    12,
+    13,
+    14,
+    15,
+    16,
+    17,
+    18,
+    19,
+    20,
+    21,
+    22,
+    23,
+    24,
+    25,
+    26,
+];
+
+const O_END: [u32; 12] = [0, 3, 4, 5, 3, 0, 5, 4, 3, 5, 0, 4];
 
 const O_LOG: [u32; 2 * record::WIDTH] = [
     0,
@@ -141,7 +193,7 @@ fn show_thinning(name: &[u8], r: Thinning) {
 
 // The same of a small table thinned without a limit.
 fn show_thinned(name: &[u8], t: &mut [u32], xs: &[i32]) {
-    let mut log = [0u32; 5 * record::WIDTH];
+    let mut log = [0u32; FIVE_RECORDS];
     show_thinning(name, thin::thin(t, xs, Order::NoLimit, &mut log));
 }
 
@@ -161,78 +213,37 @@ fn octahedra() {
 // Coordinates at their limit and past it.
 fn far_corners() {
     let mut t = T;
-    let at = [0i32, 0, 0, 50000, 0, 0, 0, 300, 0, 0, 0, -50000];
-    let past = [0i32, 0, 0, 50001, 0, 0, 0, 300, 0, 0, 0, 300];
-    let below = [0i32, 0, 0, 300, 0, 0, 0, 300, 0, 0, 0, -50001];
-    show_thinned(b"T to 50,000 and -50,000: ", &mut t, &at);
-    show_thinned(b"T to 50,001: ", &mut t, &past);
-    show_thinned(b"T to -50,001: ", &mut t, &below);
+    show_thinned(b"T to 50,000 and -50,000: ", &mut t, &spanned(FAR, -FAR));
+    show_thinned(b"T to 50,001: ", &mut t, &spanned(FAR + 1, 300));
+    show_thinned(b"T to -50,001: ", &mut t, &spanned(300, -FAR - 1));
+}
+
+// The corners (0, 0, 0), (x, 0, 0), (0, 300, 0) and (0, 0, z).
+fn spanned(x: i32, z: i32) -> [i32; 12] {
+    [0i32, 0, 0, x, 0, 0, 0, 300, 0, 0, 0, z]
+}
+
+// T and another tetrahedron in one table.
+fn with_t(second: &[u32]) -> [u32; 24] {
+    let mut t = [0u32; 24];
+    copy(&T, &mut t);
+    copy(second, &mut t[12..]);
+    t
 }
 
 // Two tetrahedra: sharing a corner, apart, and with a corner that no row uses.
 fn pairs() {
-    let mut shared = [
-        0u32,
-        1,
-        2,
-        0,
-        2,
-        3,
-        0,
-        3,
-        1,
-        1,
-        3,
-        2,
-        0,
-        4,
-        5,
-        0,
-        5,
-        6,
-        0,
-        6,
-        4,
-        4,
-        6,
-        5,
-    ];
-    let mut apart = [
-        0u32,
-        1,
-        2,
-        0,
-        2,
-        3,
-        0,
-        3,
-        1,
-        1,
-        3,
-        2,
-        4,
-        5,
-        6,
-        4,
-        6,
-        7,
-        4,
-        7,
-        5,
-        5,
-        7,
-        6,
-    ];
-    let xs = [0i32; 24];
-    let more = [0i32; 27];
+    let mut shared = with_t(&T_SHARING);
+    let mut apart = with_t(&T_APART);
+    let xs = NINE_CORNERS;
     show_thinned(
         b"two tetrahedra that share a corner: ",
         &mut shared,
         &xs[..21],
     );
-    show_thinned(b"and a corner that no row uses: ", &mut shared, &xs);
-    show_thinned(b"two tetrahedra apart: ", &mut apart, &xs);
-    show_thinned(b"and a corner that no row uses: ", &mut apart, &more);
+    show_thinned(b"and a corner that no row uses: ", &mut shared, &xs[..24]);
+    show_thinned(b"two tetrahedra apart: ", &mut apart, &xs[..24]);
+    show_thinned(b"and a corner that no row uses: ", &mut apart, &xs);
 }
 
 // The numbers of a list, parted by blanks, on one line.
@@ -314,38 +325,22 @@ fn replay_octahedron(name: &[u8], log: &[u32]) {
 }
 
 // The octahedron's log with another first record.
-fn spoiled(name: &[u8], first: [u32; record::WIDTH]) {
+fn with_first(first: [u32; record::WIDTH]) -> [u32; 2 * record::WIDTH] {
     let mut log = O_LOG;
     copy(&first, &mut log);
-    grow_octahedron(name, &log);
+    log
+}
+
+// Such a log grown back.
+fn spoiled(name: &[u8], first: [u32; record::WIDTH]) {
+    grow_octahedron(name, &with_first(first));
 }
 
 // Growing back and replay: 01's octahedron, and records that fail.
 fn logs() {
     grow_octahedron(b"O grown back from its two records: ", &O_LOG);
     replay_octahedron(b"O's two records replayed: ", &O_LOG);
-    let turned = [
-        0u32,
-        1,
-        0,
-        1,
-        2,
-        0,
-        3,
-        0,
-        4,
-        1,
-        0,
-        2,
-        0,
-        0,
-        2,
-        3,
-        2,
-        5,
-        2,
-        0,
-    ];
+    let turned = with_first([0u32, 1, 0, 1, 2, 0, 3, 0, 4, 1]);
     grow_octahedron(b"with a row turned: ", &turned);
     replay_octahedron(b"replayed: ", &turned);
     spoiled(b"removed is used: ", [0u32, 2, 0, 0, 1, 2, 3, 0, 4, 2]);
@@ -436,7 +431,7 @@ fn ring_number(i: usize) -> u32 {
     }
 }
 
-// Distinct corners: the coordinates count up.
+// Distinct corners, as long as they are fewer than 1,000: the coordinates count up, and start anew at 1,000.
 fn place_corners(xs: &mut [i32]) {
     let mut i: usize = 0;
     while i < xs.len() {
@@ -447,9 +442,9 @@ fn place_corners(xs: &mut [i32]) {
 
 // The trial ring thinned: 55 records, 18 rows left.
 fn thin_ring() {
-    let mut t = [0u32; 384];
+    let mut t = [0u32; RING_NUMBERS];
     copy_ring(&mut t);
-    let mut xs = [0i32; 192];
+    let mut xs = [0i32; RING_COORDINATES];
     place_corners(&mut xs);
     let mut log = [0u32; 60 * record::WIDTH];
     let r = thin::thin(&mut t, &xs, Order::NoLimit, &mut log);
@@ -457,10 +452,10 @@ fn thin_ring() {
     show_numbers(b"past its 18 rows then:", &t[54..60]);
 }
 
-// A number of the 32 by 16 torus, built as the trial ring is: 1,024 rows over 512 corners.
+// A number of the torus: 1,024 rows over 512 corners.
 fn torus_number(i: usize) -> u32 {
-    let r = i / 6 / 16;
-    let c = i / 6 % 16;
+    let r = i / 6 / ACROSS;
+    let c = i / 6 % ACROSS;
     let k = i % 6;
     let down = torus_corner(r + 1, c);
     let across = torus_corner(r + 1, c + 1);
@@ -480,7 +475,7 @@ fn torus_number(i: usize) -> u32 {
 }
 
 fn torus_corner(r: usize, c: usize) -> u32 {
-    (16 * (r % 32) + c % 16) as u32
+    (ACROSS * (r % DOWN) + c % ACROSS) as u32
 }
 
 fn copy_torus(t: &mut [u32]) {
@@ -494,7 +489,7 @@ fn copy_torus(t: &mut [u32]) {
 // Its corners take the four ends of a tetrahedron in a cube of the largest coordinates, so that every row has the largest determinant, and all
 // of one sign.
 fn torus_coordinate(i: usize, out: i32) -> i32 {
-    let p = i / 3 / 16 % 2;
+    let p = i / 3 / ACROSS % 2;
     let q = i / 3 % 2;
     let j = i % 3;
     if j == 0 {
@@ -505,19 +500,19 @@ fn torus_coordinate(i: usize, out: i32) -> i32 {
     }
     if j == 1 {
         if p == q {
-            return 50000;
+            return FAR;
         }
-        return -50000;
+        return -FAR;
     }
     if p == 0 {
-        return 50000;
+        return FAR;
     }
-    -50000
+    -FAR
 }
 
 // The other end of a coordinate's range.
 fn near(out: i32) -> i32 {
-    if out == 50000 { -50000 } else { 50000 }
+    if out == FAR { -FAR } else { FAR }
 }
 
 fn place_torus(xs: &mut [i32], out: i32) {
@@ -557,28 +552,28 @@ fn show_span(name: &[u8], a: i32, b: i32, c: i32, d: i32, e: i32) {
     show_volume(name, volume::volume(&T, &xs));
 }
 
-// The most rows, and one more; under a limit of 0 no edge is short enough.
+// The most rows, and one more; under a limit of 0 no edge is short enough, since no two corners lie on one point.
 fn most_rows() {
-    let mut xs = [0i32; 1536];
-    place_torus(&mut xs, 50000);
+    let mut xs = [0i32; TORUS_COORDINATES];
+    place_corners(&mut xs);
     let mut log = [0u32; 508 * record::WIDTH];
     let zero = Order::Limit(Length::Centimetres(0.0));
-    let mut most = [0u32; 3072];
+    let mut most = [0u32; TORUS_NUMBERS];
     copy_torus(&mut most);
     show_thinning(b"1,024 rows: ", thin::thin(&mut most, &xs, zero, &mut log));
-    let mut more = [0u32; 3075];
+    let mut more = [0u32; TORUS_NUMBERS + 3];
     copy_torus(&mut more);
     show_thinning(b"1,025 rows: ", thin::thin(&mut more, &xs, zero, &mut log));
 }
 
 // The largest sums: 512,000,000,000,000,000 either way.
 fn largest_sums() {
-    let mut t = [0u32; 3072];
+    let mut t = [0u32; TORUS_NUMBERS];
     copy_torus(&mut t);
-    let mut xs = [0i32; 1536];
-    place_torus(&mut xs, 50000);
+    let mut xs = [0i32; TORUS_COORDINATES];
+    place_torus(&mut xs, FAR);
     show_volume(b"1,024 rows at the limits: ", volume::volume(&t, &xs));
-    place_torus(&mut xs, -50000);
+    place_torus(&mut xs, -FAR);
     show_volume(b"and mirrored: ", volume::volume(&t, &xs));
 }
 

@@ -1,3 +1,2 @@
-pub mod Bytes
+pub mod Limits
 pub mod Part
-pub mod Twos

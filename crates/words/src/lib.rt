@@ -1,34 +1,33 @@
-// Lists of numbers as words on standard input and standard output: eight bytes each, the lowest first, two's complement.
+// Lists of numbers as words on standard input and standard output.
+use word::Signed;
 ghost use mathlib.Core.Path.{_≡_};
-ghost use Prim.Native.Nat.{_+_, _%_, _^_, _≤_, _<_};
+ghost use Prim.Native.Nat.{_≤_};
 ghost use lib.ListN.{length};
-ghost use lib.Seq.{sets};
-ghost use Rattle.words.specs.Bytes.{bytes-at, bytes-of};
+ghost use Rattle.words.specs.Limits.{most-numbers, most-bytes};
 ghost use Rattle.words.specs.Part.{PartOf};
-ghost use Rattle.words.specs.Twos.{twos, ReadNarrow};
 
-// The most numbers that a list may have, and the most bytes.
+// The most numbers that a list may have, and the most bytes; specs/Limits.antt has a name for each.
 const MOST_NUMBERS: usize = 16384;
 
 const MOST_BYTES: usize = 131072;
 
 // Inner: rooms for lists. The `ensures` gives only the length, which lending a part of one needs.
 pub fn numbers_room() -> [u32; MOST_NUMBERS]
-    ensures { λ r. ⌜ 16384 ≡ length r ⌝ }
+    ensures { λ r. ⌜ most-numbers ≡ length r ⌝ }
 {
     [0; MOST_NUMBERS]
 }
 
 // Inner: the same for coordinates.
 pub fn coordinates_room() -> [i32; MOST_NUMBERS]
-    ensures { λ r. ⌜ 16384 ≡ length r ⌝ }
+    ensures { λ r. ⌜ most-numbers ≡ length r ⌝ }
 {
     [0; MOST_NUMBERS]
 }
 
 // Inner: the same for bytes.
 pub fn bytes_room() -> [u8; MOST_BYTES]
-    ensures { λ r. ⌜ 131072 ≡ length r ⌝ }
+    ensures { λ r. ⌜ most-bytes ≡ length r ⌝ }
 {
     [0; MOST_BYTES]
 }
@@ -67,94 +66,18 @@ enum Word {
     Nothing,
 }
 
-// A signed number that a word is, or that it is none of its type.
-enum Signed {
-    Is(i32),
-    Nothing,
-}
-
-// A byte, to be counted in a word; its bound is told for the sums.
-fn wide(x: u8) -> u64
-    ensures { λ r. ⌜ (r ≡ x) × (r < 256) ⌝ }
-{
-    x as u64
-}
-
-// The half of a word whose bytes stand from place i on.
-fn half_at(b: &[u8], i: usize) -> u64
-    requires { ⌜ i + 4 ≤ length (now b) ⌝ }
-    ensures { λ r. ⌜ (r ≡ bytes-at 4 (now (b .entry)) i) × (r < 2 ^ 32) ⌝ }
-{
-    wide(b[i]) + wide(b[i + 1]) * 256 + wide(b[i + 2]) * 65536 + wide(b[i + 3]) * 16777216
-}
-
-// The word whose bytes stand from place i on.
-fn word_at(b: &[u8], i: usize) -> u64
-    requires { ⌜ i + 8 ≤ length (now b) ⌝ }
-    ensures { λ r. ⌜ r ≡ bytes-at 8 (now (b .entry)) i ⌝ }
-{
-    half_at(b, i) + half_at(b, i + 4) * 4294967296
-}
-
-// The lowest byte of a word.
-fn lowest(w: u64) -> u8
-    ensures { λ r. ⌜ r ≡ w % 256 ⌝ }
-{
-    (w % 256) as u8
-}
-
-// Writes a word's bytes from place i on.
-fn put_word(b: &mut [u8], i: usize, w: u64)
-    requires { ⌜ i + 8 ≤ length (now b) ⌝ }
-    ensures { λ _. ⌜ now (b .exit) ≡ sets (now (b .entry)) i (bytes-of 8 w) ⌝ }
-{
-    let mut left = w;
-    let mut k: usize = 0;
-    while k < 8 {
-        b[i + k] = lowest(left);
-        left = left / 256;
-        k += 1;
-    }
-}
-
-// Inner: the word of a signed number.
-pub fn word_of(x: i64) -> u64
-    ensures { λ r. ⌜ r ≡ twos x ⌝ }
-{
-    if x < 0 {
-        return std::num::wrapping_sub_u64(0, ints::size(x));
-    }
-    ints::size(x)
-}
-
-// The signed number that a word is.
-fn signed_of(w: u64) -> Signed
-    ensures { λ r. ⌜ ReadNarrow w r ⌝ }
-{
-    if w < 2147483648 {
-        return Signed::Is(w as i32);
-    }
-    // one short of the size of a number below zero: it fits where the size may not
-    let short = u64::MAX - w;
-    if 2147483648 <= short {
-        return Signed::Nothing;
-    }
-    let s = short as i32;
-    Signed::Is(-1 - s)
-}
-
 // The next word of the input.
 fn read_word() -> Word {
-    let mut b = [0u8; 8];
-    if io::read_full(0, &mut b) < 8 {
+    let mut b = [0u8; word::BYTES];
+    if io::read_full(0, &mut b) < word::BYTES {
         return Word::Nothing;
     }
-    Word::Is(word_at(&b, 0))
+    Word::Is(word::word_at(&b, 0))
 }
 
 // The length of the list that comes next; one more than the most where it has more or there is none.
 fn read_length(most: usize) -> usize
-    requires { ⌜ most ≤ 131072 ⌝ }
+    requires { ⌜ most ≤ most-bytes ⌝ }
 {
     let w = read_word();
     match w {
@@ -192,7 +115,7 @@ fn read_signed() -> Signed {
     let w = read_word();
     match w {
         Word::Nothing => Signed::Nothing,
-        Word::Is(v) => signed_of(v),
+        Word::Is(v) => word::signed_of(v),
     }
 }
 
@@ -305,8 +228,8 @@ pub fn take_bytes(room: &mut [u8], ok: &mut bool) -> usize
 
 // Inner: writes a word; whether it was taken.
 pub fn write_word(w: u64) -> bool {
-    let mut b = [0u8; 8];
-    put_word(&mut b, 0, w);
+    let mut b = [0u8; word::BYTES];
+    word::put_word(&mut b, 0, w);
     io::write_all(1, &b)
 }
 
@@ -336,7 +259,7 @@ pub fn write_coordinates(l: &[i32]) -> bool {
     }
     let mut i: usize = 0;
     while i < l.len() {
-        if !write_word(word_of(long(l[i]))) {
+        if !write_word(word::word_of(long(l[i]))) {
             return false;
         }
         i += 1;
@@ -355,7 +278,7 @@ pub fn write_bytes(l: &[u8]) -> bool {
     }
     let mut i: usize = 0;
     while i < l.len() {
-        if !write_word(wide(l[i])) {
+        if !write_word(word::wide(l[i])) {
             return false;
         }
         i += 1;

@@ -7,7 +7,7 @@ use Rattle.surface.specs.Rows.{rows}
 use Rattle.surface.specs.Table.{Used}
 use Rattle.refusal.specs.InnerTells.{Tells}
 use Rattle.refusal.proofs.Tells.{tells-true, tells-false}
-use Rattle.accept.proofs.Notes.{held-used, not-held}
+use Rattle.accept.proofs.Holding.{held-used, not-held}
 use native.Mathlib.Omega.{arith}
 use borrow.Author.Needs.{needs}
 use Rattle.accept.proofs.uses.Statement.{statement}

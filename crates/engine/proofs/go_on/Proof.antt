@@ -3,8 +3,8 @@ use mathlib.Core.Path.{_≡_, refl, sym}
 use lib.ListN.{length}
 use lib.Seq.{length-take-le}
 use Rattle.surface.specs.Limits.{most-corners}
-use Rattle.link.specs.InnerAround.{Unmarked}
-use Rattle.link.proofs.Marking.{unmarked-new}
+use Rattle.neighbours.specs.Around.{Unmarked}
+use Rattle.neighbours.proofs.Marking.{unmarked-new}
 use Rattle.least.specs.Limited.{Allowed}
 use Rattle.step.proofs.Front.{rows-four}
 use Rattle.engine.proofs.Going.{Going, go-start, go-on, go-end, room-left}

@@ -1,5 +1,5 @@
 -- `least_at` meets its contract.
-use Rattle.link.proofs.Marking.{neighbours-corners}
+use Rattle.neighbours.proofs.Marking.{neighbours-corners}
 use borrow.Author.Needs.{needs}
 use Rattle.least.proofs.least_at.Statement.{statement}
 use Rattle.least.proofs.least_at.Tie as tie

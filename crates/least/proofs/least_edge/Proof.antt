@@ -4,7 +4,7 @@ use Prim.Native.Nat.{_-_, _≤_}
 use lib.ListN.{length}
 use lib.Seq.{length-take-le}
 use Rattle.surface.specs.Rows.{rows}
-use Rattle.link.specs.InnerAround.{Unmarked}
+use Rattle.neighbours.specs.Around.{Unmarked}
 use Rattle.least.specs.Limited.{Allowed}
 use Rattle.least.proofs.Corners.{NoneBelow, edge-found, none-found, none-left}
 use native.Mathlib.Omega.{arith}

@@ -4,7 +4,8 @@ use Prim.Native.Nat.{_-_, _≤_}
 use lib.ListN.{length}
 use Rattle.surface.specs.Lists.{Distinct, Exactly}
 use Rattle.surface.proofs.Flat.{at-place}
-use Rattle.link.specs.InnerAround.{CornerNumbers, Both}
+use Rattle.neighbours.specs.Around.{CornerNumbers}
+use Rattle.link.specs.InnerBoth.{Both}
 use Rattle.link.proofs.Laws.{chosen-has, chosen-both}
 use Rattle.link.proofs.Tally.{Among, count-none, count-past, count-more, count-end}
 use native.Mathlib.Omega.{arith}

@@ -3,7 +3,7 @@ use mathlib.Core.Path.{sym}
 use lib.Seq.{length-take-le}
 use Rattle.refusal.proofs.Tells.{tells-false}
 use Rattle.link.proofs.Condition.{four-rows, two-common}
-use Rattle.link.proofs.Marking.{neighbours-corners}
+use Rattle.neighbours.proofs.Marking.{neighbours-corners}
 use native.Mathlib.Omega.{arith}
 use borrow.Author.Needs.{needs}
 use Rattle.link.proofs.meets_round.Statement.{statement}

@@ -1,4 +1,4 @@
--- `accepts` meets its contract, test by test. The marks are as they came, or as `meets` left them.
+-- `accepts` meets its contract, test by test. The marks are as they came, or as `may_contract` left them.
 use borrow.Author.Tests.{not-true, not-false}
 use Rattle.refusal.proofs.Tells.{tells-false}
 use Rattle.redo.proofs.Accepting.{not-lower, not-below, accepted, same-earlier, same-later}
@@ -24,8 +24,8 @@ returns-2 c =
     let if2 = c .if2 in
     (tells-false (not-below (args .t .now) (args .r) (pre .0) (if2 .taken)), pre .1 .1)
 
-meets-requires : tie.Need-meets-requires
-meets-requires c κs =
+may-contract-requires : tie.Need-may-contract-requires
+may-contract-requires c κs =
     let pre = c .before .before .before .before .before .before .before .before .before .before .before .before .before .pre in
     let if1 = c .before .before .before .before .before .before .if1 in
     let if2 = c .before .before .before .before .if2 in
@@ -45,7 +45,7 @@ same-length-4 c = search needs
 
 returns-3 : tie.Need-returns-3
 returns-3 c =
-    let meets = c .before .before .before .before .before .before .before .before .before .meets in
+    let meets = c .before .before .before .before .before .before .before .before .before .may-contract in
     let if3 = c .if3 in
     (tells-false (λ a. meets .ensures .0 .when-false (not-true (meets .result) (if3 .taken)) (a .1 .meets)), meets .ensures .1)
 
@@ -54,7 +54,7 @@ record-of-requires c κs =
     let args = c .before .before .before .before .before .before .before .before .before .before .before .before .before .before .before .before .before .before .before .before .before .before .before .args in
     let pre = c .before .before .before .before .before .before .before .before .before .before .before .before .before .before .before .before .before .before .before .before .before .before .before .pre in
     let if1 = c .before .before .before .before .before .before .before .before .before .before .before .before .before .before .before .before .if1 in
-    let meets = c .before .before .before .before .before .before .before .before .before .meets in
+    let meets = c .before .before .before .before .before .before .before .before .before .may-contract in
     let if3 = c .if3 in
     record { corners = args .n; table = pre .0; rises = omega (arith, if1 .left); meets = meets .ensures .0 .when-true (not-false (meets .result) (if3 .left)) }
 
@@ -79,7 +79,7 @@ returns-4 c =
     let same-leaving = c .before .same-leaving in
     let if4 = c .if4 in
     let args = c .before .before .before .before .before .before .before .before .before .before .before .before .before .before .before .before .before .before .before .before .before .before .before .before .before .before .args in
-    let meets = c .before .before .before .before .before .before .before .before .before .before .before .before .meets in
+    let meets = c .before .before .before .before .before .before .before .before .before .before .before .before .may-contract in
     let if3 = c .before .before .before .if3 in
     let record-of = c .before .before .record-of in
     let lower = if1 .left in
@@ -107,7 +107,7 @@ same-length-12 c = search needs
 returns-5 : tie.Need-returns-5
 returns-5 c =
     let if1 = c .before .before .before .before .before .before .before .before .before .before .before .before .before .before .before .before .before .before .before .before .if1 in
-    let meets = c .before .before .before .before .before .before .before .before .before .before .before .before .before .meets in
+    let meets = c .before .before .before .before .before .before .before .before .before .before .before .before .before .may-contract in
     let if3 = c .before .before .before .before .if3 in
     let same-leaving = c .before .before .same-leaving in
     let if4 = c .before .if4 in
@@ -131,7 +131,7 @@ accepts-spec =
     returns
     cast-if2
     returns-2
-    meets-requires
+    may-contract-requires
     same-length
     same-length-2
     same-length-3

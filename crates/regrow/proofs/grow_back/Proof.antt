@@ -1,7 +1,7 @@
 -- `grow_back` meets its contract.
 use mathlib.Core.Path.{refl}
 use Rattle.follow.specs.Follow.{refused, followed}
-use Rattle.regrow.proofs.Judging.{grow-ready}
+use Rattle.regrow.proofs.Ready.{grow-ready}
 use borrow.Author.Needs.{needs}
 use Rattle.regrow.proofs.grow_back.Statement.{statement}
 use Rattle.regrow.proofs.grow_back.Tie as tie

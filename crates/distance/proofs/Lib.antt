@@ -1,0 +1,4 @@
+pub mod Ranges
+pub mod Limiting
+pub mod Shift
+pub mod Examples

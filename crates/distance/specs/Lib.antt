@@ -1,0 +1,3 @@
+pub mod Corners
+pub mod InnerChain
+pub mod Inner

@@ -1,0 +1,2 @@
+pub mod Leave
+pub mod Recording
