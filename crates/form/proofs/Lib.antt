@@ -1,4 +1,3 @@
-pub mod Heading
 pub mod Lower
 pub mod Formed
 pub mod Within

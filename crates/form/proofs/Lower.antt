@@ -11,7 +11,7 @@ use Rattle.lines.proofs.Cut.{lines-unique}
 use Rattle.lines.proofs.Turns.{front}
 use Rattle.reading.specs.Inner.{same, LinesOf}
 use Rattle.reading.proofs.Lining.{as-coordinates, their-bytes, their-short}
-use Rattle.form.specs.Limits.{most-digits}
+use Rattle.heading.specs.Heading.{most-digits}
 use Rattle.form.specs.Form.{CountsIn}
 use Rattle.form.specs.Inner.{BodyAt, NoBody, Rooms}
 

@@ -7,8 +7,10 @@ use lib.IntN.{ℤ, pos}
 use lib.ListN.{length, length-map}
 use Rattle.lines.specs.Kinds.{C, R, corner-lines, row-lines}
 use Rattle.lines.proofs.Cut.{lines-unique}
-use Rattle.form.specs.Form.{sheet-text, SheetOf}
-use Rattle.form.proofs.Formed.{same-first, its-line}
+use Rattle.lines.proofs.Plain.{pos-same}
+use Rattle.form.specs.Form.{SKIN, sheet-text, SheetOf}
+use Rattle.heading.proofs.Heading.{same-first}
+use Rattle.form.proofs.Formed.{its-line}
 
 -- ---- one text for its corners and rows
 
@@ -28,16 +30,10 @@ pub record Same (n m n′ m′ : ℕ) (xs xs′ : List ℤ) (t t′ : List ℕ) 
   pub coordinates : xs ≡ xs′
   pub numbers : t ≡ t′
 
-pos-same : (t u : List ℕ) → map pos t ≡ map pos u → t ≡ u
-pos-same [] [] e = refl
-pos-same [] (y ∷ u) e = absurd (let z : _≡_ {A = ℕ} 0 1 = cc in omega arith)
-pos-same (x ∷ t) [] e = absurd (let z : _≡_ {A = ℕ} 0 1 = cc in omega arith)
-pos-same (x ∷ t) (y ∷ u) e = let a : x ≡ y = cc in let f : map pos t ≡ map pos u = cc in let b = pos-same t u f in λ i. a i ∷ b i
-
 -- a sheet has one table and one list of corners
 pub one-skin : {b : List ℕ} {n m n′ m′ : ℕ} {xs xs′ : List ℤ} {t t′ : List ℕ} → SheetOf b n m xs t → SheetOf b n′ m′ xs′ t′ → Same n m n′ m′ xs xs′ t t′
 one-skin {b} {n} {m} {n′} {m′} {xs} {xs′} {t} {t′} s u =
-    let f = same-first b n m n′ m′ (corner-lines n xs ++ row-lines m t) (corner-lines n′ xs′ ++ row-lines m′ t′) (its-line s) (its-line u) in
+    let f = same-first SKIN b n m n′ m′ (corner-lines n xs ++ row-lines m t) (corner-lines n′ xs′ ++ row-lines m′ t′) (its-line s) (its-line u) in
     let p : length xs′ ≡ n * 3 = u .corners ∙ ap (λ (k : ℕ). k * 3) (sym (f .corners)) in
     let q : length (map pos t′) ≡ m * 3 = length-map t′ pos ∙ u .rows ∙ ap (λ (k : ℕ). k * 3) (sym (f .rows)) in
     let g = lines-unique C 3 n xs xs′ (row-lines m t) (row-lines m t′) (s .corners) p (f .after ∙ (λ i. corner-lines (sym (f .corners) i) xs′ ++ row-lines (sym (f .rows) i) t′)) in

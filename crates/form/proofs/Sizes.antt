@@ -3,23 +3,16 @@ use mathlib.Core.Path.{_≡_, sym, _∙_, ap, subst}
 use mathlib.Core.List.{List, [], _∷_, _++_, map}
 use Prim.Native.Nat.{ℕ, zero, suc, _+_, _*_, _≤_}
 use native.Mathlib.Omega.{arith}
-use lib.IntN.{ℤ, pos, negsuc, natAbs}
+use lib.IntN.{ℤ, pos}
 use lib.ListN.{length, length-append, take, drop, length-drop, length-map, take-append-drop}
 use lib.Seq.{length-take-le}
-use Rattle.text.specs.Decimal.{decimal, signed}
 use Rattle.lines.specs.Lines.{fields, line, lines, FewDigits}
+use Rattle.heading.proofs.Sizes.{fields-size}
 use Rattle.lines.specs.Kinds.{corner-lines, row-lines}
 use Rattle.lines.proofs.Cut.{short-left, short-right}
-use Rattle.form.specs.Limits.{most-sheet-bytes, most-digits}
-use Rattle.form.specs.Form.{SKIN, first-line, CountsIn, SheetOf}
-
-pub signed-size : (z : ℤ) → length (signed z) ≤ 1 + length (decimal (natAbs z))
-signed-size (pos n) = omega arith
-signed-size (negsuc n) = omega arith
-
-pub fields-size : (zs : List ℤ) → FewDigits most-digits zs → length (fields zs) ≤ length zs * 8
-fields-size [] a = omega arith
-fields-size (z ∷ zs) a = let h = a .0 in omega (arith, length-append (signed z) (fields zs), signed-size z, fields-size zs (a .1))
+use Rattle.heading.specs.Heading.{most-digits, first-line}
+use Rattle.form.specs.Limits.{most-sheet-bytes}
+use Rattle.form.specs.Form.{SKIN, CountsIn, SheetOf}
 
 line-size : (w : List ℕ) (zs : List ℤ) → FewDigits most-digits zs → length (line w zs) ≤ length w + length zs * 8 + 1
 line-size w zs a = omega (arith, length-append w (fields zs ++ (10 ∷ [])), length-append (fields zs) (10 ∷ []), fields-size zs a)
@@ -39,4 +32,4 @@ sheet-size {b} {n} {m} {xs} {t} s c =
     let f = line-size SKIN (pos n ∷ pos m ∷ []) (s .counts-short) in
     let x = lines-size 67 n xs (s .corners-short) (s .corners) in
     let y = lines-size 82 m (map pos t) (s .rows-short) (length-map t pos ∙ s .rows) in
-    omega (arith, ap length (s .text), length-append (first-line n m) (corner-lines n xs ++ row-lines m t), length-append (corner-lines n xs) (row-lines m t))
+    omega (arith, ap length (s .text), length-append (first-line SKIN n m) (corner-lines n xs ++ row-lines m t), length-append (corner-lines n xs) (row-lines m t))

@@ -8,26 +8,18 @@ use lib.ListN.{length}
 use Rattle.surface.specs.Limits.{least-rows, least-corners}
 use Rattle.refusal.specs.First.{Refusals, _when_}
 use Rattle.refusal.specs.declared.Refusal.the-variants.{SheetForm, CountsOutside}
-use Rattle.lines.specs.Lines.{line, FewDigits, LineAt}
+use Rattle.lines.specs.Lines.{FewDigits}
 use Rattle.lines.specs.Kinds.{corner-lines, row-lines}
-use Rattle.form.specs.Limits.{most-sheet-bytes, most-sheet-rows, most-sheet-corners, most-digits}
+use Rattle.heading.specs.Heading.{most-digits, first-line, Begins, NoFirstLine}
+use Rattle.form.specs.Limits.{most-sheet-bytes, most-sheet-rows, most-sheet-corners}
 
 -- the word of its first line: SKIN
 abbrev pub SKIN : List ℕ
 SKIN = 83 ∷ 75 ∷ 73 ∷ 78 ∷ []
 
--- `SKIN`, corners, rows
-abbrev pub first-line : ℕ → ℕ → List ℕ
-first-line n m = line SKIN (pos n ∷ pos m ∷ [])
-
 -- the text of n corners with the coordinates xs and of m rows with the numbers t
 abbrev pub sheet-text : ℕ → ℕ → List ℤ → List ℕ → List ℕ
-sheet-text n m xs t = first-line n m ++ (corner-lines n xs ++ row-lines m t)
-
--- b begins with the first line of n corners and m rows
-pub record Begins (b : List ℕ) (n m : ℕ) : Type 0 where
-  pub rest : List ℕ
-  pub line : LineAt most-digits SKIN b (pos n ∷ pos m ∷ []) rest
+sheet-text n m xs t = first-line SKIN n m ++ (corner-lines n xs ++ row-lines m t)
 
 -- 4 to 514 corners, 4 to 1,024 rows
 pub record CountsIn (n m : ℕ) : Type 0 where
@@ -46,15 +38,11 @@ pub record SheetOf (b : List ℕ) (n m : ℕ) (xs : List ℤ) (t : List ℕ) : T
   pub corners-short : FewDigits most-digits xs
   pub rows-short : FewDigits most-digits (map pos t)
 
--- the first line is not in its form
-abbrev pub NoFirstLine : List ℕ → Type 0
-NoFirstLine b = (n m : ℕ) → ¬ Begins b n m
-
 -- the counts of the first line are outside the sheet's limits
 pub record CountsOut (b : List ℕ) : Type 0 where
   pub n : ℕ
   pub m : ℕ
-  pub begins : Begins b n m
+  pub begins : Begins SKIN b n m
   pub out : ¬ CountsIn n m
 
 -- no sheet has this text. Where the first line is in its form and its counts are in, the other lines are not in theirs, or something follows the last row
@@ -65,7 +53,7 @@ NoSheet b = (n m : ℕ) (xs : List ℤ) (t : List ℕ) → ¬ SheetOf b n m xs t
 unfoldable pub form-refusals : List ℕ → Refusals
 form-refusals b =
     (SheetForm when (most-sheet-bytes < length b))
-    ∷ (SheetForm when NoFirstLine b)
+    ∷ (SheetForm when NoFirstLine SKIN b)
     ∷ (CountsOutside when CountsOut b)
     ∷ (SheetForm when NoSheet b)
     ∷ []

@@ -1,24 +1,18 @@
 -- What inner functions are asked on and give: no public contract names it.
 use mathlib.Core.Path.{_≡_}
-use mathlib.Core.List.{List, [], _∷_, _++_, map}
+use mathlib.Core.List.{List, _++_, map}
 use Prim.Native.Nat.{ℕ, _*_, _≤_}
 use lib.IntN.{ℤ, pos}
-use lib.ListN.{length, take, drop}
+use lib.ListN.{length, take}
 use Rattle.refusal.specs.First.{First}
 use Rattle.refusal.specs.declared.Verdict.the-variants as verdict
-use Rattle.lines.specs.Lines.{FewDigits, LineAt}
+use Rattle.lines.specs.Lines.{FewDigits}
 use Rattle.lines.specs.Kinds.{corner-lines, row-lines}
-use Rattle.form.specs.Limits.{most-numbers, most-coordinates, most-digits}
-use Rattle.form.specs.declared.FirstLine.{FirstLine}
-use Rattle.form.specs.declared.FirstLine.the-variants as line
+use Rattle.heading.specs.Heading.{most-digits}
+use Rattle.form.specs.Limits.{most-numbers, most-coordinates}
 use Rattle.form.specs.declared.Form.{Form}
 use Rattle.form.specs.declared.Form.the-variants.{Read, Refused}
-use Rattle.form.specs.Form.{SKIN, CountsIn, SheetOf, NoFirstLine, form-refusals}
-
--- what the reader of the first line answers
-unfoldable pub ReadFirst : List ℕ → FirstLine → Type 0
-ReadFirst b (line.Read n m c) = LineAt most-digits SKIN b (pos n ∷ pos m ∷ []) (drop (c .at) b)
-ReadFirst b line.Bad = NoFirstLine b
+use Rattle.form.specs.Form.{CountsIn, SheetOf, form-refusals}
 
 -- l is the lines of n corners with the coordinates xs and of m rows with the numbers t, and nothing else
 pub record BodyAt (l : List ℕ) (n m : ℕ) (xs : List ℤ) (t : List ℕ) : Type 0 where

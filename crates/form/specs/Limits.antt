@@ -19,7 +19,3 @@ most-numbers = most-sheet-rows * 3
 
 abbrev pub most-coordinates : ℕ
 most-coordinates = most-sheet-corners * 3
-
--- "Numbers have one to six digits"
-abbrev pub most-digits : ℕ
-most-digits = 6

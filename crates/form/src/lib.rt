@@ -3,7 +3,8 @@ ghost use Prim.Native.Nat.{_*_};
 ghost use lib.ListN.{take, drop};
 ghost use Rattle.refusal.specs.InnerTells.{Tells};
 ghost use Rattle.form.specs.Form.{CountsIn};
-ghost use Rattle.form.specs.Inner.{ReadFirst, BodyAt, NoBody, Rooms, ReadForm};
+ghost use Rattle.form.specs.Inner.{BodyAt, NoBody, Rooms, ReadForm};
+use heading::FirstLine;
 use refusal::Refusal;
 use text::Cursor;
 use text::Passed;
@@ -20,19 +21,10 @@ pub const NUMBERS: usize = MOST_ROWS * 3;
 
 pub const COORDINATES: usize = MOST_CORNERS * 3;
 
-// Numbers have one to six digits.
-const MOST_DIGITS: usize = 6;
-
 // The corner count and the row count of a sheet in its form, or a refusal.
 pub enum Form {
     Read(usize, usize),
     Refused(Refusal),
-}
-
-// The first line's corner count, row count and the place after it, or that it is not in its form.
-pub enum FirstLine {
-    Read(usize, usize, Cursor),
-    Bad,
 }
 
 // Whether the counts are inside a sheet's limits.
@@ -54,29 +46,16 @@ fn counts_in(n: usize, m: usize) -> bool
     true
 }
 
-// The first line: its word and the two counts.
-fn first_line(bytes: &[u8]) -> FirstLine
-    ensures { λ r. ⌜ ReadFirst (now (bytes .entry)) r ⌝ }
-{
-    let mut counts = [0u32; 2];
-    let start = Cursor { at: 0 };
-    let read = reading::number_line(bytes, start, b"SKIN", MOST_DIGITS, 2, &mut counts, 0);
-    let Passed::To(after) = read else {
-        return FirstLine::Bad;
-    };
-    FirstLine::Read(counts[0] as usize, counts[1] as usize, after)
-}
-
 // The lines after the first one, each kind into its room; nothing follows the last row.
 fn read_body(bytes: &[u8], from: Cursor, n: usize, m: usize, xs: &mut [i32], t: &mut [u32]) -> bool
     requires { ⌜ CountsIn n m × Rooms (now xs) (now t) ⌝ }
     ensures { λ r. ⌜ Tells r (BodyAt (drop (from .at) (now (bytes .entry))) n m (take (n * 3) (now (xs .exit))) (take (m * 3) (now (t .exit)))) (NoBody (drop (from .at) (now (bytes .entry))) n m) ⌝ }
 {
-    let corners = reading::coordinate_lines(bytes, from, b"C", MOST_DIGITS, 3, n, xs);
+    let corners = reading::coordinate_lines(bytes, from, b"C", heading::MOST_DIGITS, 3, n, xs);
     let Passed::To(middle) = corners else {
         return false;
     };
-    let rows = reading::number_lines(bytes, middle, b"R", MOST_DIGITS, 3, m, t);
+    let rows = reading::number_lines(bytes, middle, b"R", heading::MOST_DIGITS, 3, m, t);
     let Passed::To(end) = rows else {
         return false;
     };
@@ -95,7 +74,7 @@ pub fn read_form(bytes: &[u8], xs: &mut [i32], t: &mut [u32]) -> Form
     if MOST_BYTES < bytes.len() {
         return Form::Refused(Refusal::SheetForm);
     }
-    let first = first_line(bytes);
+    let first = heading::first_line(bytes, b"SKIN");
     let FirstLine::Read(n, m, after) = first else {
         return Form::Refused(Refusal::SheetForm);
     };

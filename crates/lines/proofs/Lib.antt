@@ -1,3 +1,5 @@
 pub mod Cut
 pub mod Turns
 pub mod Storing
+pub mod Plain
+pub mod Lengths

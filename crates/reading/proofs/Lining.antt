@@ -66,6 +66,42 @@ module _ {most width : ℕ} {w l : List ℕ} where
 
 -- ---- lines
 
+module _ {A : Type 0} {f : A → ℤ} {most : ℕ} {w : List ℕ} {width i : ℕ} {l : List ℕ} {ns : List A} {r : List ℕ} (n : length ns ≡ i * width) (a : LinesOf f most w width i l ns r) where
+  mapped : length (map f ns) ≡ i * width
+  mapped = length-map ns f ∙ n
+
+  -- one line more
+  pub lines-on : (ms : List A) {q : List ℕ} → length ms ≡ width → LineOf f most w r ms q → LinesOf f most w width (suc i) l (ns ++ ms) q
+  lines-on ms {q} d b =
+      let both : map f (ns ++ ms) ≡ map f ns ++ map f ms = map-append f ns ms in
+      let more = lines-more w width i (map f ns) (map f ms) mapped (length-map ms f ∙ d) in
+      record {
+        bytes = a .bytes ∙ ap (λ x. lines w width i (map f ns) ++ x) (b .bytes) ∙ sym (append-assoc (lines w width i (map f ns)) (line w (map f ms)) q) ∙ ap (λ x. x ++ q) (sym (ap (lines w width (suc i)) both ∙ more));
+        short = subst (FewDigits most) (sym both) (short-append most (map f ns) (map f ms) (a .short) (b .short));
+      }
+
+  -- no line is next, so there are not more
+  pub no-next : {count : ℕ} → i < count → ((ms : List A) (q : List ℕ) → length ms ≡ width → ¬ LineOf f most w r ms q) → (ys : List A) (q : List ℕ) → length ys ≡ count * width → ¬ LinesOf f most w width count l ys q
+  no-next {count} h none ys q m b =
+      let j = count - suc i in
+      let e : count ≡ i + suc j = omega arith in
+      let o : length ys ≡ (i + suc j) * width = m ∙ ap (λ (x : ℕ). x * width) e in
+      let v = cut-lines w width i count (suc j) (map f ns) (map f ys) r q e mapped (length-map ys f ∙ m) (sym (a .bytes) ∙ b .bytes) in
+      -- the numbers of the lines that are left
+      let us = drop (i * width) ys in
+      let is : v .ts ≡ map f us = sym (drop-at (map f ns) (v .ts) (i * width) mapped) ∙ ap (drop (i * width)) (sym (v .text)) ∙ sym (map-drop f (i * width) ys) in
+      let short : FewDigits most (v .ts) = short-right most (map f ns) (v .ts) (subst (FewDigits most) (v .text) (b .short)) in
+      let first : map f (take width us) ≡ take width (v .ts) = map-take f width us ∙ ap (take width) (sym is) in
+      let all = length-drop (i * width) ys in
+      none (take width us) (lines w width j (drop width (v .ts)) ++ q) (length-take-le width us (omega arith)) (
+      rw first (
+      record {
+        bytes = v .after ∙ append-assoc (line w (take width (v .ts))) (lines w width j (drop width (v .ts))) q;
+        short = short-left most (take width (v .ts)) (drop width (v .ts)) (subst (FewDigits most) (sym (take-append-drop width (v .ts))) short);
+      }
+      )
+      )
+
 module _ {A : Type 0} (f : A → ℤ) (most width count : ℕ) (s : List ℕ) (at : ℕ) (w : List ℕ) (room : List A) where
   -- i lines are read, up to k
   pub record Lined (room′ : List A) (k start i : ℕ) : Type 0 where
@@ -80,47 +116,21 @@ module _ {A : Type 0} {f : A → ℤ} {most width count : ℕ} {s : List ℕ} {a
   pub line-room : count * width ≤ length room → i < count → start + width ≤ length room′
   line-room h l = let p = so .place in let m : suc i * width ≤ count * width = mul-le-mul l (le-refl width) in omega (arith, put-length (so .put))
 
-  mapped : length (map f (so .put .zs)) ≡ i * width
-  mapped = length-map (so .put .zs) f ∙ so .put .count
-
   pub lines-next : (room₂ : List A) (n : ℕ) → i < count → PutFrom (LineOf f most w (drop k s)) width room′ start room₂ (drop n s) → Lined f most width count s at w room room₂ n (start + width) (i + 1)
   lines-next room₂ n h q = let p = so .put in let a = so .place in let c = p .count in let d = q .count in
       let e : suc i ≡ i + 1 = omega arith in
       let g : start ≡ 0 + i * width = omega arith in
-      let both : map f (p .zs ++ q .zs) ≡ map f (p .zs) ++ map f (q .zs) = map-append f (p .zs) (q .zs) in
-      let more = lines-more w width i (map f (p .zs)) (map f (q .zs)) mapped (length-map (q .zs) f ∙ d) in
       let m : PutFrom (LinesOf f most w width (suc i) (drop at s)) (suc i * width) room 0 room₂ (drop n s) = record {
         zs = p .zs ++ q .zs;
         count = length-append (p .zs) (q .zs) ∙ (omega arith);
-        here = record {
-          bytes = p .here .bytes ∙ ap (λ x. lines w width i (map f (p .zs)) ++ x) (q .here .bytes) ∙ sym (append-assoc (lines w width i (map f (p .zs))) (line w (map f (q .zs))) (drop n s)) ∙ ap (λ x. x ++ drop n s) (sym (ap (lines w width (suc i)) both ∙ more));
-          short = subst (FewDigits most) (sym both) (short-append most (map f (p .zs)) (map f (q .zs)) (p .here .short) (q .here .short));
-        };
+        here = lines-on c (p .here) (q .zs) d (q .here);
         put = put-more room room′ room₂ 0 (i * width) (p .zs) (q .zs) (p .put) c (q .put ∙ ap (λ (x : ℕ). sets room′ x (q .zs)) g);
       } in
       record { within = omega arith; place = omega arith; put = subst (λ (x : ℕ). PutFrom (LinesOf f most w width x (drop at s)) (x * width) room 0 room₂ (drop n s)) e m }
 
   -- no line is next, so there are not enough
-  pub lines-stop : i < count → ((ns : List A) (r : List ℕ) → length ns ≡ width → ¬ LineOf f most w (drop k s) ns r) → (ys : List A) (r : List ℕ) → length ys ≡ count * width → LinesOf f most w width count (drop at s) ys r → ⊥
-  lines-stop h none ys r n b = let p = so .put in
-      let j = count - suc i in
-      let e : count ≡ i + suc j = omega arith in
-      let o : length ys ≡ (i + suc j) * width = n ∙ ap (λ (x : ℕ). x * width) e in
-      let v = cut-lines w width i count (suc j) (map f (p .zs)) (map f ys) (drop k s) r e mapped (length-map ys f ∙ n) (sym (p .here .bytes) ∙ b .bytes) in
-      -- the numbers of the lines that are left
-      let us = drop (i * width) ys in
-      let is : v .ts ≡ map f us = sym (drop-at (map f (p .zs)) (v .ts) (i * width) mapped) ∙ ap (drop (i * width)) (sym (v .text)) ∙ sym (map-drop f (i * width) ys) in
-      let short : FewDigits most (v .ts) = short-right most (map f (p .zs)) (v .ts) (subst (FewDigits most) (v .text) (b .short)) in
-      let first : map f (take width us) ≡ take width (v .ts) = map-take f width us ∙ ap (take width) (sym is) in
-      let all = length-drop (i * width) ys in
-      none (take width us) (lines w width j (drop width (v .ts)) ++ r) (length-take-le width us (omega arith)) (
-      rw first (
-      record {
-        bytes = v .after ∙ append-assoc (line w (take width (v .ts))) (lines w width j (drop width (v .ts))) r;
-        short = short-left most (take width (v .ts)) (drop width (v .ts)) (subst (FewDigits most) (sym (take-append-drop width (v .ts))) short);
-      }
-      )
-      )
+  pub lines-stop : i < count → ((ns : List A) (r : List ℕ) → length ns ≡ width → ¬ LineOf f most w (drop k s) ns r) → (ys : List A) (r : List ℕ) → length ys ≡ count * width → ¬ LinesOf f most w width count (drop at s) ys r
+  lines-stop h none = no-next (so .put .count) (so .put .here) h none
 
   pub lines-end : count ≤ i → PutFrom (LinesOf f most w width count (drop at s)) (count * width) room 0 room′ (drop k s)
   lines-end h = let a = so .within in let e : i ≡ count = omega arith in subst (λ (x : ℕ). PutFrom (LinesOf f most w width x (drop at s)) (x * width) room 0 room′ (drop k s)) e (so .put)

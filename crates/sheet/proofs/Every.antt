@@ -18,7 +18,8 @@ use Rattle.lines.specs.Lines.{FewDigits}
 use Rattle.sheet.specs.declared.Sheet.{Sheet}
 use Rattle.sheet.specs.declared.Sheet.the-variants.{Read}
 use Rattle.lines.specs.Kinds.{corner-lines, row-lines}
-use Rattle.form.specs.Limits.{most-digits, most-sheet-corners, most-sheet-rows}
+use Rattle.heading.specs.Heading.{most-digits}
+use Rattle.form.specs.Limits.{most-sheet-corners, most-sheet-rows}
 use Rattle.form.specs.Form.{sheet-text, CountsIn, SheetOf, form-refusals}
 use Rattle.sheet.specs.Outcome.{ReadSheet, read}
 use Rattle.form.proofs.Sizes.{sheet-size}

@@ -1,11 +1,10 @@
 -- How long the lines are, and that one after the other they are the text.
 use mathlib.Core.Path.{_≡_, refl, sym, _∙_, ap, subst}
 use mathlib.Core.List.{List, [], _∷_, _++_, append-nil, map}
-use Prim.Native.Nat.{ℕ, zero, suc, _+_, _*_, _/_, _≤_, _<_}
+use Prim.Native.Nat.{ℕ, _+_, _*_, _/_, _≤_, _<_}
 use native.Mathlib.Omega.{arith}
 use lib.IntN.{ℤ, pos}
-use lib.ListN.{length, length-append, length-map, take, drop}
-use lib.Seq.{take-add, take-all}
+use lib.ListN.{length, length-append}
 use mir.Syntax.{w64}
 use mir.Val.{SFits, toZ, ofZ}
 use mir.ValLaws.{toZ-ofZ}
@@ -13,37 +12,15 @@ use Rattle.refusal.specs.declared.Refusal.{Refusal}
 use Rattle.refusal.specs.Number.{number}
 use Rattle.text.specs.InnerReading.{Written}
 use Rattle.record.specs.Layout.{width, count}
-use Rattle.lines.specs.Lines.{newline, fields, line, lines, plain}
+use Rattle.lines.specs.Lines.{fields, line}
 use Rattle.lines.specs.Kinds.{R, K, row-lines, record-lines}
-use Rattle.lines.proofs.Cut.{fields-append}
+use Rattle.lines.proofs.Lengths.{line-length, plain-length}
 use Rattle.lines.proofs.Turns.{in-front}
 use Rattle.writing.proofs.Writing.{Onward, onward-start, onward, onward-end, onward-fits, onward-front}
 use Rattle.tell.specs.declared.Answer.the-variants as answer
 use Rattle.tell.specs.Text.{OK, NO, no-text, run-text}
 use Rattle.tell.specs.Put.{Put, fits}
 use Rattle.tell.specs.Inner.{most-told, CanTell}
-
-pub line-length : (w : List ℕ) (zs : List ℤ) → length (line w zs) ≡ length w + 1 + length (fields zs)
-line-length w zs = omega (arith, length-append w (fields zs ++ (newline ∷ [])), length-append (fields zs) (newline ∷ []))
-
--- the fields of two lists of numbers, one after the other
-fields-both : (xs ys : List ℤ) → length (fields (xs ++ ys)) ≡ length (fields xs) + length (fields ys)
-fields-both xs ys = ap length (fields-append xs ys) ∙ length-append (fields xs) (fields ys)
-
--- each line adds its word and its newline to its fields
-pub lines-length : (w : List ℕ) (each k : ℕ) (zs : List ℤ) → length (lines w each k zs) ≡ k * (length w + 1) + length (fields (take (k * each) zs))
-lines-length w each zero zs = let e : 0 * each ≡ 0 = omega arith in let n = ap (λ (j : ℕ). length (fields (take j zs))) e in omega arith
-lines-length w each (suc k) zs =
-    let e : suc k * each ≡ each + k * each = omega arith in
-    let t = ap (λ l. length (fields l)) (ap (λ (j : ℕ). take j zs) e ∙ take-add each (k * each) zs) ∙ fields-both (take each zs) (take (k * each) (drop each zs)) in
-    omega (arith, length-append (line w (take each zs)) (lines w each k (drop each zs)), line-length w (take each zs), lines-length w each k (drop each zs))
-
--- lines that take all of their plain numbers
-plain-length : (w : List ℕ) (each k : ℕ) (ns : List ℕ) → length ns ≡ k * each → length (plain w each k ns) ≡ k * (length w + 1) + length (fields (map pos ns))
-plain-length w each k ns h =
-    let m = length-map ns pos in
-    let e = ap (λ l. length (fields l)) (take-all (k * each) (map pos ns) (omega arith)) in
-    omega (arith, lines-length w each k (map pos ns))
 
 -- what is written from the start on stands in front, the rest as it was
 pub put-front : {txt l l′ : List ℕ} {r : ℕ} → length txt ≤ length l → Written l 0 txt r l′ → Put txt l (answer.Written r) l′

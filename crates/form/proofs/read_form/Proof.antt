@@ -1,8 +1,8 @@
 -- `read_form` meets its contract.
 use borrow.Author.Tests.{not-true, not-false}
-use Rattle.form.specs.Inner.{ReadFirst, ReadForm}
+use Rattle.heading.specs.Inner.{ReadFirst}
+use Rattle.form.specs.Inner.{ReadForm}
 use Rattle.form.proofs.Formed.{too-long, no-first-line, refuse-counts, refuse-lines, form-read}
-use native.Mathlib.Omega.{arith}
 use borrow.Author.Needs.{needs}
 use Rattle.form.proofs.read_form.Statement.{statement}
 use Rattle.form.proofs.read_form.Tie as tie
@@ -12,6 +12,9 @@ unfolding ReadForm
 returns c =
     let args = c .before .before .before .args in
     too-long (args .bytes .now) (c .if1 .taken)
+
+slice-aggregate-first-line : tie.Need-slice-aggregate-first-line
+slice-aggregate-first-line c = search needs
 
 first-line-requires : tie.Need-first-line-requires
 first-line-requires c κs = search needs
@@ -25,8 +28,8 @@ enum-told c = search needs
 returns-2 : tie.Need-returns-2
 unfolding ReadForm ReadFirst
 returns-2 c =
-    let args = c .before .before .before .before .before .before .args in
-    let if1 = c .before .before .before .if1 in
+    let args = c .before .before .before .before .before .before .before .args in
+    let if1 = c .before .before .before .before .if1 in
     let first-line = c .before .before .first-line in
     no-first-line (args .bytes .now) (if1 .left) (rw (c .enum-told .given .1) at (first-line .ensures))
 
@@ -38,7 +41,7 @@ unfolding ReadForm ReadFirst
 returns-3 c =
     let first = c .before .before .before .first in
     let first-line = c .before .before .before .before .before .first-line in
-    let if1 = c .before .before .before .before .before .before .if1 in
+    let if1 = c .before .before .before .before .before .before .before .if1 in
     let line = rw (first .given .1) at (first-line .ensures) in
     refuse-counts _ (if1 .left) _ _ _ line (c .before .counts-in .ensures .when-false (not-true _ (c .if2 .taken)))
 
@@ -46,7 +49,7 @@ read-body-requires : tie.Need-read-body-requires
 read-body-requires c κs =
     let counts-in = c .before .before .before .counts-in in
     let if2 = c .before .before .if2 in
-    let pre = c .before .before .before .before .before .before .before .before .before .before .before .pre in
+    let pre = c .before .before .before .before .before .before .before .before .before .before .before .before .pre in
     (counts-in .ensures .when-true (not-false _ (if2 .left)), pre)
 
 same-length : tie.Need-same-length
@@ -62,7 +65,7 @@ returns-4 c =
     let first-line = c .before .before .before .before .before .before .before .before .before .before .before .before .first-line in
     let counts-in = c .before .before .before .before .before .before .before .before .counts-in in
     let if2 = c .before .before .before .before .before .before .before .if2 in
-    let if1 = c .before .before .before .before .before .before .before .before .before .before .before .before .before .if1 in
+    let if1 = c .before .before .before .before .before .before .before .before .before .before .before .before .before .before .if1 in
     let read-body = c .before .before .before .before .read-body in
     let line = rw (first .given .1) at (first-line .ensures) in
     let fit = counts-in .ensures .when-true (not-false _ (if2 .left)) in
@@ -81,7 +84,7 @@ returns-5 c =
     let first-line = c .before .before .before .before .before .before .before .before .before .before .before .before .first-line in
     let counts-in = c .before .before .before .before .before .before .before .before .counts-in in
     let if2 = c .before .before .before .before .before .before .before .if2 in
-    let if1 = c .before .before .before .before .before .before .before .before .before .before .before .before .before .if1 in
+    let if1 = c .before .before .before .before .before .before .before .before .before .before .before .before .before .before .if1 in
     let read-body = c .before .before .before .before .read-body in
     let line = rw (first .given .1) at (first-line .ensures) in
     let fit = counts-in .ensures .when-true (not-false _ (if2 .left)) in
@@ -92,6 +95,7 @@ read-form-spec =
     tie.close
     (tie.spec
     returns
+    slice-aggregate-first-line
     first-line-requires
     enum-known-first
     enum-told

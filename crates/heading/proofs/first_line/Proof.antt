@@ -1,17 +1,14 @@
 -- `first_line` meets its contract.
 use Rattle.lines.specs.Inner.{ReadInto}
-use Rattle.form.specs.Inner.{ReadFirst}
-use Rattle.form.proofs.Heading.{both-counts, counts-fit, no-counts}
+use Rattle.heading.specs.Inner.{ReadFirst}
+use Rattle.heading.proofs.Heading.{both-counts, counts-fit, no-counts}
 use native.Mathlib.Omega.{arith}
 use borrow.Author.Needs.{needs}
-use Rattle.form.proofs.first_line.Statement.{statement}
-use Rattle.form.proofs.first_line.Tie as tie
+use Rattle.heading.proofs.first_line.Statement.{statement}
+use Rattle.heading.proofs.first_line.Tie as tie
 
 slice-aggregate-number-line : tie.Need-slice-aggregate-number-line
 slice-aggregate-number-line c = search needs
-
-slice-aggregate-number-line-2 : tie.Need-slice-aggregate-number-line-2
-slice-aggregate-number-line-2 c = search needs
 
 number-line-requires : tie.Need-number-line-requires
 number-line-requires c κs = (record { some = omega arith; few = omega arith; line = omega arith }, omega arith)
@@ -28,21 +25,21 @@ returns c =
     let number-line = c .before .before .before .number-line in
     no-counts (rw (c .enum-told .given .1) at (number-line .ensures))
 
-array-read-t13 : tie.Need-array-read-t13
-array-read-t13 c = search needs
+array-read-t11 : tie.Need-array-read-t11
+array-read-t11 c = search needs
 
-cast-t14 : tie.Need-cast-t14
+cast-t12 : tie.Need-cast-t12
 unfolding ReadInto
-cast-t14 c =
+cast-t12 c =
     let number-line = c .before .before .before .before .number-line in
     counts-fit (both-counts (rw (c .before .read .given .1) at (number-line .ensures))) .0
 
-array-read-t17 : tie.Need-array-read-t17
-array-read-t17 c = search needs
+array-read-t15 : tie.Need-array-read-t15
+array-read-t15 c = search needs
 
-cast-t18 : tie.Need-cast-t18
+cast-t16 : tie.Need-cast-t16
 unfolding ReadInto
-cast-t18 c =
+cast-t16 c =
     let number-line = c .before .before .before .before .number-line in
     counts-fit (both-counts (rw (c .before .read .given .1) at (number-line .ensures))) .1
 
@@ -57,13 +54,12 @@ first-line-spec =
     tie.close
     (tie.spec
     slice-aggregate-number-line
-    slice-aggregate-number-line-2
     number-line-requires
     enum-known-read
     enum-told
     returns
-    array-read-t13
-    cast-t14
-    array-read-t17
-    cast-t18
+    array-read-t11
+    cast-t12
+    array-read-t15
+    cast-t16
     returns-2)

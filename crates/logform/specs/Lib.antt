@@ -1,0 +1,2 @@
+pub mod LogSheet
+pub mod Inner

@@ -1,0 +1,4 @@
+pub mod Reading
+pub mod Shortness
+pub mod Writing
+pub mod Main
