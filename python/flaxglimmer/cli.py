@@ -107,7 +107,8 @@ def command(name: str, **settings):
 def main():
     """Thins scanned skins of shafts by a proved library: checks them, says where a fault lies, and reports.
 
-    FILE is a scan (.stl, .obj, .ply, .off), whose --unit has to be told, or a sheet (.sheet). LOG is an answer of the desk: OK, R and K lines."""
+    FILE is a scan (.stl, .obj, .ply, .off), whose --unit has to be told, or a sheet (.sheet). LOG is an answer of the desk: OK, R and K lines.
+    In the repository `./flaxglimmer set-up` installs what is needed and builds the library."""
 
 
 # Options that several commands share
@@ -273,6 +274,13 @@ def text_outcome(text: str, path, name: str, notes: list) -> Outcome:
     return Outcome({"status": 0, name: None if path else text}, [] if path else text.splitlines(), notes=notes)
 
 
+def compared(told: Outcome, same: bool, text: str) -> Outcome:
+    """Tells whether rows are those expected: a note where they are, and where they are not a line that --quiet does not leave out."""
+    told.answer["same"] = same
+    (told.notes if same else told.errors).append(text)
+    return told
+
+
 # One call each
 
 
@@ -345,8 +353,8 @@ def grow_back(file, log, sheet, **prepared):
     with placed(skin, answer.rows, answer.log, backward=True):
         rows = calls.grow_back(answer.rows, len(skin.corners), answer.log)
     same = np.array_equal(rows, skin.rows)
-    notes = [f"the grown rows are {'those of' if same else 'NOT those of'} {skin.name}, number for number"]
-    return text_outcome(files.sheet_text(skins.Skin(rows, skin.corners)), sheet, "sheet", told_of(skin, 0) + notes)
+    told = text_outcome(files.sheet_text(skins.Skin(rows, skin.corners)), sheet, "sheet", told_of(skin, 0))
+    return compared(told, same, f"the grown rows are {'those of' if same else 'NOT those of'} {skin.name}, number for number")
 
 
 @command("replay")
@@ -361,8 +369,8 @@ def replay(file, answer, log, **prepared):
         rows = calls.replay(skin.rows, len(skin.corners), told.log)
         first, last = skin.volume(), calls.volume(rows, skin.corners)
     same = np.array_equal(rows, told.rows)
-    notes = [f"the rows reached are {'those of' if same else 'NOT those of'} {files.shown(answer)}, number for number"]
-    return text_outcome(files.answer_text(rows, told.log, first, last), log, "log", told_of(skin, first) + notes)
+    reached = text_outcome(files.answer_text(rows, told.log, first, last), log, "log", told_of(skin, first))
+    return compared(reached, same, f"the rows reached are {'those of' if same else 'NOT those of'} {files.shown(answer)}, number for number")
 
 
 @command("limit", ignore_unknown_options=True)  # a limit below zero is no option

@@ -214,6 +214,6 @@ def in_log(number: int, finder: Finder, log, records: int, backward: bool = Fals
         return (Fault(f"{len(finder.rows):,} rows, {len(finder.corners):,} corners, {len(log):,} records"),)
     if number == 5 and corner is not None:
         count = len(finder.corners)
-        named = [("the corner asked about", corner)] + [(f"record {at}", max(pair)) for at, pair in enumerate(log[:, :2].tolist())]
-        return tuple(Fault(f"{what} has corner {one}, and there are {count}, counted from 0", corners=(one,)) for what, one in named if one >= count)
+        named = [(f"corner {corner} is asked about", corner)] + [(f"record {at} has corner {max(pair)}", max(pair)) for at, pair in enumerate(log[:, :2].tolist())]
+        return tuple(Fault(f"{what}, and there are {count}, counted from 0", corners=(one,)) for what, one in named if one >= count)
     return finder.find(number)

@@ -57,7 +57,7 @@ def _binary_stl(head: bytes, size: int) -> int | None:
     if head.lstrip()[:5].lower() == b"solid":
         return None
     if len(head) < HEAD:
-        raise FileFault(f"no STL: {size} bytes that do not begin with 'solid'")
+        raise FileFault(f"no STL: {size} bytes that do not begin with 'solid'" if size else "the file is empty")
     how = "it is cut short, or is no STL" if size < HEAD + STL.itemsize * told else "it has more behind its rows, or is no STL"
     raise FileFault(f"a binary STL of {told:,} rows has {HEAD + STL.itemsize * told:,} bytes, and this file has {size:,}: {how}")
 

@@ -71,7 +71,7 @@ REFUSALS = [
     (2, "counts outside limits", lambda f: on_log(f, "replay", lambda log: log.replace("OK\t4\t2", "OK\t4\t3") + log.splitlines()[-1] + "\n"), "8 rows, 6 corners, 3 records"),
     (4, "a coordinate out of range: -50,000 to 50,000 cm", lambda f: scan(f, ROWS, POINTS + [600, 0, 0]), "corner 0 at (601.", ),
     (5, "a corner number not below the count", lambda f: scan(f, beyond(ROWS)), "row 10 has corner 999, and there are 242 corners"),
-    (5, "a corner number not below the count", lambda f: on_log(f, "shift", str, "6"), "the corner asked about has corner 6, and there are 6"),
+    (5, "a corner number not below the count", lambda f: on_log(f, "shift", str, "6"), "corner 6 is asked about, and there are 6"),
     (6, "a number twice in a row", lambda f: scan(f, flat(ROWS)), "row 10 has corner "),
     (7, "a directed edge twice", lambda f: scan(f, turned(ROWS)), "rows 10, "),
     (8, "a reverse missing", lambda f: scan(f, ROWS[1:]), "a hole of 3 edges beside rows "),
@@ -170,6 +170,7 @@ def test_the_commands_of_one_call_each(run, folder):
     # a log whose own rows are not those that it leads to
     answer.write_text(answer.read_text().replace("R\t0\t3\t4", "R\t3\t4\t0"))
     assert "NOT those of o.log" in run("replay", o, answer).err and run("replay", o, answer).out.splitlines()[1] == "R\t0\t3\t4"
+    assert "NOT those of o.log" in run("replay", o, answer, "--quiet").err and run("replay", o, answer, "--json").told["same"] is False
 
 
 def test_to_files_and_not_to_standard_output(run, folder):

@@ -122,7 +122,7 @@ def test_numbers_that_count_back_are_from_the_points_so_far():
 
 
 BROKEN = [
-    ("empty.stl", b"", "no STL: 0 bytes"),
+    ("empty.stl", b"", "the file is empty"),
     ("words.stl", b"these are words and no scan, and there are more than eighty-four of them, which is as many as a head has", "no STL"),
     ("nothing.stl", b"solid nothing\nendsolid nothing\n", "no facet"),
     ("empty.obj", b"", "no triangles"),
