@@ -55,8 +55,8 @@ passes (suc k) b at log rest n s e =
     let ns = take width log in
     let more = record-lines k (drop width log) ++ rest in
     let f : drop at b ≡ line K (map pos ns) ++ more =
-        e ∙ append-assoc (line K (take width (map pos log))) (lines K width k (drop width (map pos log))) rest
-        ∙ (λ i. line K (sym (map-take pos width log) i) ++ (lines K width k (sym (map-drop pos width log) i) ++ rest)) in
+    e ∙ append-assoc (line K (take width (map pos log))) (lines K width k (drop width (map pos log))) rest
+    ∙ (λ i. line K (sym (map-take pos width log) i) ++ (lines K width k (sym (map-drop pos width log) i) ++ rest)) in
     let short : FewDigits most-digits (take width (map pos log) ++ drop width (map pos log)) = subst (FewDigits most-digits) (sym (take-append-drop width (map pos log))) s in
     let here : LineStands b at ns = record {
       count = length-take-le width log (omega arith);

@@ -14,7 +14,7 @@ use Rattle.engine.proofs.Whole.{used-most}
 use Rattle.refusal.specs.Told as answers
 use Rattle.refusal.specs.First.{First}
 use Rattle.refusal.specs.declared.Verdict.the-variants as verdict
-use Rattle.refusal.proofs.Laws.{verdicts, first-one, refused-passes, passed, passes-none, none-yet, _nor_}
+use Rattle.refusal.proofs.Laws.{verdicts, first-one, refused-passes, passes-none, none-yet, _nor_}
 use Rattle.refusal.proofs.Outcome.{refused-done}
 use Rattle.faults.specs.Counts.{corners}
 use Rattle.run.proofs.Main.{taken-replayed}
@@ -27,23 +27,23 @@ use Rattle.tell.specs.declared.Answer.{Answer}
 use Rattle.tell.specs.declared.Answer.the-variants as text
 use Rattle.tell.specs.Answer as texts
 use Rattle.reply.proofs.Most.{log-few}
-use Rattle.heading.specs.Heading.{first-line, Begins}
-use Rattle.heading.proofs.Heading.{same-first}
-use Rattle.logform.specs.LogSheet.{LOG, most-log-bytes, log-text, LogSheetOf, CountsIn}
+use Rattle.heading.specs.Heading.{first-line}
+use Rattle.logform.specs.LogSheet.{LOG, most-log-bytes, log-text, LogSheetOf}
 use Rattle.logform.proofs.Forming.{its-line, one-log, only-log-sheet}
 use Rattle.logsheet.specs.declared.LogSheet.{LogSheet}
 use Rattle.logsheet.specs.declared.LogSheet.the-variants as sheet
 use Rattle.logsheet.specs.Answer as logs
-use Rattle.logsheet.specs.Outcome.{read-refusals, ReadLogSheet, refused, read, write-refusals, Writable, WroteLogSheet, unwritten, wrote}
+use Rattle.logsheet.specs.Outcome.{ReadLogSheet, refused, read, write-refusals, Writable, WroteLogSheet, unwritten, wrote}
 use Rattle.logsheet.proofs.Main.{its-log-sheet, log-size, written-reads}
 use Rattle.logrecords.specs.declared.Opened.{Opened}
 use Rattle.logrecords.specs.declared.Opened.the-variants as opens
 use Rattle.logrecords.specs.Answer.{told-opened}
-use Rattle.logrecords.specs.Outcome as opening
-use Rattle.logrecords.specs.Outcome.{open-refusals, OpenedLog, unopened, opened}
+use Rattle.logrecords.specs.Outcome.{OpenedLog, unopened, opened}
 use Rattle.logrecords.specs.Walk.{Walked, BreaksAfter, Broken}
 use Rattle.logrecords.proofs.Main.{opened-one}
 use Rattle.logrecords.proofs.Walking.{walked-through, broken-off}
+use Rattle.logreader.specs.Outcome.{EachRecord}
+use Rattle.logreader.proofs.Main.{open-passes, each-as-read, reader-through}
 use Rattle.promises.specs.Mailing.{Mailed, LogSheets}
 use Rattle.promises.proofs.Back.{restored, restored-from, replayed}
 use Rattle.promises.proofs.Figures.{shift-promised}
@@ -150,25 +150,12 @@ module _ {d : Asked} {xs : List ℤ} {t l : List ℕ} {k : ℕ} {t′ l′ : Lis
 
 -- ---- one by one
 
--- a sheet that passes the reader is opened
-open-passes : (b : List ℕ) (room : ℕ) {n m : ℕ} {log : List ℕ} → First (read-refusals b room) verdict.Passes → LogSheetOf b n m log → First (open-refusals b) verdict.Passes
-unfolding read-refusals open-refusals
-open-passes b room {n} {m} {log} f s =
-    let size = passed verdicts _ _ f in
-    let form = passed verdicts _ _ (size .1) in
-    let counts = passed verdicts _ _ (form .1) in
-    let begins : Begins LOG b n m = record { rest = _; line = its-line s } in
-    let inside : ¬ opening.CountsOut b = λ o.
-      let e = same-first LOG b n m (o .n) (o .m) _ _ (its-line s) (o .begins .line) in
-      counts .0 (record { n = n; m = m; log = log; sheet = s; out = λ c. o .out (rw (sym (e .corners), sym (e .rows)) (record { few = c .few; many = c .many; least = c .least; most = c .most; fewer = omega arith })) }) in
-    passes-none verdicts _ .1 (size .0 nor (λ none. none n m begins) nor inside nor none-yet)
-
 walks : {n m k : ℕ} {b room room′ : List ℕ} {a : LogSheet} {c : Opened} → ReadLogSheet b room room′ a → logs.told a ≡ answers.done (pos n ∷ pos m ∷ pos k ∷ []) → OpenedLog b c →
     (at : ℕ) × (told-opened c ≡ answers.done (pos n ∷ pos m ∷ pos at ∷ [])) × Walked b at (records (take (room-for k) room′))
 walks (refused {r = r} f e p) t o = absurd (refused-done r (sym (ap logs.told e) ∙ t))
 walks {n} {m} {k} {b} {room} {room′} (read f s e p) t o =
     let h = has-read (read f s e p) t in
-    let z = opened-one o (opened (open-passes b (length room) f (h .sheet)) (record { rest = _; line = its-line (h .sheet) }) refl) in
+    let z = opened-one o (opened (open-passes (h .sheet) (length room) f) (record { rest = _; line = its-line (h .sheet) }) refl) in
     (length (first-line LOG n m), ap told-opened z, rw (h .stands) (walked-through (h .sheet)))
 
 -- the place after the first line
@@ -180,16 +167,23 @@ opened-place (opened {n = x} {m = y} f s e) t =
     let hy = ap (told-at 1) g in
     sym (ap (told-at 2) g) ∙ (λ i. length (first-line LOG (hx i) (hy i)))
 
+-- record by record
+each-too : {b room room₁ room₂ : List ℕ} {n m k : ℕ} {a z : LogSheet} → ReadLogSheet b room room₁ a → logs.told a ≡ answers.done (pos n ∷ pos m ∷ pos k ∷ []) → EachRecord b room room₂ z →
+    (logs.told z ≡ answers.done (pos n ∷ pos m ∷ pos k ∷ [])) × (room₂ ≡ room₁)
+each-too {b} {room} {room₁} {a = a} r t x = let o = each-as-read (subst (λ y. ReadLogSheet b room room₁ y) (read-told a t) r) x in (ap logs.told (o .0), o .1)
+
 pub log-sheets : LogSheets
 log-sheets = record {
   same = λ w. mailed-same w;
   only = λ {n} {m} {k} {b} {c} p q s t e.
-    let h = has-read p s in
-    let g = has-read q t in
-    only-log-sheet (h .sheet) (subst (λ log. LogSheetOf c n m log) (sym (g .stands) ∙ sym e ∙ h .stands) (g .sheet));
+      let h = has-read p s in
+      let g = has-read q t in
+      only-log-sheet (h .sheet) (subst (λ log. LogSheetOf c n m log) (sym (g .stands) ∙ sym e ∙ h .stands) (g .sheet));
   writes = λ o w p q e h g. can-mail w p q e h g;
   reads = λ o w p q e t g h r. mailed-reads w p q e t g h r;
   one-by-one = λ r t o. walks r t o;
+  by-reader = λ r w t o g. let h = has-read w t in rw (h .stands) (reader-through r (h .sheet) (opened-place o g));
+  each = λ r t x. each-too r t x;
   breaks-off = λ w o t. rw (opened-place o t) (broken-off w);
   restores = λ o w m g. restored o (as-done w) (rw (mailed-same m .2) at g);
   restores-from = λ o w p q e h m g. restored-from w p q e h (rw (mailed-same m .2) at g);

@@ -21,6 +21,7 @@ use Rattle.reply.proofs.Main.{replied-one}
 use Rattle.logsheet.proofs.Main.{read-log-one, wrote-log-one}
 use Rattle.logrecords.proofs.Main.{opened-one, next-one}
 use Rattle.logreader.proofs.Main.{each-one}
+use Rattle.logreader.proofs.Again.{asked-one}
 use Rattle.promises.specs.Choice.{NothingLeft}
 use Rattle.promises.specs.Thinning.{DoneWith, DemandTwo, DemandThree}
 use Rattle.promises.specs.Stages.{StagesLeft}
@@ -46,6 +47,7 @@ nothing-left = record {
   each-record = λ p q. each-one p q;
   open-log = λ p q. opened-one p q;
   next-record = λ p q. next-one p q;
+  reader = λ p q. asked-one p q;
 }
 
 -- what tells 0 and k records is done with k

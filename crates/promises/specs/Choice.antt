@@ -32,7 +32,8 @@ use Rattle.logsheet.specs.Outcome.{ReadLogSheet, WroteLogSheet}
 use Rattle.logrecords.specs.declared.Opened.{Opened}
 use Rattle.logrecords.specs.declared.Next.{Next}
 use Rattle.logrecords.specs.Outcome.{OpenedLog, NextRecord}
-use Rattle.logreader.specs.Outcome.{EachRecord}
+use Rattle.logreader.specs.declared.Reader.{Reader}
+use Rattle.logreader.specs.Outcome.{Asked, EachRecord}
 
 -- the calls in the order of their numbers over a pipe: 1 to 15, 24, 25; each line names the relation that the call's `ensures` states
 pub record NothingLeft : Type 0 where
@@ -61,3 +62,5 @@ pub record NothingLeft : Type 0 where
   pub each-record : {b room : List ℕ} {a₁ a₂ : LogSheet} {room₁ room₂ : List ℕ} → EachRecord b room room₁ a₁ → EachRecord b room room₂ a₂ → (a₁ ≡ a₂) × (room₁ ≡ room₂)
   pub open-log : {b : List ℕ} {a₁ a₂ : Opened} → OpenedLog b a₁ → OpenedLog b a₂ → a₁ ≡ a₂
   pub next-record : {b : List ℕ} {at : ℕ} {a₁ a₂ : Next} → NextRecord b at a₁ → NextRecord b at a₂ → a₁ ≡ a₂
+  -- the answer, and the reader after it
+  pub reader : {r r₁ r₂ : Reader} {a₁ a₂ : Next} → Asked r r₁ a₁ → Asked r r₂ a₂ → (a₁ ≡ a₂) × (r₁ .bytes ≡ r₂ .bytes) × (r₁ .at ≡ r₂ .at)

@@ -5,6 +5,7 @@ use mathlib.Core.List.{List, [], _∷_, _++_}
 use Prim.Native.Nat.{ℕ, _-_, _*_, _≤_, _<_}
 use lib.IntN.{ℤ, pos}
 use lib.ListN.{length, take, drop}
+use denote.Ref.{now}
 use Rattle.surface.specs.Rows.{Row, rows}
 use Rattle.surface.specs.Record.{Record}
 use Rattle.refusal.specs.Told as answers
@@ -37,6 +38,9 @@ use Rattle.logrecords.specs.declared.Opened.{Opened}
 use Rattle.logrecords.specs.Answer.{told-opened}
 use Rattle.logrecords.specs.Outcome.{OpenedLog}
 use Rattle.logrecords.specs.Walk.{Walked, BreaksAfter, Broken}
+use Rattle.logreader.specs.declared.Reader.{Reader}
+use Rattle.logreader.specs.Outcome.{EachRecord}
+use Rattle.logreader.specs.Walk.{AskedOn}
 use Rattle.promises.specs.Thinning.{DoneWith}
 
 -- a log was written as a sheet for n corners and m rows, j bytes; these were read, and tell counts and records; log′ is what then stands in the room
@@ -75,6 +79,12 @@ pub record LogSheets : Type 0 where
   -- one by one the records of a sheet are those of the whole reading, and then comes the end
   pub one-by-one : {n m k : ℕ} {b room room′ : List ℕ} {a : LogSheet} {c : Opened} → ReadLogSheet b room room′ a → logs.told a ≡ answers.done (pos n ∷ pos m ∷ pos k ∷ []) → OpenedLog b c →
       (at : ℕ) × (told-opened c ≡ answers.done (pos n ∷ pos m ∷ pos at ∷ [])) × Walked b at (records (take (room-for k) room′))
+  -- and so are those that a reader gives, which keeps the sheet and its own place
+  pub by-reader : (r : Reader) {n m k : ℕ} {room room′ : List ℕ} {a : LogSheet} {c : Opened} → ReadLogSheet (now (r .bytes)) room room′ a → logs.told a ≡ answers.done (pos n ∷ pos m ∷ pos k ∷ []) →
+      OpenedLog (now (r .bytes)) c → told-opened c ≡ answers.done (pos n ∷ pos m ∷ pos (r .at) ∷ []) → AskedOn r (records (take (room-for k) room′))
+  -- where the whole reading reads, reading record by record answers the same and leaves the same
+  pub each : {b room room₁ room₂ : List ℕ} {n m k : ℕ} {a z : LogSheet} → ReadLogSheet b room room₁ a → logs.told a ≡ answers.done (pos n ∷ pos m ∷ pos k ∷ []) → EachRecord b room room₂ z →
+      (logs.told z ≡ answers.done (pos n ∷ pos m ∷ pos k ∷ [])) × (room₂ ≡ room₁)
   -- a bad line is told at its record and not before
   pub breaks-off : {b : List ℕ} {n m k : ℕ} {log rest : List ℕ} {c : Opened} {at : ℕ} → BreaksAfter b n m k log rest → OpenedLog b c → told-opened c ≡ answers.done (pos n ∷ pos m ∷ pos at ∷ []) →
       Broken b at (first-records k log)
