@@ -247,9 +247,16 @@ pub fn open_log_sheet(bytes: &[u8]) -> Result<Opened, Refusal> {
 
 /// The record at a place of a log sheet, or of any bytes, and the place after its line; or that no byte follows the place.
 pub fn next_record(bytes: &[u8], place: usize) -> Result<Option<(Record, usize)>, Refusal> {
-    let (mut found, mut after, mut numbers) = (0, 0, [0; WIDTH]);
-    let status = unsafe { proved::flaxglimmer_next_record(bytes.as_ptr(), bytes.len(), place, &mut found, &mut after, &mut numbers) };
-    answered(status, (found == 1).then_some((numbers, after as usize)))
+    let mut record = [0; WIDTH];
+    let after = put_record(bytes, place, &mut record)?;
+    Ok(after.map(|after| (record, after)))
+}
+
+/// The same, with the record's numbers where they are to stand.
+fn put_record(bytes: &[u8], place: usize, record: &mut Record) -> Result<Option<usize>, Refusal> {
+    let (mut found, mut after) = (0, 0);
+    let status = unsafe { proved::flaxglimmer_next_record(bytes.as_ptr(), bytes.len(), place, &mut found, &mut after, record) };
+    answered(status, (found == 1).then_some(after as usize))
 }
 
 /// Opens a log sheet and gives its records one at a time. They are not held against the corners.
@@ -283,13 +290,16 @@ impl Iterator for Records<'_> {
     type Item = Result<Record, Refusal>;
 
     fn next(&mut self) -> Option<Result<Record, Refusal>> {
-        let asked = next_record(self.bytes, self.place).transpose()?;
-        match asked {
-            Ok((_, after)) => self.place = after,
-            // so that nothing follows its place
-            Err(_) => self.bytes = &self.bytes[..self.place],
+        let mut record = [0; WIDTH];
+        match put_record(self.bytes, self.place, &mut record) {
+            Ok(after) => self.place = after?,
+            Err(refusal) => {
+                // so that nothing follows its place
+                self.bytes = &self.bytes[..self.place];
+                return Some(Err(refusal));
+            }
         }
-        Some(asked.map(|(record, _)| record))
+        Some(Ok(record))
     }
 }
 
