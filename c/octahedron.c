@@ -34,6 +34,59 @@ static void limit(const char *name, uint32_t unit, double figure)
     printf("%s %" PRIu64 " %" PRIu64 "\n", name, a.status, a.whole);
 }
 
+/* What a call of log sheets answers: the status and its three values. */
+static void four(const char *name, uint64_t status, const uint64_t values[3])
+{
+    printf("%s %" PRIu64 " %" PRIu64 " %" PRIu64 " %" PRIu64 "\n", name, status, values[0], values[1], values[2]);
+}
+
+/* The record at a place: the status, whether it is found, the place after it, and its numbers, which are sevens before the call. */
+static void next(const char *name, const uint8_t *bytes, size_t length, size_t place)
+{
+    uint32_t record[FLAXGLIMMER_WIDTH] = {7, 7, 7, 7, 7, 7, 7, 7, 7, 7};
+    uint64_t found = 7, after = 7;
+    uint64_t status = flaxglimmer_next_record(bytes, length, place, &found, &after, record);
+    printf("%s %" PRIu64 " %" PRIu64 " %" PRIu64, name, status, found, after);
+    numbers(":", record, FLAXGLIMMER_WIDTH, FLAXGLIMMER_WIDTH);
+}
+
+/* Document 01's log as a log sheet: written, with a byte of the text past it, and read whole and record by record, with a number of the room past
+ * its own. */
+static void log_sheet(const uint32_t *log)
+{
+    uint8_t text[53];
+    text[52] = '.';
+    struct flaxglimmer_written written = flaxglimmer_write_log_sheet(6, 8, log, 20, text, 53);
+    printf("write a log sheet %" PRIu64 " %" PRIu64 "\n%.53s\n", written.status, written.bytes, (const char *)text);
+    written = flaxglimmer_write_log_sheet(6, 8, log, 20, text, 51);
+    printf("a short text %" PRIu64 " %" PRIu64 "\n", written.status, written.bytes);
+    written = flaxglimmer_write_log_sheet(5, 8, log, 20, text, 52);
+    printf("too many records %" PRIu64 " %" PRIu64 "\n", written.status, written.bytes);
+
+    uint64_t a[3];
+    uint32_t room[21] = {0};
+    room[20] = 7;
+    uint64_t status = flaxglimmer_read_log_sheet(text, 52, room, 21, &a[0], &a[1], &a[2]);
+    four("read a log sheet", status, a);
+    numbers("its records", room, 21, 10);
+    memset(room, 0, 20 * sizeof *room);
+    status = flaxglimmer_each_record(text, 52, room, 21, &a[0], &a[1], &a[2]);
+    four("each record", status, a);
+    numbers("its records", room, 21, 10);
+    status = flaxglimmer_read_log_sheet(text, 52, room, 19, &a[0], &a[1], &a[2]);
+    four("a short room", status, a);
+    status = flaxglimmer_each_record(text, 52, room, 19, &a[0], &a[1], &a[2]);
+    four("a short room for each", status, a);
+
+    status = flaxglimmer_open_log_sheet(text, 52, &a[0], &a[1], &a[2]);
+    four("open a log sheet", status, a);
+    next("the record at 8", text, 52, 8);
+    next("the record at 30", text, 52, 30);
+    next("the record at 31", text, 52, 31);
+    next("the record at 52", text, 52, 52);
+    next("the record past all", text, 52, SIZE_MAX);
+}
+
 /* Every list that may be empty, as NULL: first in calls that are done, on document 01's tetrahedron, which has no record; then everywhere. */
 static void empty(void)
 {
@@ -47,6 +100,15 @@ static void empty(void)
     printf("no log to shift by %" PRIu64 " %" PRIu64 " %" PRIu64 " %" PRIu64 "\n", status, a, b, c);
     status = flaxglimmer_catch_up(NULL, 0, table, 12, &a, &b);
     printf("no log to catch up %" PRIu64 " %" PRIu64 " %" PRIu64 "\n", status, a, b);
+
+    uint8_t text[8];
+    uint64_t values[3] = {7, 7, 7};
+    struct flaxglimmer_written written = flaxglimmer_write_log_sheet(4, 4, NULL, 0, text, 8);
+    printf("no log to write %" PRIu64 " %" PRIu64 " %.8s", written.status, written.bytes, (const char *)text);
+    status = flaxglimmer_read_log_sheet(text, 8, NULL, 0, &values[0], &values[1], &values[2]);
+    four("no log to read", status, values);
+    status = flaxglimmer_each_record(text, 8, NULL, 0, &values[0], &values[1], &values[2]);
+    four("no record to read", status, values);
 
     counted("nothing to thin", flaxglimmer_thin(FLAXGLIMMER_NO_LIMIT, 0, NULL, 0, NULL, 0, NULL, 0));
     counted("nothing to grow back", flaxglimmer_grow_back(4, 4, NULL, 0, NULL, 0));
@@ -63,8 +125,23 @@ static void empty(void)
     a = b = 7;
     status = flaxglimmer_read_sheet(NULL, 0, NULL, 0, NULL, 0, &a, &b);
     printf("no sheet %" PRIu64 " %" PRIu64 " %" PRIu64 "\n", status, a, b);
-    struct flaxglimmer_written written = flaxglimmer_reply(NULL, 0, NULL, 0);
+    written = flaxglimmer_reply(NULL, 0, NULL, 0);
     printf("no text %" PRIu64 " %" PRIu64 "\n", written.status, written.bytes);
+
+    written = flaxglimmer_write_log_sheet(0, 0, NULL, 0, NULL, 0);
+    printf("nothing to write %" PRIu64 " %" PRIu64 "\n", written.status, written.bytes);
+    written = flaxglimmer_write_log_sheet(4, 4, NULL, 0, NULL, 0);
+    printf("no text to write %" PRIu64 " %" PRIu64 "\n", written.status, written.bytes);
+    values[0] = values[1] = values[2] = 7;
+    status = flaxglimmer_read_log_sheet(NULL, 0, NULL, 0, &values[0], &values[1], &values[2]);
+    four("no log sheet", status, values);
+    values[0] = values[1] = values[2] = 7;
+    status = flaxglimmer_each_record(NULL, 0, NULL, 0, &values[0], &values[1], &values[2]);
+    four("no log sheet's records", status, values);
+    values[0] = values[1] = values[2] = 7;
+    status = flaxglimmer_open_log_sheet(NULL, 0, &values[0], &values[1], &values[2]);
+    four("no log sheet to open", status, values);
+    next("nothing's record", NULL, 0, 0);
 }
 
 int main(void)
@@ -84,6 +161,7 @@ int main(void)
     counted("grow back", flaxglimmer_grow_back(4, 6, table, 24, log, 20));
     printf("restored %s\n", memcmp(table, first, sizeof first) == 0 ? "yes" : "no");
     counted("replay", flaxglimmer_replay(6, table, 24, log, 20));
+    log_sheet(log);
     log[0] = 5;
     counted("a record that fails", flaxglimmer_grow_back(4, 6, table, 24, log, 20));
 

@@ -1,7 +1,7 @@
 /* How much stack each call takes, in bytes, and how much the header tells of it: on a thread with a stack of its own, what lies below is filled,
  * the call is made, and the deepest byte that is no longer as it was filled is looked for. A second fill finds bytes that were written with the
- * first one's value. Each call is made on a skin at its limits and on the trial ring, where it is done, and on nothing, and the most is told. Ends
- * with 1 where a call takes more than the header says, with 2 where one cannot be measured. */
+ * first one's value. Each call is made on a skin or a log at its limits and on the trial ring, where it is done, and on nothing, and the most is
+ * told. Ends with 1 where a call takes more than the header says, with 2 where one cannot be measured. */
 #define _POSIX_C_SOURCE 200809L
 #include <inttypes.h>
 #include <pthread.h>
@@ -22,14 +22,17 @@ struct skin {
     uint32_t log[FLAXGLIMMER_WIDTH * FLAXGLIMMER_MOST_CORNERS], written[FLAXGLIMMER_WIDTH * FLAXGLIMMER_MOST_CORNERS];
     uint8_t sheet[FLAXGLIMMER_MOST_SHEET_BYTES], text[FLAXGLIMMER_MOST_SHEET_BYTES];
     size_t bytes;
+    uint8_t log_sheet[FLAXGLIMMER_MOST_LOG_BYTES], log_text[FLAXGLIMMER_MOST_LOG_BYTES];
+    size_t log_bytes, first_record;
 };
 
-static struct skin table_limits, sheet_limits, ring, nothing;
+static struct skin table_limits, sheet_limits, log_limits, ring, nothing;
 static struct skin *now;
 
 /* Whether the call was done: tests ask elsewhere whether what it answers is right. */
 static volatile uint64_t status;
 static uint64_t stand_in, count, squared;
+static uint32_t record[FLAXGLIMMER_WIDTH];
 
 static void thin(void)
 {
@@ -103,6 +106,33 @@ static void trial_number(void)
 static void reply(void)
 {
     status = flaxglimmer_reply(now->sheet, now->bytes, now->text, sizeof now->text).status;
+}
+
+static void write_log_sheet(void)
+{
+    status = flaxglimmer_write_log_sheet(now->corners, now->rows, now->log, FLAXGLIMMER_WIDTH * now->records, now->log_text,
+                                         sizeof now->log_text).status;
+}
+
+static void read_log_sheet(void)
+{
+    status = flaxglimmer_read_log_sheet(now->log_sheet, now->log_bytes, now->written, FLAXGLIMMER_WIDTH * now->records, &stand_in, &count, &squared);
+}
+
+static void each_record(void)
+{
+    status = flaxglimmer_each_record(now->log_sheet, now->log_bytes, now->written, FLAXGLIMMER_WIDTH * now->records, &stand_in, &count, &squared);
+}
+
+static void open_log_sheet(void)
+{
+    status = flaxglimmer_open_log_sheet(now->log_sheet, now->log_bytes, &stand_in, &count, &squared);
+}
+
+static void next_record(void)
+{
+    status = flaxglimmer_next_record(now->log_sheet, now->log_bytes, now->first_record, &count, &squared, record);
+    status |= flaxglimmer_next_record(now->log_sheet, now->log_bytes, now->log_bytes, &count, &squared, record);
 }
 
 /* A call, the stack that it is made on, what the stack is filled with, and how deep it was written. */
@@ -202,6 +232,24 @@ static void lay_out(struct skin *s)
     s->bytes = (size_t)(end - (char *)s->sheet);
 }
 
+static void lay_out_log(struct skin *s)
+{
+    char *end = (char *)s->log_sheet;
+    end += sprintf(end, "LOG\t%zu\t%zu\n", s->corners, s->rows);
+    s->first_record = (size_t)(end - (char *)s->log_sheet);
+    for (size_t i = 0; i < FLAXGLIMMER_WIDTH * s->records; i++)
+        end += sprintf(end, "%s\t%" PRIu32 "%s", i % FLAXGLIMMER_WIDTH == 0 ? "K" : "", s->log[i], (i + 1) % FLAXGLIMMER_WIDTH == 0 ? "\n" : "");
+    s->log_bytes = (size_t)(end - (char *)s->log_sheet);
+}
+
+/* As many records as can be written, of numbers as long as can be. */
+static void longest_log(struct skin *s)
+{
+    s->rows = FLAXGLIMMER_MOST_ROWS, s->corners = FLAXGLIMMER_MOST_CORNERS, s->records = FLAXGLIMMER_MOST_CORNERS - FLAXGLIMMER_LEAST_CORNERS;
+    for (size_t i = 0; i < FLAXGLIMMER_WIDTH * s->records; i++)
+        s->log[i] = 999999;
+}
+
 int main(void)
 {
     ring.rows = 128, ring.corners = 64;
@@ -214,6 +262,9 @@ int main(void)
     prepare(&sheet_limits);
     lay_out(&ring);
     lay_out(&sheet_limits);
+    longest_log(&log_limits);
+    lay_out_log(&ring);
+    lay_out_log(&log_limits);
 
     int over = told("thin", thin, &table_limits, FLAXGLIMMER_STACK_THIN);
     over |= told("thin, under a limit", thin_under_a_limit, &table_limits, FLAXGLIMMER_STACK_THIN);
@@ -228,5 +279,10 @@ int main(void)
     over |= told("read a sheet", read_sheet, &sheet_limits, FLAXGLIMMER_STACK_READ_SHEET);
     over |= told("trial number", trial_number, &table_limits, FLAXGLIMMER_STACK_OTHER);
     over |= told("reply", reply, &sheet_limits, FLAXGLIMMER_STACK_REPLY);
+    over |= told("write a log sheet", write_log_sheet, &log_limits, FLAXGLIMMER_STACK_OTHER);
+    over |= told("read a log sheet", read_log_sheet, &log_limits, FLAXGLIMMER_STACK_OTHER);
+    over |= told("each record", each_record, &log_limits, FLAXGLIMMER_STACK_OTHER);
+    over |= told("open a log sheet", open_log_sheet, &log_limits, FLAXGLIMMER_STACK_OTHER);
+    over |= told("next record", next_record, &log_limits, FLAXGLIMMER_STACK_OTHER);
     return over;
 }

@@ -5,15 +5,17 @@
  *
  * status: 0 done, else the number of the first refusal that holds, FLAXGLIMMER_LIMIT_UNUSABLE to FLAXGLIMMER_RECORD_FAILS below; a later
  * archive may answer further numbers. A refused call leaves every list that it was lent as it was, and each of its values is 0, those in lent
- * numbers too. But FLAXGLIMMER_RECORD_FAILS tells how many records were done before it, and leaves the stage that they led to.
+ * numbers and in a lent record too. But FLAXGLIMMER_RECORD_FAILS tells how many records were done before it, and leaves the stage that they led
+ * to.
  *
  * What is lent. A list is a pointer and how many numbers (of a sheet or a text: bytes) stand there, its length. It is lent for the call alone:
  * nothing is kept, and nothing is freed.
  * - A list with `const` is only read, and may overlap other lists with `const`, or be one of them.
- * - A list without `const` is lent to be written, as is each uint64_t by itself, a lent number, and a record's numbers. What is lent to be written overlaps nothing else
- *   that is lent to the same call. It need not be cleared first.
+ * - A list without `const` is lent to be written, as is each uint64_t by itself, a lent number, and the FLAXGLIMMER_WIDTH numbers of a lent
+ *   record, which have no length beside them. What is lent to be written overlaps nothing else that is lent to the same call. It need not be
+ *   cleared first.
  * - A list of length 0 may have any pointer, NULL too: nothing is read or written through it. Of any other length it is no NULL, and so many
- *   numbers of its type stand there. A lent number is never NULL, and is written whatever the status.
+ *   numbers of its type stand there. A lent number and a lent record are never NULL, and are written whatever the status.
  * - Every pointer is aligned as its type is: 4 bytes for uint32_t and int32_t, 8 for uint64_t.
  * Nothing else is asked of a caller: every number and every length has an answer, and every call ends.
  *
@@ -61,8 +63,8 @@ extern "C" {
 #define FLAXGLIMMER_MOST_TEXT 65536
 
 /* How many bytes of stack a call takes at most; a call that has no name here takes FLAXGLIMMER_STACK_OTHER. No proof bounds a stack: these are
- * what c/stack.c measured on Arm, and on x86-64 under the kit's emulator, on skins at the limits, with at least an eighth more and rounded up to
- * 16 KiB; tests/bridge measures again and compares.
+ * what c/stack.c measured on Arm, and on x86-64 under the kit's emulator, on skins and logs at the limits, with at least an eighth more and rounded
+ * up to 16 KiB; tests/bridge measures again and compares.
  * The arrays on the stack have the length of the limits whatever is lent, and no function calls itself but by the digits of a number. */
 #define FLAXGLIMMER_STACK_THIN 114688
 #define FLAXGLIMMER_STACK_GROW_BACK 81920
@@ -191,15 +193,16 @@ struct flaxglimmer_stored flaxglimmer_trial_number(size_t at);
 struct flaxglimmer_written flaxglimmer_reply(const uint8_t *sheet, size_t sheet_length, uint8_t *text, size_t text_length);
 
 /* Writes a log as a log sheet for so many corners and rows, in front of the text, which stays as it was past it; FLAXGLIMMER_MOST_LOG_BYTES bytes
- * always suffice. FLAXGLIMMER_COUNTS_OUTSIDE for counts outside their limits, a log that is no whole records or has more than corners - 4 of them, or
- * a number over six digits; then FLAXGLIMMER_ROOM_SHORT.
+ * always suffice. FLAXGLIMMER_COUNTS_OUTSIDE for counts outside their limits, a log that is no whole records or has more than corners - 4 of them,
+ * or a number over six digits; then FLAXGLIMMER_ROOM_SHORT.
  * log: whole records; read. text: room for the sheet; written. */
 struct flaxglimmer_written flaxglimmer_write_log_sheet(size_t corners, size_t rows, const uint32_t *log, size_t log_length, uint8_t *text,
                                                        size_t text_length);
 
-/* Reads a log sheet: its numbers in front of the log, which stays as it was past those; its value is the status. FLAXGLIMMER_SHEET_FORM for its size
- * and the form of all its lines; then FLAXGLIMMER_COUNTS_OUTSIDE, also for more than corners - 4 records; then FLAXGLIMMER_ROOM_SHORT.
- * bytes: the log sheet; read. log: room for its numbers; written. corners, rows, records: lent numbers, for its counts and how many records it has. */
+/* Reads a log sheet: its numbers in front of the log, which stays as it was past those; its value is the status. FLAXGLIMMER_SHEET_FORM for its
+ * size and the form of all its lines; then FLAXGLIMMER_COUNTS_OUTSIDE, also for more than corners - 4 records; then FLAXGLIMMER_ROOM_SHORT.
+ * bytes: the log sheet; read. log: room for its numbers; written. corners, rows, records: lent numbers, for its counts and how many records it
+ * has. */
 uint64_t flaxglimmer_read_log_sheet(const uint8_t *bytes, size_t bytes_length, uint32_t *log, size_t log_length, uint64_t *corners, uint64_t *rows,
                                     uint64_t *records);
 
@@ -214,10 +217,11 @@ uint64_t flaxglimmer_each_record(const uint8_t *bytes, size_t bytes_length, uint
  * bytes: the log sheet; read. corners, rows, place: lent numbers, for its counts and the place after its first line. */
 uint64_t flaxglimmer_open_log_sheet(const uint8_t *bytes, size_t bytes_length, uint64_t *corners, uint64_t *rows, uint64_t *place);
 
-/* The record at a place of a log sheet, or of any bytes; its value is the status. Where no byte follows the place it is the end: 0 is found, the place
- * after is the place as given, and the numbers are 0. Else the line there is a record's, or the status is FLAXGLIMMER_SHEET_FORM and all else 0.
- * bytes: any bytes; read. place: any number. found, after: lent numbers, for 1 or 0 and the place after the record's line. numbers:
- * FLAXGLIMMER_WIDTH numbers, for the record's; written whatever the status. */
+/* The record at a place of a log sheet, or of any bytes; its value is the status. Where no byte follows the place it is the end: 0 is found, the
+ * place after is the place as given, and the numbers are 0. Else the line there is a record's, or the status is FLAXGLIMMER_SHEET_FORM and all
+ * else is 0.
+ * bytes: any bytes; read. place: any number. found, after: lent numbers, for 1 or 0 and the place after the record's line. numbers: a lent record,
+ * for its numbers. */
 uint64_t flaxglimmer_next_record(const uint8_t *bytes, size_t bytes_length, size_t place, uint64_t *found, uint64_t *after, uint32_t *numbers);
 
 #ifdef __cplusplus

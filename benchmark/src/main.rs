@@ -1,12 +1,16 @@
-//! The benchmark: each proved call beside the same loops in ordinary Rust, in one process, on the same input; check and volume also beside quick
-//! Rust. The samples of the sides take turns, and a median stands for each. The sides' answers are compared before anything is timed; with `compare`
-//! nothing else is done, and it goes on to damaged tables.
+//! The benchmark: each proved call beside the same loops in ordinary Rust, in one process, on the same input; check, volume and log sheets also
+//! beside quick Rust. The samples of the sides take turns, and a median stands for each. The sides' answers are compared before anything is timed;
+//! with `compare` nothing else is done, and it goes on to damaged tables and logs.
 
 mod back;
 mod check;
 mod damage;
+mod damaged_logs;
 mod figures;
+mod logs;
+mod mailed;
 mod quick;
+mod quick_logs;
 mod sheet;
 mod skins;
 mod thin;
@@ -18,6 +22,7 @@ use apart::skin::FEWEST;
 use apart::step::WIDTH;
 use flaxglimmer as proved;
 use flaxglimmer::{Length, Refusal, Unfinished};
+use mailed::Mailed;
 use std::hint::black_box;
 use std::process::ExitCode;
 use std::time::{Duration, Instant};
@@ -28,7 +33,16 @@ const SAMPLES: usize = 31;
 /// The most that a proved call may take of the time of the same loops.
 const RATIO: f64 = 1.2;
 /// The most that a call may grow on shafts when the rows double.
-const GROWTH: [(&str, f64); 5] = [("check", 2.5), ("volume", 2.2), ("grow back", 4.5), ("replay", 4.5), ("thin", 5.0)];
+const GROWTH: [(&str, f64); 8] = [
+    ("check", 2.5),
+    ("volume", 2.2),
+    ("grow back", 4.5),
+    ("replay", 4.5),
+    ("thin", 5.0),
+    ("write log sheet", 2.5),
+    ("read log sheet", 2.5),
+    ("records one by one", 2.5),
+];
 /// A sample repeats its call until it takes about so long.
 const SAMPLE: Duration = Duration::from_millis(2);
 
@@ -135,6 +149,7 @@ struct Input {
     sheet: Vec<u8>,
     log: Vec<u32>,
     last: Vec<u32>,
+    mailed: Mailed,
 }
 
 impl Input {
@@ -148,6 +163,7 @@ impl Input {
         Input {
             limit: skins::middling_limit(skin),
             sheet: apart::sheet::write(&skin.corners, &skin.rows),
+            mailed: Mailed::of(skin.corners.len(), skin.rows.len(), &log),
             table,
             corners,
             log,
@@ -161,7 +177,7 @@ impl Input {
 
     /// Every call on an honest input: none is refused.
     fn calls(&self) -> Vec<Call<'_>> {
-        let calls = vec![
+        let mut calls = vec![
             self.check(),
             self.thin("thin", None),
             self.thin("thin under a limit", Some(self.limit)),
@@ -171,6 +187,7 @@ impl Input {
             self.change(),
             self.read_sheet(),
         ];
+        calls.extend(self.mailed.calls());
         for call in &calls {
             assert_eq!(call.refused, None, "{}", call.name);
         }
@@ -392,8 +409,12 @@ fn close(shafts: &[Measured], others: &[Measured]) {
     println!("\n### Targets\n\n| What | Target | Greatest |\n|---|--:|--:|");
     let ratio = greatest(all().map(|one| (one.ratio(), one)));
     println!("| ratio to the same loops in Rust | {RATIO} | {ratio} |");
-    let ratio = greatest(all().filter_map(|one| Some((one.ratio_to_quick()?, one))));
-    println!("| ratio to quick Rust, check and volume | none | {ratio} |");
+    let log_sheets = |one: &&Measured| one.call.ends_with("log sheet");
+    for (calls, of) in [("check and volume", false), ("log sheets", true)] {
+        let of_calls = all().filter(|one| log_sheets(one) == of);
+        let ratio = greatest(of_calls.filter_map(|one| Some((one.ratio_to_quick()?, one))));
+        println!("| ratio to quick Rust, {calls} | none | {ratio} |");
+    }
     for (call, target) in GROWTH {
         let of_call: Vec<&Measured> = shafts.iter().filter(|one| one.call == call).collect();
         let growths = of_call.windows(2).map(|pair| pair[1].times.proved / pair[0].times.proved);
@@ -411,11 +432,12 @@ fn skins_of(kind: &str, make: fn(usize) -> Skin) -> [Skin; skins::SIZES.len()] {
     })
 }
 
-/// Compares the sides' answers on every input and on damaged tables, and times nothing.
+/// Compares the sides' answers on every input, on damaged tables and on damaged logs, and times nothing.
 fn compare() {
     let skins: Vec<Skin> = skins::KINDS.iter().flat_map(|&(kind, make)| skins_of(kind, make)).collect();
-    let honest: usize = skins.iter().map(|skin| Input::of(skin).calls().len()).sum();
-    println!("{} passed, 0 failed", honest + damage::compare(&skins));
+    let inputs: Vec<Input> = skins.iter().map(Input::of).collect();
+    let honest: usize = inputs.iter().map(|input| input.calls().len()).sum();
+    println!("{} passed, 0 failed", honest + damage::compare(&skins) + damaged_logs::compare(&inputs));
 }
 
 fn time() {

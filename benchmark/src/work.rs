@@ -9,7 +9,7 @@ pub trait Work {
     fn ring_entries(&mut self, count: usize);
     /// Rows that a step or a record passes over.
     fn rows(&mut self, count: usize);
-    /// Bytes read.
+    /// Bytes read or written.
     fn bytes(&mut self, count: usize);
 }
 

@@ -1,5 +1,6 @@
 //! Flaxglimmer for Rust: every public call, safe. Slices are lent for the call alone; what is handed back is the caller's own memory.
-//! `unsafe` stands round the calls of the proved functions only: a slice's pointer and length go over together, and no call asks more.
+//! `unsafe` stands round the calls of the proved functions only: a slice's pointer and length go over together, a record's numbers as the array that
+//! they are, and no call asks more.
 
 #[cfg(not(target_pointer_width = "64"))]
 compile_error!("the proved functions count in 64 bits");
@@ -53,6 +54,11 @@ mod proved {
         pub fn flaxglimmer_read_sheet(bytes: *const u8, bytes_length: usize, table: *mut u32, table_length: usize, corners: *mut i32, corners_length: usize, count: *mut u64, rows: *mut u64) -> u64;
         pub fn flaxglimmer_trial_number(at: usize) -> Stored;
         pub fn flaxglimmer_reply(sheet: *const u8, sheet_length: usize, text: *mut u8, text_length: usize) -> Written;
+        pub fn flaxglimmer_write_log_sheet(corners: usize, rows: usize, log: *const u32, log_length: usize, text: *mut u8, text_length: usize) -> Written;
+        pub fn flaxglimmer_read_log_sheet(bytes: *const u8, bytes_length: usize, log: *mut u32, log_length: usize, corners: *mut u64, rows: *mut u64, records: *mut u64) -> u64;
+        pub fn flaxglimmer_each_record(bytes: *const u8, bytes_length: usize, log: *mut u32, log_length: usize, corners: *mut u64, rows: *mut u64, records: *mut u64) -> u64;
+        pub fn flaxglimmer_open_log_sheet(bytes: *const u8, bytes_length: usize, corners: *mut u64, rows: *mut u64, place: *mut u64) -> u64;
+        pub fn flaxglimmer_next_record(bytes: *const u8, bytes_length: usize, place: usize, found: *mut u64, after: *mut u64, numbers: *mut super::Record) -> u64;
     }
 }
 
@@ -94,6 +100,25 @@ pub struct Shift {
 pub struct Counts {
     pub corners: usize,
     pub rows: usize,
+}
+
+/// The numbers of a record, as a log has them.
+pub type Record = [u32; WIDTH];
+
+/// The counts of a log sheet that was read, and how many records it has.
+#[derive(Clone, Copy, Debug, PartialEq, Eq)]
+pub struct LogCounts {
+    pub corners: usize,
+    pub rows: usize,
+    pub records: usize,
+}
+
+/// The counts of a log sheet that was opened, and the place after its first line.
+#[derive(Clone, Copy, Debug, PartialEq, Eq)]
+pub struct Opened {
+    pub corners: usize,
+    pub rows: usize,
+    pub place: usize,
 }
 
 fn answered<T>(status: u64, value: T) -> Result<T, Refusal> {
@@ -191,3 +216,81 @@ pub fn reply(sheet: &[u8], text: &mut [u8]) -> Result<usize, Refusal> {
     let a = unsafe { proved::flaxglimmer_reply(sheet.as_ptr(), sheet.len(), text.as_mut_ptr(), text.len()) };
     answered(a.status, a.bytes as usize)
 }
+
+/// Writes a log as a log sheet for so many corners and rows, in front of the text; how many bytes it has. `MOST_LOG_BYTES` bytes always suffice.
+pub fn write_log_sheet(corners: usize, rows: usize, log: &[u32], text: &mut [u8]) -> Result<usize, Refusal> {
+    let a = unsafe { proved::flaxglimmer_write_log_sheet(corners, rows, log.as_ptr(), log.len(), text.as_mut_ptr(), text.len()) };
+    answered(a.status, a.bytes as usize)
+}
+
+/// Reads a log sheet: its numbers in front of the log.
+pub fn read_log_sheet(bytes: &[u8], log: &mut [u32]) -> Result<LogCounts, Refusal> {
+    let (mut corners, mut rows, mut records) = (0, 0, 0);
+    let status = unsafe { proved::flaxglimmer_read_log_sheet(bytes.as_ptr(), bytes.len(), log.as_mut_ptr(), log.len(), &mut corners, &mut rows, &mut records) };
+    answered(status, LogCounts { corners: corners as usize, rows: rows as usize, records: records as usize })
+}
+
+/// The same by the reader that is asked for one record at a time: the counts are asked before the lines of records, and records are not held against
+/// the corners.
+pub fn each_record(bytes: &[u8], log: &mut [u32]) -> Result<LogCounts, Refusal> {
+    let (mut corners, mut rows, mut records) = (0, 0, 0);
+    let status = unsafe { proved::flaxglimmer_each_record(bytes.as_ptr(), bytes.len(), log.as_mut_ptr(), log.len(), &mut corners, &mut rows, &mut records) };
+    answered(status, LogCounts { corners: corners as usize, rows: rows as usize, records: records as usize })
+}
+
+/// Opens a log sheet to be read record by record: size, first line and counts. What follows the first line is not looked at.
+pub fn open_log_sheet(bytes: &[u8]) -> Result<Opened, Refusal> {
+    let (mut corners, mut rows, mut place) = (0, 0, 0);
+    let status = unsafe { proved::flaxglimmer_open_log_sheet(bytes.as_ptr(), bytes.len(), &mut corners, &mut rows, &mut place) };
+    answered(status, Opened { corners: corners as usize, rows: rows as usize, place: place as usize })
+}
+
+/// The record at a place of a log sheet, or of any bytes, and the place after its line; or that no byte follows the place.
+pub fn next_record(bytes: &[u8], place: usize) -> Result<Option<(Record, usize)>, Refusal> {
+    let (mut found, mut after, mut numbers) = (0, 0, [0; WIDTH]);
+    let status = unsafe { proved::flaxglimmer_next_record(bytes.as_ptr(), bytes.len(), place, &mut found, &mut after, &mut numbers) };
+    answered(status, (found == 1).then_some((numbers, after as usize)))
+}
+
+/// Opens a log sheet and gives its records one at a time. They are not held against the corners.
+pub fn records(bytes: &[u8]) -> Result<Records<'_>, Refusal> {
+    let Opened { corners, rows, place } = open_log_sheet(bytes)?;
+    Ok(Records { counts: Counts { corners, rows }, bytes, place })
+}
+
+/// The records of a log sheet that was opened: keeps the caller's bytes and its own place, and asks for a record when it is asked for one. The first line
+/// that is no record's is an error, and nothing comes after it.
+#[derive(Clone, Debug)]
+pub struct Records<'a> {
+    counts: Counts,
+    bytes: &'a [u8],
+    place: usize,
+}
+
+impl Records<'_> {
+    /// The counts of the first line.
+    pub fn counts(&self) -> Counts {
+        self.counts
+    }
+
+    /// Where the line of the record stands that is asked for next; after an error, the line that is none.
+    pub fn place(&self) -> usize {
+        self.place
+    }
+}
+
+impl Iterator for Records<'_> {
+    type Item = Result<Record, Refusal>;
+
+    fn next(&mut self) -> Option<Result<Record, Refusal>> {
+        let asked = next_record(self.bytes, self.place).transpose()?;
+        match asked {
+            Ok((_, after)) => self.place = after,
+            // so that nothing follows its place
+            Err(_) => self.bytes = &self.bytes[..self.place],
+        }
+        Some(asked.map(|(record, _)| record))
+    }
+}
+
+impl std::iter::FusedIterator for Records<'_> {}

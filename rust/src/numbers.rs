@@ -18,6 +18,8 @@ pub const MOST_SHEET_BYTES: usize = 65536;
 pub const MOST_SHEET_ROWS: usize = 1024;
 /// Most corners of a sheet.
 pub const MOST_SHEET_CORNERS: usize = 514;
+/// Most bytes of a log sheet, which suffice for any log that can be written as one.
+pub const MOST_LOG_BYTES: usize = 65536;
 /// Bytes that suffice for the desk's answer to any sheet.
 pub const MOST_TEXT: usize = 65536;
 
