@@ -404,7 +404,7 @@ def replay(file, log, answer, **prepared):
     told = text_outcome(files.answer_text(rows, read.log, first, last), answer, "log", told_of(skin, first))
     if read.rows is None:
         told.answer["same"] = None
-        told.notes.append(f"{files.shown(log)} replays on {skin.name} to its end; a log sheet has no rows to compare with")
+        told.notes.append(f"{files.shown(log)} replays to its end, {logs.counted(len(read.log), 'record')}; a log sheet has no rows to compare with")
         return told
     same = np.array_equal(rows, read.rows)
     return compared(told, same, f"the rows reached are {'those of' if same else 'NOT those of'} {files.shown(log)}, number for number")

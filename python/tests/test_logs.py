@@ -1,4 +1,5 @@
 """Log sheets: the calls against change request 1 in Python's own words, what the commands do with them, and what is told of damaged ones."""
+import json
 import re
 import subprocess
 
@@ -157,7 +158,7 @@ def test_writing_is_refused_by_2_and_then_by_3():
     for corners, rows, log, number in (
         (3, 8, [], 2), (515, 8, [], 2), (6, 3, [], 2), (6, 1025, [], 2), (0, 0, [], 2), (2**64 - 1, 8, [], 2),
         (4, 4, [], 0), (514, 1024, [], 0), (6, 8, [record] * 2, 0), (6, 8, [record] * 3, 2), (514, 4, [record] * 510, 0), (514, 4, [record] * 511, 2),
-        (6, 8, record[:9], 2), (6, 8, record + [1], 2), (6, 8, [[999_999] * 10] * 2, 0), (6, 8, [[0] * 9 + [1_000_000]], 2), (6, 8, [[2**32 - 1] + [0] * 9], 2),
+        (514, 1024, [[999_999] * 10] * 510, 0), (6, 8, record[:9], 2), (6, 8, record + [1], 2), (6, 8, [[999_999] * 10] * 2, 0), (6, 8, [[0] * 9 + [1_000_000]], 2), (6, 8, [[2**32 - 1] + [0] * 9], 2),
     ):  # fmt: skip
         assert answer(calls.write_log_sheet, corners, rows, log) == (number, None if number else written(corners, rows, np.reshape(log, (-1, 10)).tolist()))
     log, text = np.array(O_LOG, np.uint32), np.full(len(O_SHEET) + 3, 77, np.uint8)
@@ -262,8 +263,9 @@ def test_what_is_lent_for_log_sheets_is_looked_at_first():
         (lambda: calls.write_log_sheet(6, 8, [[-1] * 10]), OverflowError),
         (lambda: calls.write_log_sheet(6, 8, [[0.5] * 10]), TypeError),
     ):
-        with pytest.raises(error):
+        with pytest.raises(error) as raised:
             call()
+        assert type(raised.value) is error  # and no refusal, which is a ValueError too
     assert not (log.any() or text.any() or record.any() or both.any())
 
 
@@ -340,7 +342,7 @@ def test_what_growing_back_starts_from(folder, run):
 def test_replay_tells_whether_there_were_rows_to_compare_with(folder, run):
     assert run("replay", folder / "o.sheet", folder / "o.log", "--json").told["same"] is None
     assert run("replay", folder / "o.sheet", folder / "o.answer", "--json").told["same"] is True
-    assert "o.log replays on o.sheet to its end" in run("replay", folder / "o.sheet", folder / "o.log").err
+    assert "o.log replays to its end, 2 records; a log sheet has no rows" in run("replay", folder / "o.sheet", folder / "o.log").err
     for option in ("--answer", "--log"):
         told = run("replay", folder / "o.sheet", folder / "o.log", option, folder / "out")
         assert told.exit == 0 and told.out == "" and (folder / "out").read_bytes() == (folder / "o.answer").read_bytes()
@@ -359,6 +361,8 @@ def test_counts_that_are_not_the_skins_are_told_in_one_line(command, more, folde
         assert ended.err.startswith(f"flaxglimmer: a.log is the log of a skin of {told}, and o.sheet has 6 corners and 8 rows")
     ended = run(command, folder / "o.sheet", folder / "s.log", *more)
     assert ended.exit == 2 and "242 corners and 480 rows, and o.sheet has 6 corners and 8 rows" in ended.err
+    told = json.loads(run(command, folder / "o.sheet", folder / "s.log", *more, "--json").out)
+    assert (told["exit"], told["status"]) == (2, None) and f"flaxglimmer: {told['error']}\n" == ended.err
     # the scan read with other options has other corners
     ended = run(command, *SCAN, folder / "s.log", *more, "--weld", "none")
     assert ended.exit == 2 and "spalled.stl has 1,440 corners and 480 rows: is it that scan, read with the same options?" in ended.err
