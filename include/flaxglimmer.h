@@ -10,7 +10,7 @@
  * What is lent. A list is a pointer and how many numbers (of a sheet or a text: bytes) stand there, its length. It is lent for the call alone:
  * nothing is kept, and nothing is freed.
  * - A list with `const` is only read, and may overlap other lists with `const`, or be one of them.
- * - A list without `const` is lent to be written, as is each uint64_t by itself, a lent number. What is lent to be written overlaps nothing else
+ * - A list without `const` is lent to be written, as is each uint64_t by itself, a lent number, and a record's numbers. What is lent to be written overlaps nothing else
  *   that is lent to the same call. It need not be cleared first.
  * - A list of length 0 may have any pointer, NULL too: nothing is read or written through it. Of any other length it is no NULL, and so many
  *   numbers of its type stand there. A lent number is never NULL, and is written whatever the status.
@@ -53,6 +53,9 @@ extern "C" {
 #define FLAXGLIMMER_MOST_SHEET_BYTES 65536
 #define FLAXGLIMMER_MOST_SHEET_ROWS 1024
 #define FLAXGLIMMER_MOST_SHEET_CORNERS 514
+
+/* The most bytes of a log sheet. A longer one is FLAXGLIMMER_SHEET_FORM, and so many bytes suffice for any log that can be written as one. */
+#define FLAXGLIMMER_MOST_LOG_BYTES 65536
 
 /* Bytes that suffice for the desk's answer to any sheet. */
 #define FLAXGLIMMER_MOST_TEXT 65536
@@ -186,6 +189,36 @@ struct flaxglimmer_stored flaxglimmer_trial_number(size_t at);
  * FLAXGLIMMER_ROOM_SHORT is its only refusal.
  * sheet: the sheet; read. text: room for the answer; written. */
 struct flaxglimmer_written flaxglimmer_reply(const uint8_t *sheet, size_t sheet_length, uint8_t *text, size_t text_length);
+
+/* Writes a log as a log sheet for so many corners and rows, in front of the text, which stays as it was past it; FLAXGLIMMER_MOST_LOG_BYTES bytes
+ * always suffice. FLAXGLIMMER_COUNTS_OUTSIDE for counts outside their limits, a log that is no whole records or has more than corners - 4 of them, or
+ * a number over six digits; then FLAXGLIMMER_ROOM_SHORT.
+ * log: whole records; read. text: room for the sheet; written. */
+struct flaxglimmer_written flaxglimmer_write_log_sheet(size_t corners, size_t rows, const uint32_t *log, size_t log_length, uint8_t *text,
+                                                       size_t text_length);
+
+/* Reads a log sheet: its numbers in front of the log, which stays as it was past those; its value is the status. FLAXGLIMMER_SHEET_FORM for its size
+ * and the form of all its lines; then FLAXGLIMMER_COUNTS_OUTSIDE, also for more than corners - 4 records; then FLAXGLIMMER_ROOM_SHORT.
+ * bytes: the log sheet; read. log: room for its numbers; written. corners, rows, records: lent numbers, for its counts and how many records it has. */
+uint64_t flaxglimmer_read_log_sheet(const uint8_t *bytes, size_t bytes_length, uint32_t *log, size_t log_length, uint64_t *corners, uint64_t *rows,
+                                    uint64_t *records);
+
+/* The same by the reader that is asked for one record at a time. It asks in another order: FLAXGLIMMER_SHEET_FORM for size and first line;
+ * FLAXGLIMMER_COUNTS_OUTSIDE for the counts of the first line, as records are not held against the corners; FLAXGLIMMER_SHEET_FORM for a line of a
+ * record; FLAXGLIMMER_ROOM_SHORT. */
+uint64_t flaxglimmer_each_record(const uint8_t *bytes, size_t bytes_length, uint32_t *log, size_t log_length, uint64_t *corners, uint64_t *rows,
+                                 uint64_t *records);
+
+/* Opens a log sheet to be read record by record; its value is the status. FLAXGLIMMER_SHEET_FORM for size and first line;
+ * FLAXGLIMMER_COUNTS_OUTSIDE for its counts. What follows the first line is not looked at.
+ * bytes: the log sheet; read. corners, rows, place: lent numbers, for its counts and the place after its first line. */
+uint64_t flaxglimmer_open_log_sheet(const uint8_t *bytes, size_t bytes_length, uint64_t *corners, uint64_t *rows, uint64_t *place);
+
+/* The record at a place of a log sheet, or of any bytes; its value is the status. Where no byte follows the place it is the end: 0 is found, the place
+ * after is the place as given, and the numbers are 0. Else the line there is a record's, or the status is FLAXGLIMMER_SHEET_FORM and all else 0.
+ * bytes: any bytes; read. place: any number. found, after: lent numbers, for 1 or 0 and the place after the record's line. numbers:
+ * FLAXGLIMMER_WIDTH numbers, for the record's; written whatever the status. */
+uint64_t flaxglimmer_next_record(const uint8_t *bytes, size_t bytes_length, size_t place, uint64_t *found, uint64_t *after, uint32_t *numbers);
 
 #ifdef __cplusplus
 }

@@ -8,7 +8,7 @@ ghost use Rattle.surface.specs.Limits.{most-rows};
 ghost use Rattle.surface.specs.Rows.{rows};
 ghost use Rattle.surface.specs.Table.{Used};
 ghost use Rattle.surface.specs.InnerStageTable.{StageTable};
-ghost use Rattle.record.specs.Inner.{meant};
+ghost use Rattle.record.specs.Meant.{meant};
 ghost use Rattle.slots.specs.Slot.{Whole};
 ghost use Rattle.slots.specs.Marks.{Blank};
 ghost use Rattle.refusal.specs.InnerTells.{Tells};

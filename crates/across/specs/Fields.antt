@@ -1,6 +1,6 @@
 -- The numbers that cross, gathered in a struct for each kind of answer: the status, then its values in their order.
 use mathlib.Core.Path.{_≡_}
-use mathlib.Core.List.{[], _∷_}
+use mathlib.Core.List.{[], _∷_, map}
 use lib.IntN.{pos}
 use Rattle.refusal.specs.Told.{Told}
 use Rattle.ring.specs.declared.Trial.{Trial}
@@ -11,6 +11,9 @@ use Rattle.across.specs.declared.StandIn.{StandIn}
 use Rattle.across.specs.declared.Centimetres.{Centimetres}
 use Rattle.across.specs.declared.Counts.{Counts}
 use Rattle.across.specs.declared.Written.{Written}
+use Rattle.across.specs.declared.LogRead.{LogRead}
+use Rattle.across.specs.declared.LogOpened.{LogOpened}
+use Rattle.across.specs.declared.Asked.{Asked}
 use Rattle.across.specs.declared.Stored.{Stored}
 
 abbrev pub of-counted : Counted → Told
@@ -30,6 +33,15 @@ of-counts r = record { number = r .status; values = pos (r .corners) ∷ pos (r 
 
 abbrev pub of-written : Written → Told
 of-written r = record { number = r .status; values = pos (r .bytes) ∷ [] }
+
+abbrev pub of-log-read : LogRead → Told
+of-log-read r = record { number = r .status; values = pos (r .corners) ∷ pos (r .rows) ∷ pos (r .records) ∷ [] }
+
+abbrev pub of-log-opened : LogOpened → Told
+of-log-opened r = record { number = r .status; values = pos (r .corners) ∷ pos (r .rows) ∷ pos (r .place) ∷ [] }
+
+abbrev pub of-asked : Asked → Told
+of-asked r = record { number = r .status; values = pos (r .found) ∷ pos (r .after) ∷ map pos (r .numbers) }
 
 -- of the trial ring: 1 and the number, or 0 and 0 where there is nothing
 abbrev pub Stores : Trial → Stored → Type 0

@@ -5,6 +5,10 @@
 use length::Length;
 use length::Order;
 use length::Reading;
+use logrecords::Next;
+use logrecords::Opened;
+use logsheet::LogSheet;
+use record::Record;
 use refusal::Refusal;
 use regrow::Regrown;
 use ring::Trial;
@@ -14,6 +18,9 @@ use tell::Answer;
 use thin::Thinning;
 use volume::Measured;
 ghost use mathlib.Core.Path.{_≡_};
+ghost use lib.ListN.{length};
+ghost use Rattle.record.specs.Layout.{width, numbers};
+ghost use Rattle.record.specs.Meant.{meant};
 ghost use Rattle.length.specs.Answer as length-answer;
 ghost use Rattle.thin.specs.Answer as thin-answer;
 ghost use Rattle.regrow.specs.Answer as regrow-answer;
@@ -21,9 +28,11 @@ ghost use Rattle.volume.specs.Answer as volume-answer;
 ghost use Rattle.shift.specs.Answer as shift-answer;
 ghost use Rattle.sheet.specs.Answer as sheet-answer;
 ghost use Rattle.tell.specs.Answer as reply-answer;
+ghost use Rattle.logsheet.specs.Answer as log-answer;
+ghost use Rattle.logrecords.specs.Answer.{told-opened, told-next};
 ghost use Rattle.across.specs.Units.{length-of, order-of};
 ghost use Rattle.across.specs.Says.{Says};
-ghost use Rattle.across.specs.Fields.{of-counted, of-measure, of-stand-in, of-centimetres, of-counts, of-written, Stores};
+ghost use Rattle.across.specs.Fields.{of-counted, of-measure, of-stand-in, of-centimetres, of-counts, of-written, of-log-read, of-log-opened, of-asked, Stores};
 
 // What thinning, growing back and replay answer: the status, and how many records were done.
 #[repr(C)]
@@ -66,6 +75,30 @@ pub struct Counts {
 pub struct Written {
     pub status: u64,
     pub bytes: u64,
+}
+
+// What the log sheet's reader answers: the status, corner count, row count and records. Does not cross as a struct.
+pub struct LogRead {
+    pub status: u64,
+    pub corners: u64,
+    pub rows: u64,
+    pub records: u64,
+}
+
+// What opening a log sheet answers: the status, corner count, row count and the place after the first line. Does not cross as a struct.
+pub struct LogOpened {
+    pub status: u64,
+    pub corners: u64,
+    pub rows: u64,
+    pub place: u64,
+}
+
+// What asking for a record answers: the status, 1 for a record and 0 for the end, the place after it, and its numbers. Does not cross as a struct.
+pub struct Asked {
+    pub status: u64,
+    pub found: u64,
+    pub after: u64,
+    pub numbers: [u32; record::WIDTH],
 }
 
 // A number of the trial ring: 1 and the number, or 0 and 0 past its end.
@@ -223,6 +256,81 @@ pub fn written_of(a: Answer) -> Written
         Answer::Refused(e) => Written {
             status: refusal::number_of(e) as u64,
             bytes: 0,
+        },
+    }
+}
+
+// Inner: what the log sheet's reader answers.
+pub fn log_read_of(a: LogSheet) -> LogRead
+    ensures { λ r. ⌜ Says (log-answer.told a) (of-log-read r) ⌝ }
+{
+    match a {
+        LogSheet::Read(n, m, k) => LogRead {
+            status: 0,
+            corners: n as u64,
+            rows: m as u64,
+            records: k as u64,
+        },
+        LogSheet::Refused(e) => LogRead {
+            status: refusal::number_of(e) as u64,
+            corners: 0,
+            rows: 0,
+            records: 0,
+        },
+    }
+}
+
+// Inner: what opening a log sheet answers.
+pub fn log_opened_of(a: Opened) -> LogOpened
+    ensures { λ r. ⌜ Says (told-opened a) (of-log-opened r) ⌝ }
+{
+    match a {
+        Opened::At(n, m, c) => LogOpened {
+            status: 0,
+            corners: n as u64,
+            rows: m as u64,
+            place: c.at as u64,
+        },
+        Opened::Refused(e) => LogOpened {
+            status: refusal::number_of(e) as u64,
+            corners: 0,
+            rows: 0,
+            place: 0,
+        },
+    }
+}
+
+// The numbers of a record.
+fn numbers_of(r: Record) -> [u32; record::WIDTH]
+    ensures { λ ns. ⌜ ns ≡ numbers (meant r) ⌝ }
+{
+    let mut numbers = [0u32; record::WIDTH];
+    record::write_record(&mut numbers, 0, r);
+    numbers
+}
+
+// Inner: what asking for a record answers.
+pub fn asked_of(a: Next) -> Asked
+    ensures { λ r. ⌜ Says (told-next a) (of-asked r) × (length (r .numbers) ≡ width) ⌝ }
+{
+    match a {
+        Next::Found(r, c) => Asked {
+            status: 0,
+            found: 1,
+            after: c.at as u64,
+            numbers: numbers_of(r),
+        },
+        Next::End(c) => Asked {
+            status: 0,
+            found: 0,
+            after: c.at as u64,
+            numbers: [0; record::WIDTH],
+        },
+        Next::Bad => Asked {
+            status: refusal::number_of(Refusal::SheetForm) as u64,
+            found: 0,
+            after: 0,
+            numbers: [0; record::WIDTH],
         },
     }
 }

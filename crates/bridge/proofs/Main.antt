@@ -1,11 +1,11 @@
 -- Nothing is left to choose where the calls cross: no second struct, and no second number in what was lent.
 use mathlib.Core.Path.{_≡_, refl, sym, _∙_, ap}
 use mathlib.Core.List.{List, _++_}
-use Prim.Native.Nat.{ℕ, _-_}
+use Prim.Native.Nat.{ℕ, suc, _-_}
 use native.Mathlib.Omega.{arith}
 use lib.IntN.{ℤ, pos, natAbs}
 use lib.Ieee.{Float}
-use lib.ListN.{length, getD, take, replicate}
+use lib.ListN.{length, length-map, getD, take, drop, replicate}
 use lib.Seq.{take-append-seam}
 use denote.Ref.{RefT}
 use Rattle.refusal.specs.Told.{Told}
@@ -23,6 +23,12 @@ use Rattle.sheet.proofs.Promises.{one-outcome}
 use Rattle.sheet.specs.Answer as sheet-answer
 use Rattle.reply.proofs.Main.{replied-one}
 use Rattle.tell.specs.Answer as reply-answer
+use Rattle.logsheet.proofs.Main.{read-log-one, wrote-log-one}
+use Rattle.logsheet.specs.Answer as log-answer
+use Rattle.logrecords.proofs.Main.{opened-one, next-one}
+use Rattle.logreader.proofs.Main.{each-one}
+use Rattle.logrecords.specs.Answer.{told-opened, told-next}
+use Rattle.lines.proofs.Plain.{pos-same}
 use Rattle.ring.proofs.Rule.{trial-one}
 use Rattle.ring.specs.declared.Trial.{Trial}
 use Rattle.ring.specs.declared.Trial.the-variants.{Number, Nothing}
@@ -34,11 +40,14 @@ use Rattle.across.specs.declared.StandIn.{StandIn}
 use Rattle.across.specs.declared.Centimetres.{Centimetres}
 use Rattle.across.specs.declared.Counts.{Counts}
 use Rattle.across.specs.declared.Written.{Written}
+use Rattle.across.specs.declared.LogRead.{LogRead}
+use Rattle.across.specs.declared.LogOpened.{LogOpened}
+use Rattle.across.specs.declared.Asked.{Asked}
 use Rattle.across.specs.declared.Stored.{Stored}
 use Rattle.bridge.specs.declared.Part.{Part}
 use Rattle.across.specs.Says.{Says}
-use Rattle.across.specs.Fields.{of-counted, of-measure, of-stand-in, of-centimetres, of-counts, of-written}
-use Rattle.bridge.specs.Calls.{ThinShown, GrowShown, ReplayShown, VolumeShown, ChangeShown, ShiftShown, LimitShown, SheetShown, ReplyShown}
+use Rattle.across.specs.Fields.{of-counted, of-measure, of-stand-in, of-centimetres, of-counts, of-written, of-log-read, of-log-opened, of-asked}
+use Rattle.bridge.specs.Calls.{ThinShown, GrowShown, ReplayShown, VolumeShown, ChangeShown, ShiftShown, LimitShown, SheetShown, ReplyShown, WriteLogShown, ReadLogShown, EachShown, OpenShown, NextShown}
 use Rattle.across.specs.Fields.{Stores}
 use Rattle.bridge.specs.Lent.{TrialShown, Which, the-first, the-second, RingShown, Places, nothing, of-second, of-first, PartShown}
 use Rattle.across.proofs.Saying.{said}
@@ -88,6 +97,32 @@ module _ {a : Told} where
   written-once : {r q : Written} → Says a (of-written r) → Says a (of-written q) → r ≡ q
   written-once h k = let e = said-once h k refl in let n = ap (λ l. natAbs (value 0 l)) (e .1) in λ i. record { status = e .0 i; bytes = n i }
 
+  log-read-once : {r q : LogRead} → Says a (of-log-read r) → Says a (of-log-read q) → r ≡ q
+  log-read-once h k =
+      let e = said-once h k refl in
+      let n = ap (λ l. natAbs (value 0 l)) (e .1) in
+      let m = ap (λ l. natAbs (value 1 l)) (e .1) in
+      let d = ap (λ l. natAbs (value 2 l)) (e .1) in
+      λ i. record { status = e .0 i; corners = n i; rows = m i; records = d i }
+
+  log-opened-once : {r q : LogOpened} → Says a (of-log-opened r) → Says a (of-log-opened q) → r ≡ q
+  log-opened-once h k =
+      let e = said-once h k refl in
+      let n = ap (λ l. natAbs (value 0 l)) (e .1) in
+      let m = ap (λ l. natAbs (value 1 l)) (e .1) in
+      let d = ap (λ l. natAbs (value 2 l)) (e .1) in
+      λ i. record { status = e .0 i; corners = n i; rows = m i; place = d i }
+
+  -- two that have as many numbers
+  asked-once : {r q : Asked} → length (r .numbers) ≡ length (q .numbers) → Says a (of-asked r) → Says a (of-asked q) → r ≡ q
+  asked-once {r} {q} same h k =
+      let many = length-map (r .numbers) pos ∙ same ∙ sym (length-map (q .numbers) pos) in
+      let e = said-once h k (ap (λ n. suc (suc n)) many) in
+      let f = ap (λ l. natAbs (value 0 l)) (e .1) in
+      let p = ap (λ l. natAbs (value 1 l)) (e .1) in
+      let n = pos-same (r .numbers) (q .numbers) (ap (drop 2) (e .1)) in
+      λ i. record { status = e .0 i; found = f i; after = p i; numbers = n i }
+
 -- ---- no second outcome
 
 pub thin-crosses : (u : ℕ) (v : Float) {xs : List ℤ} {t l : List ℕ} {r q : Counted} {t₁ t₂ l₁ l₂ : List ℕ} →
@@ -120,6 +155,22 @@ sheet-crosses {b = b} {t = t} {xs = xs} p q = let e = one-outcome b t xs (p .giv
 
 pub reply-crosses : {b text : List ℕ} {r q : Written} {text₁ text₂ : List ℕ} → ReplyShown b text r text₁ → ReplyShown b text q text₂ → (r ≡ q) × (text₁ ≡ text₂)
 reply-crosses p q = let e = replied-one (p .gives) (q .gives) in (written-once (p .says) (said reply-answer.told (e .0) (q .says)), e .1)
+
+pub write-log-crosses : {n m : ℕ} {log text : List ℕ} {r q : Written} {text₁ text₂ : List ℕ} →
+    WriteLogShown n m log text r text₁ → WriteLogShown n m log text q text₂ → (r ≡ q) × (text₁ ≡ text₂)
+write-log-crosses p q = let e = wrote-log-one (p .gives) (q .gives) in (written-once (p .says) (said reply-answer.told (e .0) (q .says)), e .1)
+
+pub read-log-crosses : {b room room₁ room₂ : List ℕ} {r q : LogRead} → ReadLogShown b room room₁ r → ReadLogShown b room room₂ q → (r ≡ q) × (room₁ ≡ room₂)
+read-log-crosses p q = let e = read-log-one (p .gives) (q .gives) in (log-read-once (p .says) (said log-answer.told (e .0) (q .says)), e .1)
+
+pub each-crosses : {b room room₁ room₂ : List ℕ} {r q : LogRead} → EachShown b room room₁ r → EachShown b room room₂ q → (r ≡ q) × (room₁ ≡ room₂)
+each-crosses p q = let e = each-one (p .gives) (q .gives) in (log-read-once (p .says) (said log-answer.told (e .0) (q .says)), e .1)
+
+pub open-log-crosses : {b : List ℕ} {r q : LogOpened} → OpenShown b r → OpenShown b q → r ≡ q
+open-log-crosses p q = log-opened-once (p .says) (said told-opened (opened-one (p .gives) (q .gives)) (q .says))
+
+pub next-crosses : {b : List ℕ} {at : ℕ} {r q : Asked} → NextShown b at r → NextShown b at q → r ≡ q
+next-crosses p q = asked-once (p .many ∙ sym (q .many)) (p .shown .says) (said told-next (next-one (p .shown .gives) (q .shown .gives)) (q .shown .says))
 
 -- ---- the same of those that refuse nothing
 

@@ -4,6 +4,8 @@ use mathlib.Core.List.{List}
 use Prim.Native.Nat.{ℕ}
 use lib.IntN.{ℤ}
 use lib.Ieee.{Float}
+use lib.ListN.{length}
+use Rattle.record.specs.Layout.{width}
 use Rattle.length.specs.Limit.{limit-of}
 use Rattle.length.specs.Answer as length-answer
 use Rattle.thin.specs.Thin.{Thinned}
@@ -19,15 +21,23 @@ use Rattle.sheet.specs.Outcome.{ReadSheet}
 use Rattle.sheet.specs.Answer as sheet-answer
 use Rattle.reply.specs.Outcome.{Replied}
 use Rattle.tell.specs.Answer as reply-answer
+use Rattle.logsheet.specs.Outcome.{ReadLogSheet, WroteLogSheet}
+use Rattle.logsheet.specs.Answer as log-answer
+use Rattle.logrecords.specs.Outcome.{OpenedLog, NextRecord}
+use Rattle.logrecords.specs.Answer.{told-opened, told-next}
+use Rattle.logreader.specs.Outcome.{EachRecord}
 use Rattle.across.specs.declared.Counted.{Counted}
 use Rattle.across.specs.declared.Measure.{Measure}
 use Rattle.across.specs.declared.StandIn.{StandIn}
 use Rattle.across.specs.declared.Centimetres.{Centimetres}
 use Rattle.across.specs.declared.Counts.{Counts}
 use Rattle.across.specs.declared.Written.{Written}
+use Rattle.across.specs.declared.LogRead.{LogRead}
+use Rattle.across.specs.declared.LogOpened.{LogOpened}
+use Rattle.across.specs.declared.Asked.{Asked}
 use Rattle.across.specs.Units.{length-of, order-of}
 use Rattle.across.specs.Says.{Shown}
-use Rattle.across.specs.Fields.{of-counted, of-measure, of-stand-in, of-centimetres, of-counts, of-written}
+use Rattle.across.specs.Fields.{of-counted, of-measure, of-stand-in, of-centimetres, of-counts, of-written, of-log-read, of-log-opened, of-asked}
 
 -- thinning under the order of the unit u and the figure v
 abbrev pub ThinShown : ℕ → Float → List ℤ → List ℕ → List ℕ → Counted → List ℕ → List ℕ → Type 0
@@ -64,3 +74,25 @@ SheetShown b t t′ xs xs′ r = Shown (λ a. ReadSheet b t t′ xs xs′ a) she
 -- the desk's answer
 abbrev pub ReplyShown : List ℕ → List ℕ → Written → List ℕ → Type 0
 ReplyShown b text r text′ = Shown (λ a. Replied b text a text′) reply-answer.told (of-written r)
+
+-- writing a log sheet
+abbrev pub WriteLogShown : ℕ → ℕ → List ℕ → List ℕ → Written → List ℕ → Type 0
+WriteLogShown n m log text r text′ = Shown (λ a. WroteLogSheet n m log text text′ a) reply-answer.told (of-written r)
+
+-- reading a log sheet
+abbrev pub ReadLogShown : List ℕ → List ℕ → List ℕ → LogRead → Type 0
+ReadLogShown b room room′ r = Shown (λ a. ReadLogSheet b room room′ a) log-answer.told (of-log-read r)
+
+-- reading it record by record
+abbrev pub EachShown : List ℕ → List ℕ → List ℕ → LogRead → Type 0
+EachShown b room room′ r = Shown (λ a. EachRecord b room room′ a) log-answer.told (of-log-read r)
+
+-- opening a log sheet
+abbrev pub OpenShown : List ℕ → LogOpened → Type 0
+OpenShown b r = Shown (λ a. OpenedLog b a) told-opened (of-log-opened r)
+
+-- the record at a place
+pub record NextShown (b : List ℕ) (at : ℕ) (r : Asked) : Type 0 where
+  pub shown : Shown (λ a. NextRecord b at a) told-next (of-asked r)
+  -- as many numbers as a record has
+  pub many : length (r .numbers) ≡ width

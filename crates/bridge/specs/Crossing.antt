@@ -1,4 +1,4 @@
--- "Each public call states its entire outcome": of each of the twelve functions that cross, that it answers as its call does, and that no second outcome
+-- "Each public call states its entire outcome": of each function that crosses, that it answers as its call does, and that no second outcome
 -- satisfies the same words.
 use mathlib.Core.Path.{_≡_}
 use mathlib.Core.List.{List}
@@ -28,25 +28,36 @@ use Rattle.sheet.specs.Answer as sheet-answer
 use Rattle.tell.specs.declared.Answer.{Answer}
 use Rattle.reply.specs.Outcome.{Replied}
 use Rattle.tell.specs.Answer as reply-answer
+use Rattle.logsheet.specs.declared.LogSheet.{LogSheet}
+use Rattle.logsheet.specs.Outcome.{ReadLogSheet, WroteLogSheet}
+use Rattle.logsheet.specs.Answer as log-answer
+use Rattle.logrecords.specs.declared.Opened.{Opened}
+use Rattle.logrecords.specs.declared.Next.{Next}
+use Rattle.logrecords.specs.Outcome.{OpenedLog, NextRecord}
+use Rattle.logrecords.specs.Answer.{told-opened, told-next}
 use Rattle.ring.specs.declared.Trial.{Trial}
 use Rattle.ring.specs.Ring.{AnswerAt}
 use Rattle.link.specs.Chosen.{Chosen}
 use Rattle.catchup.specs.CatchUp.{CaughtUp}
+use Rattle.logreader.specs.Outcome.{EachRecord}
 use Rattle.across.specs.declared.Counted.{Counted}
 use Rattle.across.specs.declared.Measure.{Measure}
 use Rattle.across.specs.declared.StandIn.{StandIn}
 use Rattle.across.specs.declared.Centimetres.{Centimetres}
 use Rattle.across.specs.declared.Counts.{Counts}
 use Rattle.across.specs.declared.Written.{Written}
+use Rattle.across.specs.declared.LogRead.{LogRead}
+use Rattle.across.specs.declared.LogOpened.{LogOpened}
+use Rattle.across.specs.declared.Asked.{Asked}
 use Rattle.across.specs.declared.Stored.{Stored}
 use Rattle.bridge.specs.declared.Part.{Part}
 use Rattle.across.specs.Units.{length-of, order-of}
 use Rattle.across.specs.Says.{Says}
-use Rattle.across.specs.Fields.{of-counted, of-measure, of-stand-in, of-centimetres, of-counts, of-written, Stores}
-use Rattle.bridge.specs.Calls.{ThinShown, GrowShown, ReplayShown, VolumeShown, ChangeShown, ShiftShown, LimitShown, SheetShown, ReplyShown}
+use Rattle.across.specs.Fields.{of-counted, of-measure, of-stand-in, of-centimetres, of-counts, of-written, of-log-read, of-log-opened, of-asked, Stores}
+use Rattle.bridge.specs.Calls.{ThinShown, GrowShown, ReplayShown, VolumeShown, ChangeShown, ShiftShown, LimitShown, SheetShown, ReplyShown, WriteLogShown, ReadLogShown, EachShown, OpenShown, NextShown}
 use Rattle.bridge.specs.Lent.{TrialShown, Which, RingShown, Places, PartShown}
 
--- the calls in the order of their numbers over a pipe, 1 to 12
+-- the calls in the order of their numbers over a pipe: 1 to 15, 24, 25
 pub record Crossing : Type 0 where
   -- what is said is what the call answers, and what is left is what the call leaves
   pub thin : (u : ℕ) (v : Float) {xs : List ℤ} {t l : List ℕ} {r : Counted} {t₁ t₂ l₁ l₂ : List ℕ} {a : Thinning} → ThinShown u v xs t l r t₁ l₁ → Thinned (order-of u v) xs t l a t₂ l₂ →
@@ -75,3 +86,14 @@ pub record Crossing : Type 0 where
   pub trial-number-one : {k : ℕ} {r q : Stored} → TrialShown k r → TrialShown k q → r ≡ q
   pub reply : {b text : List ℕ} {r : Written} {text₁ text₂ : List ℕ} {a : Answer} → ReplyShown b text r text₁ → Replied b text a text₂ → Says (reply-answer.told a) (of-written r) × (text₁ ≡ text₂)
   pub reply-one : {b text : List ℕ} {r q : Written} {text₁ text₂ : List ℕ} → ReplyShown b text r text₁ → ReplyShown b text q text₂ → (r ≡ q) × (text₁ ≡ text₂)
+  pub write-log : {n m : ℕ} {log text : List ℕ} {r : Written} {text₁ text₂ : List ℕ} {a : Answer} → WriteLogShown n m log text r text₁ → WroteLogSheet n m log text text₂ a →
+      Says (reply-answer.told a) (of-written r) × (text₁ ≡ text₂)
+  pub write-log-one : {n m : ℕ} {log text : List ℕ} {r q : Written} {text₁ text₂ : List ℕ} → WriteLogShown n m log text r text₁ → WriteLogShown n m log text q text₂ → (r ≡ q) × (text₁ ≡ text₂)
+  pub read-log : {b room room₁ room₂ : List ℕ} {r : LogRead} {a : LogSheet} → ReadLogShown b room room₁ r → ReadLogSheet b room room₂ a → Says (log-answer.told a) (of-log-read r) × (room₁ ≡ room₂)
+  pub read-log-one : {b room room₁ room₂ : List ℕ} {r q : LogRead} → ReadLogShown b room room₁ r → ReadLogShown b room room₂ q → (r ≡ q) × (room₁ ≡ room₂)
+  pub each-record : {b room room₁ room₂ : List ℕ} {r : LogRead} {a : LogSheet} → EachShown b room room₁ r → EachRecord b room room₂ a → Says (log-answer.told a) (of-log-read r) × (room₁ ≡ room₂)
+  pub each-record-one : {b room room₁ room₂ : List ℕ} {r q : LogRead} → EachShown b room room₁ r → EachShown b room room₂ q → (r ≡ q) × (room₁ ≡ room₂)
+  pub open-log : {b : List ℕ} {r : LogOpened} {a : Opened} → OpenShown b r → OpenedLog b a → Says (told-opened a) (of-log-opened r)
+  pub open-log-one : {b : List ℕ} {r q : LogOpened} → OpenShown b r → OpenShown b q → r ≡ q
+  pub next-record : {b : List ℕ} {at : ℕ} {r : Asked} {a : Next} → NextShown b at r → NextRecord b at a → Says (told-next a) (of-asked r)
+  pub next-record-one : {b : List ℕ} {at : ℕ} {r q : Asked} → NextShown b at r → NextShown b at q → r ≡ q

@@ -4,7 +4,8 @@ use across::Counted;
 use across::Measure;
 use across::Stored;
 use across::Written;
-ghost use Rattle.bridge.specs.Calls.{ThinShown, GrowShown, ReplayShown, VolumeShown, ChangeShown, ShiftShown, LimitShown, SheetShown, ReplyShown};
+use text::Cursor;
+ghost use Rattle.bridge.specs.Calls.{ThinShown, GrowShown, ReplayShown, VolumeShown, ChangeShown, ShiftShown, LimitShown, SheetShown, ReplyShown, WriteLogShown, ReadLogShown, EachShown, OpenShown, NextShown};
 ghost use Rattle.bridge.specs.Lent.{TrialShown, RingShown, PartShown};
 
 // A part of one of two lent logs, the first (0) or the second (1): its numbers at the places from `from` up to, not with, `to`.
@@ -180,4 +181,91 @@ pub extern "C" fn flaxglimmer_reply(sheet: &[u8], text: &mut [u8]) -> Written
     ensures { λ r. ⌜ ReplyShown (now (sheet .entry)) (now (text .entry)) r (now (text .exit)) ⌝ }
 {
     across::written_of(reply::reply(sheet, text))
+}
+
+// ---- log sheets
+
+// Writes a log as a log sheet in front of the lent text.
+#[no_mangle]
+pub extern "C" fn flaxglimmer_write_log_sheet(
+    corners: usize,
+    rows: usize,
+    log: &[u32],
+    text: &mut [u8],
+) -> Written
+    ensures { λ r. ⌜ WriteLogShown corners rows (now (log .entry)) (now (text .entry)) r (now (text .exit)) ⌝ }
+{
+    across::written_of(logsheet::write_log_sheet(corners, rows, log, text))
+}
+
+// Reads a log sheet into a lent log: the status, and corner count, row count and records in lent numbers.
+#[no_mangle]
+pub extern "C" fn flaxglimmer_read_log_sheet(
+    bytes: &[u8],
+    log: &mut [u32],
+    corners: &mut u64,
+    rows: &mut u64,
+    records: &mut u64,
+) -> u64
+    ensures { λ r. ⌜ ReadLogShown (now (bytes .entry)) (now (log .entry)) (now (log .exit)) (record { status = r; corners = now (corners .exit); rows = now (rows .exit); records = now (records .exit) }) ⌝ }
+{
+    let read = across::log_read_of(logsheet::read_log_sheet(bytes, log));
+    *corners = read.corners;
+    *rows = read.rows;
+    *records = read.records;
+    read.status
+}
+
+// The same, record by record, by the reader that keeps the sheet and its own place.
+#[no_mangle]
+pub extern "C" fn flaxglimmer_each_record(
+    bytes: &[u8],
+    log: &mut [u32],
+    corners: &mut u64,
+    rows: &mut u64,
+    records: &mut u64,
+) -> u64
+    ensures { λ r. ⌜ EachShown (now (bytes .entry)) (now (log .entry)) (now (log .exit)) (record { status = r; corners = now (corners .exit); rows = now (rows .exit); records = now (records .exit) }) ⌝ }
+{
+    let read = across::log_read_of(logreader::each_record(bytes, log));
+    *corners = read.corners;
+    *rows = read.rows;
+    *records = read.records;
+    read.status
+}
+
+// Opens a log sheet: the status, and corner count, row count and the place after the first line in lent numbers.
+#[no_mangle]
+pub extern "C" fn flaxglimmer_open_log_sheet(
+    bytes: &[u8],
+    corners: &mut u64,
+    rows: &mut u64,
+    place: &mut u64,
+) -> u64
+    ensures { λ r. ⌜ OpenShown (now (bytes .entry)) (record { status = r; corners = now (corners .exit); rows = now (rows .exit); place = now (place .exit) }) ⌝ }
+{
+    let opened = across::log_opened_of(logrecords::open_log_sheet(bytes));
+    *corners = opened.corners;
+    *rows = opened.rows;
+    *place = opened.place;
+    opened.status
+}
+
+// The record at a place of a log sheet, or of any bytes: the status, and 1 for a record and 0 for the end, the place after it and its numbers in lent ones.
+#[no_mangle]
+pub extern "C" fn flaxglimmer_next_record(
+    bytes: &[u8],
+    place: usize,
+    found: &mut u64,
+    after: &mut u64,
+    numbers: &mut [u32; record::WIDTH],
+) -> u64
+    ensures { λ r. ⌜ NextShown (now (bytes .entry)) place (record { status = r; found = now (found .exit); after = now (after .exit); numbers = now (numbers .exit) }) ⌝ }
+{
+    let asked = across::asked_of(logrecords::next_record(bytes, Cursor { at: place }));
+    *found = asked.found;
+    *after = asked.after;
+    let told = asked.numbers;
+    *numbers = told;
+    asked.status
 }

@@ -8,50 +8,6 @@ const RING: usize = 384;
 // The greatest unit of a limit; 0 stands for no limit.
 const LAST_UNIT: u64 = 3;
 
-// ---- answers
-
-// An answer of two words.
-fn answer_two(status: u64, value: u64) -> bool {
-    if !words::write_word(2) {
-        return false;
-    }
-    if !words::write_word(status) {
-        return false;
-    }
-    words::write_word(value)
-}
-
-// An answer of three words.
-fn answer_three(status: u64, first: u64, second: u64) -> bool {
-    if !words::write_word(3) {
-        return false;
-    }
-    if !words::write_word(status) {
-        return false;
-    }
-    if !words::write_word(first) {
-        return false;
-    }
-    words::write_word(second)
-}
-
-// An answer of four words.
-fn answer_four(status: u64, first: u64, second: u64, third: u64) -> bool {
-    if !words::write_word(4) {
-        return false;
-    }
-    if !words::write_word(status) {
-        return false;
-    }
-    if !words::write_word(first) {
-        return false;
-    }
-    if !words::write_word(second) {
-        return false;
-    }
-    words::write_word(third)
-}
-
 // The figure of a pattern. A NaN's has an exponent of ones and digits that are not all 0; every NaN is one figure here.
 fn figure_of(bits: u64) -> f64 {
     if bits % 9223372036854775808 / 4503599627370496 != 2047 {
@@ -94,7 +50,7 @@ fn call_thin() -> bool {
 
 fn thin_lent(unit: u32, figure: f64, table: &mut [u32], corners: &[i32], log: &mut [u32]) -> bool {
     let a = bridge::flaxglimmer_thin(unit, figure, table, corners, log);
-    if !answer_two(a.status, a.records) {
+    if !words::answer_two(a.status, a.records) {
         return false;
     }
     if !words::write_numbers(table) {
@@ -120,7 +76,7 @@ fn call_grow() -> bool {
 
 fn grow_lent(rows: usize, corners: usize, room: &mut [u32], log: &[u32]) -> bool {
     let a = bridge::flaxglimmer_grow_back(rows, corners, room, log);
-    if !answer_two(a.status, a.records) {
+    if !words::answer_two(a.status, a.records) {
         return false;
     }
     words::write_numbers(room)
@@ -142,7 +98,7 @@ fn call_replay() -> bool {
 
 fn replay_lent(corners: usize, table: &mut [u32], log: &[u32]) -> bool {
     let a = bridge::flaxglimmer_replay(corners, table, log);
-    if !answer_two(a.status, a.records) {
+    if !words::answer_two(a.status, a.records) {
         return false;
     }
     words::write_numbers(table)
@@ -159,7 +115,7 @@ fn call_volume() -> bool {
         return false;
     }
     let a = bridge::flaxglimmer_volume(&table[..t], &corners[..c]);
-    answer_two(a.status, word::word_of(a.figure))
+    words::answer_two(a.status, word::word_of(a.figure))
 }
 
 // A change: earlier table; later table; corners.
@@ -175,7 +131,7 @@ fn call_change() -> bool {
         return false;
     }
     let a = bridge::flaxglimmer_change(&earlier[..e], &later[..l], &corners[..c]);
-    answer_two(a.status, word::word_of(a.figure))
+    words::answer_two(a.status, word::word_of(a.figure))
 }
 
 // A shift: corner; corners; log.
@@ -207,7 +163,7 @@ fn shift_lent(corner: u32, corners: &[i32], log: &[u32]) -> bool {
         &mut count,
         &mut squared,
     );
-    answer_four(status, standin, count, squared)
+    words::answer_four(status, standin, count, squared)
 }
 
 // A limit: unit and bits.
@@ -225,7 +181,7 @@ fn call_limit() -> bool {
         return false;
     }
     let a = bridge::flaxglimmer_limit(unit as u32, figure_of(bits));
-    answer_two(a.status, a.whole)
+    words::answer_two(a.status, a.whole)
 }
 
 // Two lists of which one, or a part of one, is handed back: the ring chooser, and the catch-up part.
@@ -263,7 +219,7 @@ fn sheet_lent(bytes: &[u8], table: &mut [u32], corners: &mut [i32]) -> bool {
     let mut count: u64 = 0;
     let mut rows: u64 = 0;
     let status = bridge::flaxglimmer_read_sheet(bytes, table, corners, &mut count, &mut rows);
-    if !answer_three(status, count, rows) {
+    if !words::answer_three(status, count, rows) {
         return false;
     }
     if !words::write_numbers(table) {
@@ -287,7 +243,7 @@ fn call_reply() -> bool {
 
 fn reply_lent(bytes: &[u8], text: &mut [u8]) -> bool {
     let a = bridge::flaxglimmer_reply(bytes, text);
-    if !answer_two(a.status, a.bytes) {
+    if !words::answer_two(a.status, a.bytes) {
         return false;
     }
     words::write_bytes(text)
@@ -353,6 +309,26 @@ fn call_later(number: u64) -> bool {
     }
     if number == 12 {
         return call_reply();
+    }
+    call_of_logs(number)
+}
+
+// Those of log sheets.
+fn call_of_logs(number: u64) -> bool {
+    if number == 13 {
+        return logcalls::call_write();
+    }
+    if number == 14 {
+        return logcalls::call_read();
+    }
+    if number == 15 {
+        return logcalls::call_each();
+    }
+    if number == 24 {
+        return logcalls::call_open();
+    }
+    if number == 25 {
+        return logcalls::call_next();
     }
     false
 }

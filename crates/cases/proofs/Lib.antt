@@ -3,3 +3,4 @@ pub mod Starred
 pub mod Impostors
 pub mod Returns
 pub mod Backward
+pub mod Mailed

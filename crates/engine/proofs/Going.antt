@@ -17,7 +17,7 @@ use Rattle.run.specs.Run.{Least, Taken, none-yet, Over}
 use Rattle.run.proofs.Main.{taken-more, step-corners}
 use Rattle.record.specs.declared.Record.{Record}
 use Rattle.record.specs.Layout.{width, log-of, numbers}
-use Rattle.record.specs.Inner.{meant}
+use Rattle.record.specs.Meant.{meant}
 use Rattle.record.proofs.Log.{numbers-length, log-length, log-append}
 use Rattle.record.specs.Front.{front-rows}
 use Rattle.step.specs.Front.{SteppedFront, Fallen}

@@ -21,7 +21,7 @@ use Rattle.record.specs.Front.{front-rows, zeroed}
 use Rattle.engine.specs.Engine.{CanGoOn, WentOn}
 
 -- no more corners are used than there are
-used-most : {n v : ℕ} {T : List Row} → Stage n T → Exactly (Used T) v → v ≤ n
+pub used-most : {n v : ℕ} {T : List Row} → Stage n T → Exactly (Used T) v → v ≤ n
 used-most {n} s c =
     let h = fits (c .distinct) (upto n) (λ u m. every-upto n u (s .below (c .only m .1 .1))) in
     let e = c .count in

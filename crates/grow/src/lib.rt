@@ -5,7 +5,7 @@ use record::Record;
 ghost use Prim.Native.Nat.{_+_, _*_, _≤_};
 ghost use lib.ListN.{length};
 ghost use Rattle.surface.specs.InnerStageTable.{StageTable};
-ghost use Rattle.record.specs.Inner.{meant};
+ghost use Rattle.record.specs.Meant.{meant};
 ghost use Rattle.grow.specs.Walk.{Walkable, Renamed};
 ghost use Rattle.record.specs.Front.{front-rows};
 ghost use Rattle.grow.specs.Room.{GrewBack};

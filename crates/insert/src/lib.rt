@@ -6,7 +6,7 @@ ghost use Prim.Native.Nat.{_+_, _*_, _≤_};
 ghost use lib.ListN.{length};
 ghost use Rattle.surface.specs.Record.{placed};
 ghost use Rattle.growth.specs.Grow.{put, put-back};
-ghost use Rattle.record.specs.Inner.{meant};
+ghost use Rattle.record.specs.Meant.{meant};
 ghost use Rattle.record.specs.Front.{standing, filled};
 ghost use Rattle.ends.specs.Rows.{row-of};
 ghost use Rattle.insert.specs.Moved.{MovedOn};

@@ -10,7 +10,7 @@ use Rattle.surface.specs.Contract.{Stays}
 use Rattle.surface.specs.Record.{leaving, placed}
 use Rattle.record.specs.declared.Leaving.{Leaving}
 use Rattle.record.specs.declared.Record.{Record}
-use Rattle.record.specs.Inner.{meant}
+use Rattle.record.specs.Meant.{meant}
 
 -- the flat table t is a stage, and the edge from a up to b may be contracted
 pub record MayStep (t : List ℕ) (a b : ℕ) : Type 0 where

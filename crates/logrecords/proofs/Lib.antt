@@ -1,3 +1,4 @@
 pub mod Opening
 pub mod Standing
 pub mod Walking
+pub mod Main

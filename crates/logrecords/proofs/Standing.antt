@@ -8,7 +8,7 @@ use lib.ListN.{length, length-append, drop, length-drop, replicate, length-repli
 use lib.Seq.{take-all}
 use Rattle.record.specs.Layout.{width, record-at}
 use Rattle.record.specs.declared.Record.{Record}
-use Rattle.record.specs.Inner.{meant}
+use Rattle.record.specs.Meant.{meant}
 use Rattle.lines.specs.Lines.{fields, line}
 use Rattle.lines.specs.Kinds.{K}
 use Rattle.lines.specs.Inner.{PutFrom}

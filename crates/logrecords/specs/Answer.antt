@@ -5,7 +5,7 @@ use lib.ListN.{replicate}
 use Rattle.refusal.specs.Told.{Told, done, refused}
 use Rattle.refusal.specs.declared.Refusal.the-variants.{SheetForm}
 use Rattle.record.specs.Layout.{width, numbers}
-use Rattle.record.specs.Inner.{meant}
+use Rattle.record.specs.Meant.{meant}
 use Rattle.logrecords.specs.declared.Opened.{Opened}
 use Rattle.logrecords.specs.declared.Opened.the-variants.{At, Refused}
 use Rattle.logrecords.specs.declared.Next.{Next}

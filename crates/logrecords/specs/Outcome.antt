@@ -10,7 +10,7 @@ use Rattle.refusal.specs.declared.Refusal.the-variants.{CountsOutside, SheetFor
 use Rattle.refusal.specs.declared.Verdict.the-variants as verdict
 use Rattle.record.specs.Layout.{width, record-at}
 use Rattle.record.specs.declared.Record.{Record}
-use Rattle.record.specs.Inner.{meant}
+use Rattle.record.specs.Meant.{meant}
 use Rattle.lines.specs.Lines.{line, LineAt}
 use Rattle.lines.specs.Kinds.{K}
 use Rattle.heading.specs.Heading.{most-digits, first-line, Begins, NoFirstLine}

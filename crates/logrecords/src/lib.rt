@@ -19,7 +19,7 @@ pub enum Next {
     Bad,
 }
 
-// Inner: opens a log sheet: size, first line, counts.
+// Opens a log sheet: size, first line, counts.
 pub fn open_log_sheet(bytes: &[u8]) -> Opened
     ensures { λ a. ⌜ OpenedLog (now (bytes .entry)) a ⌝ }
 {
@@ -39,7 +39,7 @@ pub fn open_log_sheet(bytes: &[u8]) -> Opened
     Opened::At(n, m, Cursor { at: at })
 }
 
-// Inner: the record at a place of a log sheet, or of any bytes.
+// The record at a place of a log sheet, or of any bytes.
 pub fn next_record(bytes: &[u8], from: Cursor) -> Next
     ensures { λ a. ⌜ NextRecord (now (bytes .entry)) (from .at) a ⌝ }
 {

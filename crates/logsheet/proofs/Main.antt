@@ -87,7 +87,7 @@ module _ {n m : ℕ} {log : List ℕ} (w : Writable n m log) where
       let fits : ¬ NoRoom (log-text n m log) room = λ o. let e = ap length (one-log s (o .sheet) .numbers) in let q = o .short in omega arith in
       passes-none verdicts _ .1 ((λ k. omega (arith, log-size)) nor (λ none. none n m log s) nor inside nor fits nor none-yet)
 
-  reads-back : {room room′ : List ℕ} {a : LogSheet} → length log ≤ length room → ReadLogSheet (log-text n m log) room room′ a → (a ≡ Read n m (count log)) × (room′ ≡ log ++ drop (length log) room)
+  pub reads-back : {room room′ : List ℕ} {a : LogSheet} → length log ≤ length room → ReadLogSheet (log-text n m log) room room′ a → (a ≡ Read n m (count log)) × (room′ ≡ log ++ drop (length log) room)
   reads-back h r = read-log-one r (read (written-passes h) its-log-sheet refl refl)
 
 -- reading what was written gives the same counts and the same log

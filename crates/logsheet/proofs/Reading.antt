@@ -35,11 +35,32 @@ module _ {b : List ℕ} {n m k at : ℕ} (f : LogFormRead b n m k at) where
   not-long : ¬ (most-log-bytes < length b)
   not-long h = let s = f .size in omega arith
 
-  there : ¬ NoLogSheet b
+  pub there : ¬ NoLogSheet b
   there none = none n m (f .log) (f .sheet)
 
-  counted : k ≡ count (f .log)
+  pub counted : k ≡ count (f .log)
   counted = let c = f .records .count in omega arith
+
+  pub no-room : {room : ℕ} → room < k * width → NoRoom b room
+  no-room h = let e = f .records .count in record { n = n; m = m; log = f .log; sheet = f .sheet; short = omega arith }
+
+  pub room-enough : {room : ℕ} → k * width ≤ room → ¬ NoRoom b room
+  room-enough h o =
+      let s = one-log (f .sheet) (o .sheet) in
+      let e = ap length (s .numbers) in
+      let g = f .records .count in
+      let q = o .short in
+      omega arith
+
+  -- the lines are in their form, so they are read
+  pub put : (room : List ℕ) {room′ : List ℕ} (p : Passed) → ReadInto (LinesOf pos most-digits K width k (drop at b)) (k * width) b room 0 room′ p → k * width ≤ length room → room′ ≡ f .log ++ drop (length (f .log)) room
+  unfolding ReadInto
+  put room (To e) q h =
+      let u = lines-unique K width k (map pos (q .zs)) (map pos (f .log)) (drop (e .at) b) [] (length-map (q .zs) pos ∙ q .count) (length-map (f .log) pos ∙ f .records .count) (sym (q .here .bytes) ∙ f .records .lines .bytes) in
+      let same = pos-same (q .zs) (f .log) (u .0) in
+      let c = f .records .count in
+      q .put ∙ ap (λ ns. sets room 0 ns) same ∙ in-front room (f .log) (omega arith)
+  put room Bad q h = absurd (q (f .log) [] (f .records .count) (f .records .lines))
 
   pub counts-out : (room : ℕ) → (¬ CountsIn n m k) → First (read-refusals b room) (Refused CountsOutside)
   unfolding read-refusals
@@ -56,30 +77,11 @@ module _ {b : List ℕ} {n m k at : ℕ} (f : LogFormRead b n m k at) where
 
     pub room-short : {room : ℕ} → room < k * width → First (read-refusals b room) (Refused RoomShort)
     unfolding read-refusals
-    room-short h = let e = f .records .count in given-first verdicts (not-long nor there nor not-out nor none-yet) (record { n = n; m = m; log = f .log; sheet = f .sheet; short = omega arith })
+    room-short h = given-first verdicts (not-long nor there nor not-out nor none-yet) (no-room h)
 
-    module _ {room : ℕ} (h : k * width ≤ room) where
-      not-short : ¬ NoRoom b room
-      not-short o =
-          let s = one-log (f .sheet) (o .sheet) in
-          let e = ap length (s .numbers) in
-          let g = f .records .count in
-          let q = o .short in
-          omega arith
-
-      passes : First (read-refusals b room) Passes
-      unfolding read-refusals
-      passes = passes-none verdicts _ .1 (not-long nor there nor not-out nor not-short nor none-yet)
-
-    -- the lines are in their form, so they are read
-    put : (room : List ℕ) {room′ : List ℕ} (p : Passed) → ReadInto (LinesOf pos most-digits K width k (drop at b)) (k * width) b room 0 room′ p → k * width ≤ length room → room′ ≡ f .log ++ drop (length (f .log)) room
-    unfolding ReadInto
-    put room (To e) q h =
-        let u = lines-unique K width k (map pos (q .zs)) (map pos (f .log)) (drop (e .at) b) [] (length-map (q .zs) pos ∙ q .count) (length-map (f .log) pos ∙ f .records .count) (sym (q .here .bytes) ∙ f .records .lines .bytes) in
-        let same = pos-same (q .zs) (f .log) (u .0) in
-        let c = f .records .count in
-        q .put ∙ ap (λ ns. sets room 0 ns) same ∙ in-front room (f .log) (omega arith)
-    put room Bad q h = absurd (q (f .log) [] (f .records .count) (f .records .lines))
+    passes : {room : ℕ} → k * width ≤ room → First (read-refusals b room) Passes
+    unfolding read-refusals
+    passes h = passes-none verdicts _ .1 (not-long nor there nor not-out nor room-enough h nor none-yet)
 
     pub read-done : {room room′ : List ℕ} (p : Passed) → ReadInto (LinesOf pos most-digits K width k (drop at b)) (k * width) b room 0 room′ p → k * width ≤ length room → ReadLogSheet b room room′ (sheet.Read n m k)
     read-done {room} p q h = read (passes h) (f .sheet) (ap (sheet.Read n m) counted) (put room p q h)

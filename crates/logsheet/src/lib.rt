@@ -15,7 +15,7 @@ pub enum LogSheet {
     Refused(Refusal),
 }
 
-// Inner: reads a log sheet: its numbers go in front of the lent room, and the rest of it stays. The lines are passed over first, so that nothing is
+// Reads a log sheet: its numbers go in front of the lent room, and the rest of it stays. The lines are passed over first, so that nothing is
 // written where it is refused.
 pub fn read_log_sheet(bytes: &[u8], log: &mut [u32]) -> LogSheet
     ensures { λ r. ⌜ ReadLogSheet (now (bytes .entry)) (now (log .entry)) (now (log .exit)) r ⌝ }
@@ -69,7 +69,7 @@ fn writable(n: usize, m: usize, log: &[u32]) -> bool
     short(log)
 }
 
-// Inner: writes a log as a sheet in front of the lent text; the rest of it stays. Refused, it leaves the text as it was.
+// Writes a log as a sheet in front of the lent text; the rest of it stays. Refused, it leaves the text as it was.
 pub fn write_log_sheet(n: usize, m: usize, log: &[u32], text: &mut [u8]) -> Answer
     ensures { λ a. ⌜ WroteLogSheet n m (now (log .entry)) (now (text .entry)) (now (text .exit)) a ⌝ }
 {

@@ -3,3 +3,4 @@ pub mod Figures
 pub mod Back
 pub mod Refusing
 pub mod Whole
+pub mod Mailing

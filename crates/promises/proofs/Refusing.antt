@@ -2,9 +2,10 @@
 use mathlib.Core.Path.{_≡_, refl, sym, _∙_, ap, subst}
 use mathlib.Core.Logic.{_⊎_, inl, inr}
 use mathlib.Core.List.{List}
-use Prim.Native.Nat.{ℕ}
+use Prim.Native.Nat.{ℕ, _<_}
 use native.Mathlib.Omega.{arith}
 use lib.IntN.{ℤ}
+use lib.ListN.{length}
 use Rattle.follow.specs.Follow.{Followed, followed}
 use Rattle.follow.proofs.Following.{Did, all-done, some-done, outcome-did, outcome-passes, outcome-stopped}
 use Rattle.surface.specs.Rows.{Row}
@@ -13,7 +14,7 @@ use Rattle.refusal.specs.declared.Refusal.the-variants.{RecordFails}
 use Rattle.refusal.specs.declared.Verdict.the-variants.{Passes}
 use Rattle.refusal.specs.declared.Verdict.the-variants as verdict
 use Rattle.refusal.specs.First.{Refusals, First}
-use Rattle.refusal.specs.Told.{refused}
+use Rattle.refusal.specs.Told.{refused-as, refused}
 use Rattle.refusal.proofs.Laws.{verdicts, first-one, refused-one, refused-passes}
 use Rattle.refusal.proofs.Refuses.{exactly, not-refused, by-verdict}
 use Rattle.refusal.specs.Refuses.{Refuses}
@@ -44,6 +45,16 @@ use Rattle.sheet.specs.Outcome.{skin-refusals, ReadSheet, bad-form, bad-skin, r
 use Rattle.form.proofs.One.{one-skin}
 use Rattle.sheet.proofs.Promises.{moved}
 use Rattle.reply.proofs.Main.{reply-told}
+use Rattle.tell.specs.declared.Answer.{Answer}
+use Rattle.tell.specs.Answer as replies
+use Rattle.logsheet.specs.declared.LogSheet.{LogSheet}
+use Rattle.logsheet.specs.Answer as logs
+use Rattle.logsheet.specs.Outcome as sheeted
+use Rattle.logrecords.specs.declared.Opened.{Opened}
+use Rattle.logrecords.specs.declared.Next.{Next}
+use Rattle.logrecords.specs.Answer.{told-opened, told-next}
+use Rattle.logrecords.specs.Outcome.{open-refusals, OpenedLog, unopened, opened, LineStands, NextRecord, found, ended, other}
+use Rattle.logreader.specs.Outcome as asking
 use Rattle.promises.specs.Refusing.{DemandOne}
 
 thin-same : (o : Order) {xs : List ℤ} {t l : List ℕ} {a : Thinning} {t′ l′ : List ℕ} → Thinned o xs t l a t′ l′ → (r : Refusal) → thinnings.told a ≡ refused r → (t′ ≡ t) × (l′ ≡ l)
@@ -110,6 +121,43 @@ module _ {b troom troom′ : List ℕ} {croom croom′ : List ℤ} where
   sheet-same (bad-skin f s k e p q) r g = (p, q)
   sheet-same (read f s k w e p q) r g = absurd (not-refused (ap sheets.told e) r g)
 
+-- log sheets
+module _ {n m : ℕ} {log text text′ : List ℕ} where
+  wrote-refuses : {a : Answer} → sheeted.WroteLogSheet n m log text text′ a → Refuses (sheeted.write-refusals n m log (length text)) (replies.told a)
+  wrote-refuses (sheeted.unwritten {r = r} f e p) = exactly (inl (r, f, ap replies.told e))
+  wrote-refuses (sheeted.wrote f w e p) = exactly (inr (f, not-refused (ap replies.told e)))
+
+  wrote-same : {a : Answer} → sheeted.WroteLogSheet n m log text text′ a → (r : Refusal) → replies.told a ≡ refused r → text′ ≡ text
+  wrote-same (sheeted.unwritten f e p) r g = p
+  wrote-same (sheeted.wrote f w e p) r g = absurd (not-refused (ap replies.told e) r g)
+
+module _ {b room room′ : List ℕ} where
+  read-refuses : {a : LogSheet} → sheeted.ReadLogSheet b room room′ a → Refuses (sheeted.read-refusals b (length room)) (logs.told a)
+  read-refuses (sheeted.refused {r = r} f e p) = exactly (inl (r, f, ap logs.told e))
+  read-refuses (sheeted.read f s e p) = exactly (inr (f, not-refused (ap logs.told e)))
+
+  read-same : {a : LogSheet} → sheeted.ReadLogSheet b room room′ a → (r : Refusal) → logs.told a ≡ refused r → room′ ≡ room
+  read-same (sheeted.refused f e p) r g = p
+  read-same (sheeted.read f s e p) r g = absurd (not-refused (ap logs.told e) r g)
+
+  each-refuses : {a : LogSheet} → asking.EachRecord b room room′ a → Refuses (asking.each-refusals b (length room)) (logs.told a)
+  each-refuses (asking.unread {r = r} f e p) = exactly (inl (r, f, ap logs.told e))
+  each-refuses (asking.each f s e p) = exactly (inr (f, not-refused (ap logs.told e)))
+
+  each-same : {a : LogSheet} → asking.EachRecord b room room′ a → (r : Refusal) → logs.told a ≡ refused r → room′ ≡ room
+  each-same (asking.unread f e p) r g = p
+  each-same (asking.each f s e p) r g = absurd (not-refused (ap logs.told e) r g)
+
+open-refuses : {b : List ℕ} {a : Opened} → OpenedLog b a → Refuses (open-refusals b) (told-opened a)
+open-refuses (unopened {r = r} f e) = exactly (inl (r, f, ap told-opened e))
+open-refuses (opened f s e) = exactly (inr (f, not-refused (ap told-opened e)))
+
+next-refuses : {b : List ℕ} {at : ℕ} {a : Next} → NextRecord b at a → (at < length b → ((ns : List ℕ) → ¬ LineStands b at ns) → told-next a ≡ refused-as 12)
+    × ((r : Refusal) → told-next a ≡ refused r → (at < length b) × ((ns : List ℕ) → ¬ LineStands b at ns))
+next-refuses (found {ns = ns} s m e) = ((λ h none. absurd (none ns s)), λ r p. absurd (not-refused (ap told-next e) r p))
+next-refuses (ended h e) = ((λ k none. absurd (omega (arith, h, k))), λ r p. absurd (not-refused (ap told-next e) r p))
+next-refuses (other h none e) = ((λ k n. ap told-next e), λ r p. (h, none))
+
 pub demand-one : DemandOne
 demand-one = record {
   thin = λ o w. elim (thins.thin-told w) [ inl x ↦ exactly (inl x) | inr x ↦ exactly (inr (x .0, not-refused (x .3))) ];
@@ -135,4 +183,12 @@ demand-one = record {
     | inl x ↦ ((λ h. let k = x .0 in absurd (omega arith)), λ r p. absurd (not-refused (x .1) r p))
     | inr x ↦ ((λ h. x .1), λ r p. (x .0, x .2))
   ];
+  write-log = λ w. wrote-refuses w;
+  write-log-same = λ w r p. wrote-same w r p;
+  read-log = λ w. read-refuses w;
+  read-log-same = λ w r p. read-same w r p;
+  each-record = λ w. each-refuses w;
+  each-record-same = λ w r p. each-same w r p;
+  open-log = λ w. open-refuses w;
+  next-record = λ w. next-refuses w;
 }

@@ -18,6 +18,10 @@ use Rattle.catchup.proofs.One.{caught-up-one}
 use Rattle.sheet.proofs.Promises.{one-outcome}
 use Rattle.ring.proofs.Rule.{trial-one}
 use Rattle.reply.proofs.Main.{replied-one}
+use Rattle.logsheet.proofs.Main.{read-log-one, wrote-log-one}
+use Rattle.logrecords.proofs.Main.{opened-one, next-one}
+use Rattle.logreader.proofs.Main.{each-one}
+use Rattle.logreader.proofs.Again.{asked-one}
 use Rattle.promises.specs.Choice.{NothingLeft}
 use Rattle.promises.specs.Thinning.{DoneWith, DemandTwo, DemandThree}
 use Rattle.promises.specs.Stages.{StagesLeft}
@@ -38,10 +42,16 @@ nothing-left = record {
   read-sheet = λ b troom croom p q. let o = one-outcome b troom croom p q in (o .answer, o .table, o .corners);
   trial-number = λ k a b p q. trial-one k a b p q;
   reply = λ p q. replied-one p q;
+  write-log = λ p q. wrote-log-one p q;
+  read-log = λ p q. read-log-one p q;
+  each-record = λ p q. each-one p q;
+  open-log = λ p q. opened-one p q;
+  next-record = λ p q. next-one p q;
+  reader = λ p q. asked-one p q;
 }
 
 -- what tells 0 and k records is done with k
-as-done : {o : Order} {xs : List ℤ} {t l : List ℕ} {k : ℕ} {t′ l′ : List ℕ} → DoneWith o xs t l k t′ l′ → Thinned o xs t l (Done k) t′ l′
+pub as-done : {o : Order} {xs : List ℤ} {t l : List ℕ} {k : ℕ} {t′ l′ : List ℕ} → DoneWith o xs t l k t′ l′ → Thinned o xs t l (Done k) t′ l′
 as-done w = rw (told-done (w .answer) (w .tells)) at (w .thinned)
 
 pub stages-left : StagesLeft

@@ -27,8 +27,15 @@ use Rattle.ring.specs.declared.Trial.{Trial}
 use Rattle.ring.specs.Ring as ring
 use Rattle.tell.specs.declared.Answer.{Answer}
 use Rattle.reply.specs.Outcome.{Replied}
+use Rattle.logsheet.specs.declared.LogSheet.{LogSheet}
+use Rattle.logsheet.specs.Outcome.{ReadLogSheet, WroteLogSheet}
+use Rattle.logrecords.specs.declared.Opened.{Opened}
+use Rattle.logrecords.specs.declared.Next.{Next}
+use Rattle.logrecords.specs.Outcome.{OpenedLog, NextRecord}
+use Rattle.logreader.specs.declared.Reader.{Reader}
+use Rattle.logreader.specs.Outcome.{Asked, EachRecord}
 
--- the calls in the order of their numbers over a pipe, 1 to 12; each line names the relation that the call's `ensures` states
+-- the calls in the order of their numbers over a pipe: 1 to 15, 24, 25; each line names the relation that the call's `ensures` states
 pub record NothingLeft : Type 0 where
   -- the answer, the table and the log
   pub thin : (o : Order) {xs : List ℤ} {t l : List ℕ} {a b : Thinning} {t₁ t₂ l₁ l₂ : List ℕ} → Thinned o xs t l a t₁ l₁ → Thinned o xs t l b t₂ l₂ → (a ≡ b) × (t₁ ≡ t₂) × (l₁ ≡ l₂)
@@ -49,3 +56,11 @@ pub record NothingLeft : Type 0 where
   pub trial-number : (k : ℕ) (a b : Trial) → ring.AnswerAt k a → ring.AnswerAt k b → a ≡ b
   -- the answer and the text
   pub reply : {b text : List ℕ} {a₁ a₂ : Answer} {text₁ text₂ : List ℕ} → Replied b text a₁ text₁ → Replied b text a₂ text₂ → (a₁ ≡ a₂) × (text₁ ≡ text₂)
+  pub write-log : {n m : ℕ} {log text : List ℕ} {a₁ a₂ : Answer} {text₁ text₂ : List ℕ} → WroteLogSheet n m log text text₁ a₁ → WroteLogSheet n m log text text₂ a₂ → (a₁ ≡ a₂) × (text₁ ≡ text₂)
+  -- the answer and the log's room
+  pub read-log : {b room : List ℕ} {a₁ a₂ : LogSheet} {room₁ room₂ : List ℕ} → ReadLogSheet b room room₁ a₁ → ReadLogSheet b room room₂ a₂ → (a₁ ≡ a₂) × (room₁ ≡ room₂)
+  pub each-record : {b room : List ℕ} {a₁ a₂ : LogSheet} {room₁ room₂ : List ℕ} → EachRecord b room room₁ a₁ → EachRecord b room room₂ a₂ → (a₁ ≡ a₂) × (room₁ ≡ room₂)
+  pub open-log : {b : List ℕ} {a₁ a₂ : Opened} → OpenedLog b a₁ → OpenedLog b a₂ → a₁ ≡ a₂
+  pub next-record : {b : List ℕ} {at : ℕ} {a₁ a₂ : Next} → NextRecord b at a₁ → NextRecord b at a₂ → a₁ ≡ a₂
+  -- the answer, and the reader after it
+  pub reader : {r r₁ r₂ : Reader} {a₁ a₂ : Next} → Asked r r₁ a₁ → Asked r r₂ a₂ → (a₁ ≡ a₂) × (r₁ .bytes ≡ r₂ .bytes) × (r₁ .at ≡ r₂ .at)

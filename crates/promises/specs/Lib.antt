@@ -2,3 +2,4 @@ pub mod Choice
 pub mod Refusing
 pub mod Thinning
 pub mod Stages
+pub mod Mailing

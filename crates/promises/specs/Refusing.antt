@@ -46,6 +46,14 @@ use Rattle.sheet.specs.Outcome.{skin-refusals, ReadSheet}
 use Rattle.tell.specs.declared.Answer.{Answer}
 use Rattle.tell.specs.Answer as replies
 use Rattle.reply.specs.Outcome.{Replied}
+use Rattle.logsheet.specs.declared.LogSheet.{LogSheet}
+use Rattle.logsheet.specs.Answer as logs
+use Rattle.logsheet.specs.Outcome.{read-refusals, ReadLogSheet, write-refusals, WroteLogSheet}
+use Rattle.logrecords.specs.declared.Opened.{Opened}
+use Rattle.logrecords.specs.declared.Next.{Next}
+use Rattle.logrecords.specs.Answer.{told-opened, told-next}
+use Rattle.logrecords.specs.Outcome.{open-refusals, OpenedLog, LineStands, NextRecord}
+use Rattle.logreader.specs.Outcome.{each-refusals, EachRecord}
 
 -- 13 and a number of records are told exactly when no refusal of the list holds and the records stop after so many; the rows that these led to are left
 pub record Fails (l : Refusals) (Stops : ℕ → List Row → Type 0) (Left : List Row → Type 0) (v : Told) : Type 0 where
@@ -79,3 +87,14 @@ pub record DemandOne : Type 0 where
   -- the desk's answer: only where its text does not fit
   pub reply : {b text : List ℕ} {a : Answer} {text′ : List ℕ} → (w : Replied b text a text′) → (length text < length (w .txt) → replies.told a ≡ refused-as 3)
       × ((r : Refusal) → replies.told a ≡ refused r → (length text < length (w .txt)) × (text′ ≡ text))
+  -- log sheets, written and read
+  pub write-log : {n m : ℕ} {log text : List ℕ} {a : Answer} {text′ : List ℕ} → WroteLogSheet n m log text text′ a → Refuses (write-refusals n m log (length text)) (replies.told a)
+  pub write-log-same : {n m : ℕ} {log text : List ℕ} {a : Answer} {text′ : List ℕ} → WroteLogSheet n m log text text′ a → (r : Refusal) → replies.told a ≡ refused r → text′ ≡ text
+  pub read-log : {b room : List ℕ} {a : LogSheet} {room′ : List ℕ} → ReadLogSheet b room room′ a → Refuses (read-refusals b (length room)) (logs.told a)
+  pub read-log-same : {b room : List ℕ} {a : LogSheet} {room′ : List ℕ} → ReadLogSheet b room room′ a → (r : Refusal) → logs.told a ≡ refused r → room′ ≡ room
+  pub each-record : {b room : List ℕ} {a : LogSheet} {room′ : List ℕ} → EachRecord b room room′ a → Refuses (each-refusals b (length room)) (logs.told a)
+  pub each-record-same : {b room : List ℕ} {a : LogSheet} {room′ : List ℕ} → EachRecord b room room′ a → (r : Refusal) → logs.told a ≡ refused r → room′ ≡ room
+  pub open-log : {b : List ℕ} {a : Opened} → OpenedLog b a → Refuses (open-refusals b) (told-opened a)
+  -- 12 exactly where a byte follows the place and no record's line stands there
+  pub next-record : {b : List ℕ} {at : ℕ} {a : Next} → NextRecord b at a → (at < length b → ((ns : List ℕ) → ¬ LineStands b at ns) → told-next a ≡ refused-as 12)
+      × ((r : Refusal) → told-next a ≡ refused r → (at < length b) × ((ns : List ℕ) → ¬ LineStands b at ns))

@@ -3,21 +3,9 @@ use mathlib.Core.Path.{_≡_}
 use mathlib.Core.List.{List, _++_}
 use Prim.Native.Nat.{ℕ, _*_, _-_}
 use lib.ListN.{length, drop, replicate}
-use Rattle.surface.specs.Rows.{Row, row, flat}
+use Rattle.surface.specs.Rows.{Row, flat}
 use Rattle.surface.specs.Record as surface
-use Rattle.record.specs.declared.Record.{Record}
 use Rattle.record.specs.declared.Contracted.{Contracted}
-
--- what the code's record means
-abbrev pub meant : Record → surface.Record
-meant r = record {
-  kept = r .kept .0;
-  removed = r .removed .0;
-  place-1 = r .earlier .place .0;
-  row-1 = row (r .earlier .a .0) (r .earlier .b .0) (r .earlier .c .0);
-  place-2 = r .later .place .0;
-  row-2 = row (r .later .a .0) (r .later .b .0) (r .later .c .0);
-}
 
 -- e has kept and removed of the record k
 pub record IsContracted (k : surface.Record) (e : Contracted) : Type 0 where

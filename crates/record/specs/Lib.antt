@@ -1,3 +1,4 @@
 pub mod Layout
+pub mod Meant
 pub mod Front
 pub mod Inner

@@ -5,7 +5,8 @@ ghost use Prim.Native.Nat.{_+_, _≤_};
 ghost use lib.ListN.{length};
 ghost use lib.Seq.{sets};
 ghost use Rattle.record.specs.Layout.{width, numbers, record-at};
-ghost use Rattle.record.specs.Inner.{meant, IsContracted};
+ghost use Rattle.record.specs.Meant.{meant};
+ghost use Rattle.record.specs.Inner.{IsContracted};
 
 // A corner number.
 pub struct Corner(pub u32);

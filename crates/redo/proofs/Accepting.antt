@@ -8,7 +8,7 @@ use Rattle.surface.specs.InnerStageTable.{StageTable}
 use Rattle.surface.specs.Link.{Meets}
 use Rattle.surface.specs.Record.{placed}
 use Rattle.record.specs.declared.Record.{Record}
-use Rattle.record.specs.Inner.{meant}
+use Rattle.record.specs.Meant.{meant}
 use Rattle.leaving.specs.Leaving.{Recorded}
 use Rattle.redo.specs.Redo.{placed-as, Accepts}
 

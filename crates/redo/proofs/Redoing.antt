@@ -7,7 +7,7 @@ use lib.ListN.{length}
 use Rattle.surface.specs.InnerStageTable.{StageTable}
 use Rattle.run.proofs.Main.{step-one}
 use Rattle.record.specs.declared.Record.{Record}
-use Rattle.record.specs.Inner.{meant}
+use Rattle.record.specs.Meant.{meant}
 use Rattle.record.specs.Front.{front-rows, standing}
 -- a caller's scratch, as it is made
 pub use Rattle.neighbours.proofs.Marking.{unmarked-new}

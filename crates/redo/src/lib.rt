@@ -9,7 +9,7 @@ ghost use Rattle.surface.specs.Limits.{most-corners};
 ghost use Rattle.surface.specs.Rows.{rows};
 ghost use Rattle.surface.specs.InnerStageTable.{StageTable};
 ghost use Rattle.refusal.specs.InnerTells.{Tells};
-ghost use Rattle.record.specs.Inner.{meant};
+ghost use Rattle.record.specs.Meant.{meant};
 ghost use Rattle.record.specs.Front.{front-rows};
 ghost use Rattle.neighbours.specs.Around.{Unmarked};
 ghost use Rattle.redo.specs.Redo.{placed-as, Accepts, Redid};

@@ -83,7 +83,7 @@ unfolding flat
 flat-few [] h = tt
 flat-few (row i j k ∷ T) h = let f = h (row i j k) (List·Memᴰ·head refl) in (f .0, (f .1 .0, (f .1 .1 .0, flat-few T (λ r m. h r (List·Memᴰ·tail m)))))
 
-log-few : {n : ℕ} {T T′ : List Row} {l : List Record} → Stage n T → Replayed T l T′ → Few (log-of l)
+pub log-few : {n : ℕ} {T T′ : List Row} {l : List Record} → Stage n T → Replayed T l T′ → Few (log-of l)
 unfolding log-of
 log-few s (no-step e) = tt
 log-few s (one-step {i = k} {l = l} r w) = few-append (numbers k) (log-of l) (record-few s r) (log-few (step-stage s r) w)

@@ -12,7 +12,7 @@ use Rattle.surface.specs.Record.{Replays}
 use Rattle.surface.proofs.Flat.{flat-rows, rows-length}
 use Rattle.surface.proofs.Main.{contraction}
 use Rattle.record.specs.declared.Record.{Record}
-use Rattle.record.specs.Inner.{meant}
+use Rattle.record.specs.Meant.{meant}
 use Rattle.step.specs.Step.{Stepped}
 use Rattle.record.specs.Front.{front-rows}
 use Rattle.step.specs.Front.{SteppedFront, Fallen}

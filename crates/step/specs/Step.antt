@@ -6,7 +6,7 @@ use lib.ListN.{length, take, drop, replicate}
 use Rattle.surface.specs.Rows.{rows}
 use Rattle.surface.specs.Record.{Replays}
 use Rattle.record.specs.declared.Record.{Record}
-use Rattle.record.specs.Inner.{meant}
+use Rattle.record.specs.Meant.{meant}
 
 -- the step of the edge from a up to b, from t to t′ with the record r: its table in front, zeros for the two rows that left
 pub record Stepped (t : List ℕ) (a b : ℕ) (r : Record) (t′ : List ℕ) : Type 0 where

@@ -32,9 +32,9 @@ pub fn bytes_room() -> [u8; MOST_BYTES]
     [0; MOST_BYTES]
 }
 
-// How much of a room a list of so many words takes: as many, and never more than there are. It takes the room and not its length, so
+// Inner: how much of a room a list of so many words takes: as many, and never more than there are. It takes the room and not its length, so
 // that lending the part needs no proof of its own.
-fn part_of_numbers(n: usize, room: &[u32]) -> usize
+pub fn part_of_numbers(n: usize, room: &[u32]) -> usize
     ensures { λ r. ⌜ PartOf r (now (room .entry)) ⌝ }
 {
     least(n, room.len())
@@ -233,11 +233,63 @@ pub fn write_word(w: u64) -> bool {
     io::write_all(1, &b)
 }
 
+// Inner: an answer of two words.
+pub fn answer_two(status: u64, value: u64) -> bool {
+    if !write_word(2) {
+        return false;
+    }
+    write_two(status, value)
+}
+
+// Inner: an answer of three words.
+pub fn answer_three(status: u64, first: u64, second: u64) -> bool {
+    if !write_word(3) {
+        return false;
+    }
+    write_three(status, first, second)
+}
+
+// Inner: an answer of four words.
+pub fn answer_four(status: u64, first: u64, second: u64, third: u64) -> bool {
+    if !write_word(4) {
+        return false;
+    }
+    write_four(status, first, second, third)
+}
+
+fn write_two(first: u64, second: u64) -> bool {
+    if !write_word(first) {
+        return false;
+    }
+    write_word(second)
+}
+
+// Inner: the words of an answer, which more words follow.
+pub fn write_three(first: u64, second: u64, third: u64) -> bool {
+    if !write_two(first, second) {
+        return false;
+    }
+    write_word(third)
+}
+
+// Inner: the same of four.
+pub fn write_four(first: u64, second: u64, third: u64, fourth: u64) -> bool {
+    if !write_two(first, second) {
+        return false;
+    }
+    write_two(third, fourth)
+}
+
 // Inner: writes a list, its length first; whether all was taken.
 pub fn write_numbers(l: &[u32]) -> bool {
     if !write_word(l.len() as u64) {
         return false;
     }
+    write_each(l)
+}
+
+// Inner: writes numbers alone; whether all were taken.
+pub fn write_each(l: &[u32]) -> bool {
     let mut i: usize = 0;
     while i < l.len() {
         if !write_word(number(l[i])) {

@@ -1,6 +1,6 @@
 -- `accepts` meets its contract: each part of the local rule is tested, in turn.
 use borrow.Author.Tests.{not-true, not-false}
-use Rattle.record.specs.Inner.{meant}
+use Rattle.record.specs.Meant.{meant}
 use Rattle.slots.proofs.Slots.{under-more}
 use Rattle.slots.proofs.Staged.{table-whole, table-under}
 use Rattle.accept.proofs.Rule.{out-of-bounds, removed-used, no-such-rows, not-two-near, all-holds}

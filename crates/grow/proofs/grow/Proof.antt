@@ -2,7 +2,7 @@
 use mathlib.Core.Path.{sym}
 use lib.Seq.{length-take-le}
 use Rattle.surface.specs.Limits.{most-corners}
-use Rattle.record.specs.Inner.{meant}
+use Rattle.record.specs.Meant.{meant}
 use Rattle.slots.proofs.Marks.{no-mark}
 use Rattle.grow.proofs.Growing.{not-grown, walkable, earlier-inside, later-inside, grown}
 use native.Mathlib.Omega.{arith}

@@ -1,5 +1,5 @@
 -- `put_rows` meets its contract.
-use Rattle.record.specs.Inner.{meant}
+use Rattle.record.specs.Meant.{meant}
 use Rattle.insert.proofs.Putting.{both-put}
 use native.Mathlib.Omega.{arith}
 use borrow.Author.Needs.{needs}

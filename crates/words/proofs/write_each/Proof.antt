@@ -3,20 +3,14 @@ use Prim.Native.Nat.{_-_, _≤_}
 use lib.ListN.{length}
 use native.Mathlib.Omega.{arith}
 use borrow.Author.Needs.{needs}
-use Rattle.words.proofs.write_numbers.Statement.{statement}
-use Rattle.words.proofs.write_numbers.Tie as tie
+use Rattle.words.proofs.write_each.Statement.{statement}
+use Rattle.words.proofs.write_each.Tie as tie
 
 abbrev Inv-loop : tie.InvT-loop
 Inv-loop l i₀ i = i ≤ length l
 
 abbrev μ-loop : tie.MeasureT-loop
 μ-loop l i₀ i = length l - i
-
-write-word-requires : tie.Need-write-word-requires Inv-loop μ-loop
-write-word-requires c κs = search needs
-
-returns : tie.Need-returns Inv-loop μ-loop
-returns c = search needs
 
 loop-holds : tie.Need-loop-holds Inv-loop μ-loop
 loop-holds c = omega arith
@@ -30,11 +24,11 @@ shared-slice-read-number c = search needs
 number-requires : tie.Need-number-requires Inv-loop μ-loop
 number-requires c κs = search needs
 
-write-word-requires-2 : tie.Need-write-word-requires-2 Inv-loop μ-loop
-write-word-requires-2 c κs = search needs
+write-word-requires : tie.Need-write-word-requires Inv-loop μ-loop
+write-word-requires c κs = search needs
 
-returns-2 : tie.Need-returns-2 Inv-loop μ-loop
-returns-2 c = search needs
+returns : tie.Need-returns Inv-loop μ-loop
+returns c = search needs
 
 add-i : tie.Need-add-i Inv-loop μ-loop
 add-i c = search needs
@@ -45,24 +39,22 @@ loop-less c = search needs
 loop-again : tie.Need-loop-again Inv-loop μ-loop
 loop-again c = search needs
 
-returns-3 : tie.Need-returns-3 Inv-loop μ-loop
-returns-3 c = search needs
+returns-2 : tie.Need-returns-2 Inv-loop μ-loop
+returns-2 c = search needs
 
-pub write-numbers-spec : {M : Type 1} → statement M
-write-numbers-spec =
+pub write-each-spec : {M : Type 1} → statement M
+write-each-spec =
     tie.close
     (tie.spec
     Inv-loop
     μ-loop
-    write-word-requires
-    returns
     loop-holds
     mul-number
     shared-slice-read-number
     number-requires
-    write-word-requires-2
-    returns-2
+    write-word-requires
+    returns
     add-i
     loop-less
     loop-again
-    returns-3)
+    returns-2)

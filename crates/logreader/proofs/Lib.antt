@@ -1,0 +1,4 @@
+pub mod Asking
+pub mod Each
+pub mod Again
+pub mod Main

@@ -1,0 +1,192 @@
+-- Log sheets: what was written reads back, the log of a thinning can be mailed, and demands 2 and 3 hold of what was mailed.
+use mathlib.Core.Path.{_≡_, refl, sym, _∙_, ap, subst}
+use mathlib.Core.List.{List, [], _∷_, _++_}
+use Prim.Native.Nat.{ℕ, _-_, _/_, _≤_}
+use native.Mathlib.Nat.{mul-div-cancel-left}
+use native.Mathlib.Omega.{arith}
+use lib.IntN.{ℤ, pos, natAbs}
+use lib.ListN.{length, getD, take, drop}
+use lib.Seq.{take-at}
+use Rattle.surface.specs.Rows.{rows}
+use Rattle.surface.specs.Record.{Record}
+use Rattle.surface.proofs.Main.{four-used}
+use Rattle.engine.proofs.Whole.{used-most}
+use Rattle.refusal.specs.Told as answers
+use Rattle.refusal.specs.First.{First}
+use Rattle.refusal.specs.declared.Verdict.the-variants as verdict
+use Rattle.refusal.proofs.Laws.{verdicts, first-one, refused-passes, passes-none, none-yet, _nor_}
+use Rattle.refusal.proofs.Outcome.{refused-done}
+use Rattle.faults.specs.Counts.{corners}
+use Rattle.run.proofs.Main.{taken-replayed}
+use Rattle.record.specs.Layout.{width, count, records, log-of, room-for, first-records}
+use Rattle.record.proofs.Log.{log-length}
+use Rattle.thin.specs.declared.Asked.{Asked}
+use Rattle.thin.specs.Run.{RunOf}
+use Rattle.thin.proofs.Main.{thinned-kept}
+use Rattle.tell.specs.declared.Answer.{Answer}
+use Rattle.tell.specs.declared.Answer.the-variants as text
+use Rattle.tell.specs.Answer as texts
+use Rattle.reply.proofs.Most.{log-few}
+use Rattle.heading.specs.Heading.{first-line}
+use Rattle.logform.specs.LogSheet.{LOG, most-log-bytes, log-text, LogSheetOf}
+use Rattle.logform.proofs.Forming.{its-line, one-log, only-log-sheet}
+use Rattle.logsheet.specs.declared.LogSheet.{LogSheet}
+use Rattle.logsheet.specs.declared.LogSheet.the-variants as sheet
+use Rattle.logsheet.specs.Answer as logs
+use Rattle.logsheet.specs.Outcome.{ReadLogSheet, refused, read, write-refusals, Writable, WroteLogSheet, unwritten, wrote}
+use Rattle.logsheet.proofs.Main.{its-log-sheet, log-size, written-reads}
+use Rattle.logrecords.specs.declared.Opened.{Opened}
+use Rattle.logrecords.specs.declared.Opened.the-variants as opens
+use Rattle.logrecords.specs.Answer.{told-opened}
+use Rattle.logrecords.specs.Outcome.{OpenedLog, unopened, opened}
+use Rattle.logrecords.specs.Walk.{Walked, BreaksAfter, Broken}
+use Rattle.logrecords.proofs.Main.{opened-one}
+use Rattle.logrecords.proofs.Walking.{walked-through, broken-off}
+use Rattle.logreader.specs.Outcome.{EachRecord}
+use Rattle.logreader.proofs.Main.{open-passes, each-as-read, reader-through}
+use Rattle.promises.specs.Mailing.{Mailed, LogSheets}
+use Rattle.promises.proofs.Back.{restored, restored-from, replayed}
+use Rattle.promises.proofs.Figures.{shift-promised}
+use Rattle.promises.proofs.Logged.{front-log}
+use Rattle.promises.proofs.Whole.{as-done}
+
+-- ---- what is told, and what was written or read
+
+-- the value at place i of what is told
+abbrev told-at : ℕ → answers.Told → ℕ
+told-at i v = natAbs (getD (v .values) i (pos 0))
+
+wrote-told : (a : Answer) {j : ℕ} → texts.told a ≡ answers.done (pos j ∷ []) → a ≡ text.Written j
+wrote-told (text.Written k) e = ap text.Written (ap (told-at 0) e)
+wrote-told (text.Refused r) e = absurd (refused-done r e)
+
+read-told : (a : LogSheet) {n m k : ℕ} → logs.told a ≡ answers.done (pos n ∷ pos m ∷ pos k ∷ []) → a ≡ sheet.Read n m k
+read-told (sheet.Read x y z) e = λ i. sheet.Read (told-at 0 (e i)) (told-at 1 (e i)) (told-at 2 (e i))
+read-told (sheet.Refused r) e = absurd (refused-done r e)
+
+-- the bytes that were written are the log sheet of the counts and the log
+written-sheet : {n m j : ℕ} {log txt txt′ : List ℕ} → WroteLogSheet n m log txt txt′ (text.Written j) → LogSheetOf (take j txt′) n m log
+written-sheet (unwritten f e p) = let z : _≡_ {A = ℕ} 0 1 = cc in absurd (omega arith)
+written-sheet {n} {m} {j} {log} {txt} {txt′} (wrote f w e p) = rw same (its-log-sheet w)
+  where
+    long : j ≡ length (log-text n m log)
+    long = cc
+
+    same : take j txt′ ≡ log-text n m log
+    same = ap (take j) p ∙ take-at (log-text n m log) (drop (length (log-text n m log)) txt) j (sym long)
+
+-- a sheet that was read has the counts told, and its log stands in the room
+record HasRead (b room′ : List ℕ) (n m k : ℕ) : Type 0 where
+  log : List ℕ
+  sheet : LogSheetOf b n m log
+  many : k ≡ count log
+  stands : take (room-for k) room′ ≡ log
+
+has-read : {b room room′ : List ℕ} {n m k : ℕ} {a : LogSheet} → ReadLogSheet b room room′ a → logs.told a ≡ answers.done (pos n ∷ pos m ∷ pos k ∷ []) → HasRead b room′ n m k
+has-read {a = a} (refused {r = r} f e p) t = absurd (refused-done r (sym (ap logs.told e) ∙ t))
+has-read {b} {room} {room′} {n} {m} {k} {a} (read {n = x} {m = y} {log = log} f s e p) t =
+    let g : sheet.Read x y (count log) ≡ sheet.Read n m k = sym e ∙ read-told a t in
+    let hx : x ≡ n = cc in
+    let hy : y ≡ m = cc in
+    let hk : k ≡ count log = cc in
+    let w = s .whole in
+    record {
+      log = log;
+      sheet = subst (λ v. LogSheetOf b v m log) hx (subst (λ v. LogSheetOf b x v log) hy s);
+      many = hk;
+      stands = ap (take (room-for k)) p ∙ take-at log (drop (length log) room) (room-for k) (omega (arith, hk, w));
+    }
+
+-- what was mailed is the same log, with the same counts
+mailed-same : {n m : ℕ} {log log′ : List ℕ} (w : Mailed n m log log′) → (w .n′ ≡ n) × (w .m′ ≡ m) × (log′ ≡ log)
+mailed-same {n} {m} {log} w =
+    let s = written-sheet (subst (λ a. WroteLogSheet n m log (w .text) (w .text′) a) (wrote-told (w .written) (w .writes)) (w .wrote)) in
+    let h = has-read (w .read) (w .tells) in
+    let o = one-log (h .sheet) s in
+    (o .corners, o .rows, w .log-is ∙ h .stands ∙ o .numbers)
+
+-- ---- the log of a thinning can be mailed
+
+module _ {d : Asked} {xs : List ℤ} {t l : List ℕ} {k : ℕ} {t′ l′ : List ℕ} (w : RunOf d xs t l k t′ l′) (p q : List Record) (e : w .log ≡ p ++ q) where
+  abbrev front : List ℕ
+  front = take (room-for (length p)) l′
+
+  records-many : count front ≡ length p
+  records-many = ap (λ z. length z / width) (front-log w p q e) ∙ ap (λ z. z / width) (log-length p) ∙ mul-div-cancel-left (length p) {n = width} (omega arith)
+
+  -- no more than the corners but four: a stage uses four
+  fewer : length p ≤ corners xs - 4
+  fewer =
+      let a = thinned-kept w p q e in
+      let kept = a .2 in
+      let f = four-used (corners xs) (a .0) (kept .stage) (kept .used-after) in
+      let h = used-most (w .skin .stage) (kept .used-before) in
+      omega (arith, f, h)
+
+  can-write : Writable (corners xs) (length (rows t)) front
+  can-write =
+      let s = w .skin .stage in
+      let a = ap length (front-log w p q e) ∙ log-length p in
+      record {
+        whole = omega arith;
+        counts = record { few = s .few; many = s .many; least = s .least; most = s .most; fewer = omega (arith, records-many, fewer) };
+        short = rw (front-log w p q e) (log-few s (taken-replayed (thinned-kept w p q e .1)));
+      }
+
+  passes : {room : ℕ} → most-log-bytes ≤ room → First (write-refusals (corners xs) (length (rows t)) front room) verdict.Passes
+  unfolding write-refusals
+  passes h = passes-none verdicts _ .1 ((λ no. no can-write) nor (λ short. omega (arith, log-size can-write, short, h)) nor none-yet)
+
+  can-mail : {txt txt′ : List ℕ} {a : Answer} → most-log-bytes ≤ length txt → WroteLogSheet (corners xs) (length (rows t)) front txt txt′ a → (j : ℕ) × (texts.told a ≡ answers.done (pos j ∷ []))
+  can-mail h (unwritten f g same) = refused-passes (first-one verdicts _ f (passes h))
+  can-mail h (wrote f v g same) = (length (log-text (corners xs) (length (rows t)) front), ap texts.told g)
+
+  mailed-reads : {txt txt′ : List ℕ} {a : Answer} {j : ℕ} → texts.told a ≡ answers.done (pos j ∷ []) → WroteLogSheet (corners xs) (length (rows t)) front txt txt′ a →
+      {room room′ : List ℕ} {z : LogSheet} → room-for (length p) ≤ length room → ReadLogSheet (take j txt′) room room′ z → logs.told z ≡ answers.done (pos (corners xs) ∷ pos (length (rows t)) ∷ pos (length p) ∷ [])
+  mailed-reads {txt} {txt′} {a} tells v fits r =
+      let long = ap length (front-log w p q e) ∙ log-length p in
+      let o = written-reads (subst (λ x. WroteLogSheet (corners xs) (length (rows t)) front txt txt′ x) (wrote-told a tells) v) (omega (arith, long, fits)) r in
+      ap logs.told (o .0 ∙ ap (sheet.Read (corners xs) (length (rows t))) records-many)
+
+-- ---- one by one
+
+walks : {n m k : ℕ} {b room room′ : List ℕ} {a : LogSheet} {c : Opened} → ReadLogSheet b room room′ a → logs.told a ≡ answers.done (pos n ∷ pos m ∷ pos k ∷ []) → OpenedLog b c →
+    (at : ℕ) × (told-opened c ≡ answers.done (pos n ∷ pos m ∷ pos at ∷ [])) × Walked b at (records (take (room-for k) room′))
+walks (refused {r = r} f e p) t o = absurd (refused-done r (sym (ap logs.told e) ∙ t))
+walks {n} {m} {k} {b} {room} {room′} (read f s e p) t o =
+    let h = has-read (read f s e p) t in
+    let z = opened-one o (opened (open-passes (h .sheet) (length room) f) (record { rest = _; line = its-line (h .sheet) }) refl) in
+    (length (first-line LOG n m), ap told-opened z, rw (h .stands) (walked-through (h .sheet)))
+
+-- the place after the first line
+opened-place : {b : List ℕ} {n m at : ℕ} {c : Opened} → OpenedLog b c → told-opened c ≡ answers.done (pos n ∷ pos m ∷ pos at ∷ []) → at ≡ length (first-line LOG n m)
+opened-place (unopened {r = r} f e) t = absurd (refused-done r (sym (ap told-opened e) ∙ t))
+opened-place (opened {n = x} {m = y} f s e) t =
+    let g = sym (ap told-opened e) ∙ t in
+    let hx = ap (told-at 0) g in
+    let hy = ap (told-at 1) g in
+    sym (ap (told-at 2) g) ∙ (λ i. length (first-line LOG (hx i) (hy i)))
+
+-- record by record
+each-too : {b room room₁ room₂ : List ℕ} {n m k : ℕ} {a z : LogSheet} → ReadLogSheet b room room₁ a → logs.told a ≡ answers.done (pos n ∷ pos m ∷ pos k ∷ []) → EachRecord b room room₂ z →
+    (logs.told z ≡ answers.done (pos n ∷ pos m ∷ pos k ∷ [])) × (room₂ ≡ room₁)
+each-too {b} {room} {room₁} {a = a} r t x = let o = each-as-read (subst (λ y. ReadLogSheet b room room₁ y) (read-told a t) r) x in (ap logs.told (o .0), o .1)
+
+pub log-sheets : LogSheets
+log-sheets = record {
+  same = λ w. mailed-same w;
+  only = λ {n} {m} {k} {b} {c} p q s t e.
+      let h = has-read p s in
+      let g = has-read q t in
+      only-log-sheet (h .sheet) (subst (λ log. LogSheetOf c n m log) (sym (g .stands) ∙ sym e ∙ h .stands) (g .sheet));
+  writes = λ o w p q e h g. can-mail w p q e h g;
+  reads = λ o w p q e t g h r. mailed-reads w p q e t g h r;
+  one-by-one = λ r t o. walks r t o;
+  by-reader = λ r w t o g. let h = has-read w t in rw (h .stands) (reader-through r (h .sheet) (opened-place o g));
+  each = λ r t x. each-too r t x;
+  breaks-off = λ w o t. rw (opened-place o t) (broken-off w);
+  restores = λ o w m g. restored o (as-done w) (rw (mailed-same m .2) at g);
+  restores-from = λ o w p q e h m g. restored-from w p q e h (rw (mailed-same m .2) at g);
+  replays = λ o w m g. replayed o (as-done w) (rw (mailed-same m .2) at g);
+  shifts-within = λ d read w p q e m v b a r. shift-promised d read w p q e v b a (rw (mailed-same m .2) at r);
+}
