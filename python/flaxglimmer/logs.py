@@ -154,7 +154,7 @@ def counted(count: int, what: str) -> str:
 
 def parts(record) -> dict:
     """A record by the names of its numbers; each row that left stands beside its place in the table before."""
-    kept, removed, earlier, a, b, c, later, d, e, f = record[:10].tolist()
+    kept, removed, earlier, a, b, c, later, d, e, f = record.tolist()
     return {"kept": kept, "removed": removed, "places": [earlier, later], "rows": [[a, b, c], [d, e, f]]}
 
 
