@@ -4,10 +4,11 @@ use crate::desk;
 use crate::figures::{figure, shift, sixfold_volume};
 use crate::grow::{grow_back, records_of, replay, Reached};
 use crate::limit::whole_centimetres;
+use crate::log_sheet::{self, counts_refused, most_records};
 use crate::parts::{catch_up, grid, shorter_ring};
 use crate::protocol::*;
 use crate::refusal::FAILS;
-use crate::sheet;
+use crate::sheet::{self, GREATEST};
 use crate::skin::*;
 use crate::step::{thin, WIDTH};
 
@@ -28,6 +29,11 @@ pub fn answer(request: &Request) -> Response {
         READ_SHEET => sheet_read(request),
         TRIAL_RING => handed(request, &words(&grid(8, 8).concat())),
         DESK_ANSWER => desk_answer(request),
+        WRITE_LOG_SHEET => log_sheet_written(request),
+        READ_LOG_SHEET => log_sheet_read(request),
+        READ_RECORDS => records_read(request),
+        OPEN_LOG_SHEET => log_sheet_opened(request),
+        RECORD_AT => record_at(request),
         _ => unreachable!("a request has one of the calls"),
     }
 }
@@ -42,6 +48,7 @@ pub fn questions(request: &Request) -> Vec<Question<'_>> {
         CHANGE => stage_questions(request, &[0, 1], 2),
         SHIFT => shift_questions(request),
         LIMIT => vec![(1, Box::new(|| limit(request).is_none()))],
+        WRITE_LOG_SHEET => writing_questions(request),
         _ => vec![],
     }
 }
@@ -235,9 +242,77 @@ fn desk_answer(request: &Request) -> Response {
     if request.arguments[1].len() < text.len() {
         return refused(request, 3);
     }
+    told(request, text.as_bytes())
+}
+
+/// Done: how many bytes, and they in front of the lent text.
+fn told(request: &Request, text: &[u8]) -> Response {
     let mut response = done(request, &[text.len() as Word]);
-    for (word, byte) in response.lent[0].iter_mut().zip(text.bytes()) {
+    for (word, &byte) in response.lent[0].iter_mut().zip(text) {
         *word = byte.into();
     }
     response
+}
+
+/// The sheet of a log and counts that are lent, whatever they are.
+fn sheet_of_log(request: &Request) -> Vec<u8> {
+    let [corners, rows] = [0, 1].map(|at| request.arguments[at][0] as u64);
+    log_sheet::write(corners, rows, &numbers(request, 2))
+}
+
+fn writing_questions(request: &Request) -> Vec<Question<'_>> {
+    let (corners, rows, log) = (whole(request, 0), whole(request, 1), &request.arguments[2]);
+    let counts = counts_refused(corners, rows);
+    let records = !log.len().is_multiple_of(WIDTH) || log.len() / WIDTH > most_records(corners);
+    let number = log.iter().any(|&word| word > GREATEST.into());
+    vec![
+        (2, Box::new(move || counts || records || number)),
+        (3, Box::new(|| request.arguments[3].len() < sheet_of_log(request).len())),
+    ]
+}
+
+fn log_sheet_written(request: &Request) -> Response {
+    told(request, &sheet_of_log(request))
+}
+
+/// Corner count, rows and records of a log sheet.
+fn three_counts(sheet: &log_sheet::LogSheet) -> Vec<Word> {
+    [sheet.corners, sheet.rows, sheet.log.len()].map(|count| count as Word).to_vec()
+}
+
+fn log_sheet_read(request: &Request) -> Response {
+    let sheet = match log_sheet::read(&bytes(request, 0)) {
+        Ok(sheet) => sheet,
+        Err(number) => return refused(request, number),
+    };
+    let log = sheet.log.concat();
+    if request.arguments[1].len() < log.len() {
+        return refused(request, 3);
+    }
+    let mut response = done(request, &three_counts(&sheet));
+    over(&mut response.lent[0], &log);
+    response
+}
+
+fn records_read(request: &Request) -> Response {
+    match log_sheet::one_at_a_time(&bytes(request, 0)) {
+        Ok(sheet) => done(request, &[three_counts(&sheet), words(&sheet.log.concat())].concat()),
+        Err(number) => refused(request, number),
+    }
+}
+
+fn log_sheet_opened(request: &Request) -> Response {
+    match log_sheet::open(&bytes(request, 0)) {
+        Ok((corners, rows, place)) => done(request, &[corners, rows, place].map(|count| count as Word)),
+        Err(number) => refused(request, number),
+    }
+}
+
+fn record_at(request: &Request) -> Response {
+    match log_sheet::at(&bytes(request, 0), whole(request, 1)) {
+        Ok(Some((record, after))) => done(request, &[vec![1, after as Word], words(&record)].concat()),
+        // The end: the place as given, and zeros.
+        Ok(None) => done(request, &[vec![0, request.arguments[1][0]], vec![0; WIDTH]].concat()),
+        Err(number) => refused(request, number),
+    }
 }

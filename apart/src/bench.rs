@@ -1,6 +1,7 @@
 //! The bench: sends calls to the driven programs and compares each answer and every number of every buffer.
 
 use crate::answers::answer;
+use crate::chance::Chance;
 use crate::desk;
 use crate::pipe::{Driven, LATE};
 use crate::protocol::{bytes_of, Request, Response, Word};
@@ -19,6 +20,8 @@ pub struct Bench {
     pub tally: Tally,
     /// How many calls the run is asked for.
     pub wanted: usize,
+    /// The calls that are driven, where not all are; the desk is then left out as well.
+    only: Option<Vec<usize>>,
     /// The command of the whole run, for what no single call shows again.
     whole: String,
     calls: Option<Driven>,
@@ -32,9 +35,32 @@ impl Bench {
             desk_path: desk_path.to_string(),
             tally: Tally::default(),
             wanted,
+            only: None,
             whole,
             calls: None,
             silent: 0,
+        }
+    }
+
+    /// The bench of a run that drives some calls alone.
+    pub fn only(calls: Vec<usize>, calls_path: &str, wanted: usize, whole: String) -> Bench {
+        Bench { only: Some(calls), ..Bench::new(calls_path, "", wanted, whole) }
+    }
+
+    pub fn drives(&self, call: usize) -> bool {
+        self.only.as_ref().is_none_or(|only| only.contains(&call))
+    }
+
+    pub fn drives_desk(&self) -> bool {
+        self.only.is_none()
+    }
+
+    /// One of these calls by chance; where some alone are driven, one of those, and of these if any of these is.
+    pub fn some_call(&self, calls: &[usize], chance: &mut Chance) -> usize {
+        let driven: Vec<usize> = calls.iter().copied().filter(|&call| self.drives(call)).collect();
+        match &self.only {
+            Some(only) if driven.is_empty() => chance.pick(only),
+            _ => chance.pick(&driven),
         }
     }
 
@@ -80,12 +106,15 @@ impl Bench {
 
     /// Compares a call with what it must answer; the response where they agree.
     pub fn try_call(&mut self, kind: &str, request: &Request) -> Option<Response> {
+        if self.enough() || !self.drives(request.call) {
+            return None;
+        }
         self.try_against(kind, request, &answer(request))
     }
 
     /// Compares a call with a response worked out elsewhere.
     pub fn try_against(&mut self, kind: &str, request: &Request, expected: &Response) -> Option<Response> {
-        if self.enough() {
+        if self.enough() || !self.drives(request.call) {
             return None;
         }
         self.tally.note(request, expected);
@@ -104,7 +133,7 @@ impl Bench {
 
     /// Runs the desk on a sheet and compares its whole text.
     pub fn try_desk(&mut self, kind: &str, sheet: &[u8]) {
-        if self.enough() {
+        if self.enough() || !self.drives_desk() {
             return;
         }
         let expected = desk::text(sheet);

@@ -7,10 +7,12 @@ use crate::figures::{sixfold_volume, SIX_CUBIC_METRES};
 use crate::grow::records_of;
 use crate::harm::{scribble, words, Input};
 use crate::limit::whole_centimetres;
+use crate::mail;
 use crate::make::Skin;
 use crate::protocol::*;
 use crate::skin::{is_stage, rows_of, Edges, Row, MOST_CORNERS};
 use crate::step::{contract, meets_link_condition, WIDTH};
+use crate::tally::MANY_ROWS;
 
 /// A run as the driven program left it.
 struct Run<'a> {
@@ -29,6 +31,9 @@ impl Run<'_> {
 
 /// Thins, then grows back, replays, measures and asks for shifts, all on what the program itself handed back.
 pub fn run(bench: &mut Bench, skin: &Skin, order: (i64, u64), chance: &mut Chance) {
+    if !bench.drives(THIN) {
+        return;
+    }
     let mut input = Input::new(skin, &[]);
     input.order = order;
     input.spare = chance.pick(&[0, 0, 1, 17]);
@@ -55,6 +60,11 @@ pub fn run(bench: &mut Bench, skin: &Skin, order: (i64, u64), chance: &mut Chanc
     all_stages(bench, &run);
     stages(bench, &run, chance);
     shifts(bench, &run, chance);
+    // Every long log, and some of the others.
+    if skin.rows.len() > MANY_ROWS || chance.one_in(4) {
+        let counts = [skin.corners.len() as Word, skin.rows.len() as Word];
+        mail::mailed(bench, "run: its log mailed", counts, &run.log, chance);
+    }
 }
 
 /// A skin that this program's own rules refuse, but for the limit, was made wrongly.

@@ -31,7 +31,7 @@ pub fn lines(bytes: &[u8]) -> Result<String, i64> {
     Ok(text)
 }
 
-fn line(name: &str, numbers: &[u32]) -> String {
+pub fn line(name: &str, numbers: &[u32]) -> String {
     let fields: String = numbers.iter().map(|n| format!("\t{n}")).collect();
     format!("{name}{fields}\n")
 }

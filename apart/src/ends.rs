@@ -5,6 +5,7 @@ use crate::bench::{Bench, END};
 use crate::chance::Chance;
 use crate::desk;
 use crate::harm::{asked, Input};
+use crate::logs::steps;
 use crate::make;
 use crate::protocol::*;
 use crate::refusal::BAD_FORM;
@@ -13,10 +14,12 @@ use std::thread;
 use std::time::Duration;
 
 pub fn run(bench: &mut Bench, chance: &mut Chance) {
-    for call in 1..=CALLS.len() {
-        let request = small_request(call, chance);
-        bad_words(bench, &request, chance);
-        cut_short(bench, &request, chance);
+    for call in &CALLS {
+        if bench.drives(call.number) {
+            let request = small_request(call.number, chance);
+            bad_words(bench, &request, chance);
+            cut_short(bench, &request, chance);
+        }
     }
     other_calls(bench, chance);
     at_the_limits(bench, chance);
@@ -28,11 +31,12 @@ pub fn run(bench: &mut Bench, chance: &mut Chance) {
 fn small_request(call: usize, chance: &mut Chance) -> Request {
     let skin = make::skin_of_genus(0, 10, chance);
     if !asked(call).is_empty() {
-        let mut input = Input::new(&skin, &[]);
+        let log = if LOG_SHEET_CALLS.contains(&call) { steps(&skin.rows, 2, chance).1 } else { vec![] };
+        let mut input = Input::new(&skin, &log);
         input.order = (3, 100f64.to_bits());
         return input.request(call, chance);
     }
-    let arguments = CALLS[call - 1].arguments.iter().map(|_| vec![1, 2, 3]).collect();
+    let arguments = call_of(call).expect("one of the calls").arguments.iter().map(|_| vec![1, 2, 3]).collect();
     Request { call, arguments }
 }
 
@@ -52,7 +56,7 @@ fn must_end(bench: &mut Bench, kind: &str, bad: &[u8], behind: Behind, chance: &
     if bench.enough() {
         return;
     }
-    let honest = small_request(chance.pick(&[THIN, VOLUME, LIMIT, CATCH_UP]), chance);
+    let honest = small_request(bench.some_call(&[THIN, VOLUME, LIMIT, CATCH_UP, READ_LOG_SHEET], chance), chance);
     let words = bytes_of(&honest.words());
     let more: &[u8] = if behind == Behind::More { &words } else { &[] };
     let sent = [&words, bad, more].concat();
@@ -122,16 +126,18 @@ fn cut_short(bench: &mut Bench, request: &Request, chance: &mut Chance) {
 }
 
 fn other_calls(bench: &mut Bench, chance: &mut Chance) {
-    let next = CALLS.len() as Word + 1;
-    for call in [0, next, -1, 255, 256 + 11, (1 << 32) + 11, Word::MIN + 11, Word::MAX] {
+    let last = CALLS.iter().map(|call| call.number).max().unwrap_or(0);
+    let none = (0..=last + 1).filter(|&number| call_of(number).is_none()).map(|number| number as Word);
+    let past = [-1, 255, 256 + 11, (1 << 32) + 11, Word::MIN + 11, Word::MAX];
+    for call in none.chain(past) {
         must_end(bench, "ends: another call", &bytes_of(&[call]), chance.pick(&ANY_BEHIND), chance);
     }
 }
 
 /// Lists of the greatest length are requests like any other.
 fn at_the_limits(bench: &mut Bench, chance: &mut Chance) {
-    for call in 1..=CALLS.len() {
-        let request = small_request(call, chance);
+    for call in &CALLS {
+        let request = small_request(call.number, chance);
         for (at, argument) in request.shape().arguments.iter().enumerate() {
             if argument.kind.is_list() {
                 let mut long = request.clone();
@@ -148,7 +154,8 @@ fn at_the_limits(bench: &mut Bench, chance: &mut Chance) {
 /// Requests sent in pieces, and many sent at once: the answers are the same and in order.
 fn pieces(bench: &mut Bench, chance: &mut Chance) {
     for round in 0..6 {
-        let requests: Vec<Request> = (0..12).map(|_| small_request(1 + chance.below(CALLS.len()), chance)).collect();
+        let all: Vec<usize> = CALLS.iter().map(|call| call.number).collect();
+        let requests: Vec<Request> = (0..12).map(|_| small_request(bench.some_call(&all, chance), chance)).collect();
         let sent: Vec<u8> = requests.iter().flat_map(|r| bytes_of(&r.words())).collect();
         let mut cuts: Vec<usize> = (0..if round < 3 { 40 } else { 0 }).map(|_| chance.below(sent.len())).collect();
         cuts.extend([0, sent.len()]);
@@ -186,6 +193,9 @@ fn desk_ends(bench: &mut Bench, chance: &mut Chance) {
                 );
             }
         }
+    }
+    if !bench.drives_desk() {
+        return;
     }
     desk_in_pieces(bench, &honest);
     desk_without_end(bench, &honest);

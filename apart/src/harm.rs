@@ -1,6 +1,7 @@
 //! Damage: one harm for each line of the refusal table, done to an honest input of any call.
 
 use crate::chance::Chance;
+use crate::log_sheet::{self, most_records};
 use crate::make::{tetrahedron, Skin};
 use crate::protocol::*;
 use crate::refusal::{BAD_FORM, FAILS};
@@ -23,6 +24,7 @@ pub enum Harm {
     Unused,
     Rings,
     Connected,
+    Records,
     Log,
     SheetSize,
     SheetFirstLine,
@@ -36,7 +38,7 @@ impl Harm {
     pub fn number(self) -> i64 {
         match self {
             Limit => 1,
-            Counts => 2,
+            Counts | Records => 2,
             Room => 3,
             Coordinate => 4,
             Number => 5,
@@ -67,6 +69,12 @@ pub fn asked(call: usize) -> Vec<Harm> {
         READ_SHEET => [&form[..], &[Room, Coordinate], &rows, &[Unused], &rings].concat(),
         // The desk lends its own rooms.
         DESK_ANSWER => [&form[..], &[Coordinate], &rows, &[Unused], &rings].concat(),
+        WRITE_LOG_SHEET => vec![Counts, Records, Room],
+        // All lines before any count.
+        READ_LOG_SHEET => vec![SheetSize, SheetFirstLine, SheetLines, Counts, Records, Room],
+        READ_RECORDS => form.to_vec(),
+        OPEN_LOG_SHEET => vec![SheetSize, SheetFirstLine, Counts],
+        RECORD_AT => vec![SheetLines],
         _ => vec![],
     }
 }
@@ -109,7 +117,7 @@ impl Input {
         let table = words(&self.table);
         let coordinates: Vec<Word> = self.coordinates.iter().map(|&n| n.into()).collect();
         let log = words(&self.log);
-        let count = self.count.unwrap_or(self.coordinates.len() as u64 / 3) as Word;
+        let [count, told] = self.counts().map(|n| n as Word);
         let (unit, bits) = (self.order.0, self.order.1 as Word);
         let arguments = match call {
             THIN => {
@@ -117,11 +125,9 @@ impl Input {
                 vec![vec![unit], vec![bits], table, coordinates, scribble(need + self.spare, chance)]
             }
             GROW_BACK => {
-                let rows = self.table.len() as u64 / 3;
-                let need = 3 * (rows as i64 + 2 * (log.len() / WIDTH) as i64);
+                let need = 3 * (self.table.len() / 3 + 2 * (log.len() / WIDTH)) as i64;
                 let room = [table, scribble(need - self.table.len() as i64 + self.spare.max(0), chance)].concat();
                 let length = if self.spare < 0 { (need + self.spare).max(0) as usize } else { room.len() };
-                let told = self.told.unwrap_or(rows) as Word;
                 vec![vec![told], vec![count], room[..length.min(room.len())].to_vec(), log]
             }
             REPLAY => vec![vec![count], table, log],
@@ -135,16 +141,53 @@ impl Input {
                 let room = 60 + 16 * self.table.len() / 3 + 60 * self.coordinates.len() / 3;
                 vec![self.sheet(chance), scribble_bytes(room, chance)]
             }
+            WRITE_LOG_SHEET => {
+                let need = log_sheet::write(count as u64, told as u64, &self.log).len() as i64;
+                vec![vec![count], vec![told], log, scribble_bytes((need + self.spare).max(0) as usize, chance)]
+            }
+            READ_LOG_SHEET => vec![self.log_sheet(chance), scribble(log.len() as i64 + self.spare, chance)],
+            READ_RECORDS | OPEN_LOG_SHEET => vec![self.log_sheet(chance)],
+            RECORD_AT => {
+                let sheet = self.log_sheet(chance);
+                let place = self.record_place(&sheet, chance) as Word;
+                vec![sheet, vec![place]]
+            }
             _ => unreachable!("no input has another call"),
         };
         Request { call, arguments }
+    }
+
+    /// Corner count and rows, as the lists say or other.
+    fn counts(&self) -> [u64; 2] {
+        let (count, rows) = (self.coordinates.len() as u64 / 3, self.table.len() as u64 / 3);
+        [self.count.unwrap_or(count), self.told.unwrap_or(rows)]
+    }
+
+    /// The log's sheet as words, its harms done.
+    fn log_sheet(&self, chance: &mut Chance) -> Vec<Word> {
+        let [count, rows] = self.counts();
+        let mut text = log_sheet::write(count, rows, &self.log);
+        for &harm in &self.text {
+            harm_text(&mut text, &OF_LOG_SHEETS, harm, chance);
+        }
+        text.into_iter().map(Word::from).collect()
+    }
+
+    /// Where the line starts that a harm changed; where none did, the start of any behind the first, or the end.
+    fn record_place(&self, sheet: &[Word], chance: &mut Chance) -> usize {
+        let [count, rows] = self.counts();
+        let honest = log_sheet::write(count, rows, &self.log);
+        let starts: Vec<usize> = (1..=honest.len()).filter(|&at| honest[at - 1] == b'\n').collect();
+        let changed = honest.iter().zip(sheet).position(|(&byte, &word)| Word::from(byte) != word);
+        let before = |at: usize| starts.iter().copied().rfind(|&start| start <= at).unwrap_or(0);
+        changed.map_or_else(|| chance.pick(&starts), before)
     }
 
     /// The sheet as words, its harms done.
     pub fn sheet(&self, chance: &mut Chance) -> Vec<Word> {
         let mut text = sheet::write(&corners_of(&self.coordinates), &rows_of(&self.table));
         for &harm in &self.text {
-            harm_text(&mut text, harm, chance);
+            harm_text(&mut text, &OF_SHEETS, harm, chance);
         }
         text.into_iter().map(Word::from).collect()
     }
@@ -182,10 +225,11 @@ pub fn scribble_bytes(length: usize, chance: &mut Chance) -> Vec<Word> {
 /// Does one harm. Harms of one input touch different rows, so that none undoes another.
 pub fn harm(input: &mut Input, call: usize, harm: Harm, chance: &mut Chance) {
     let on_sheet = matches!(call, READ_SHEET | DESK_ANSWER);
+    let counts_on_sheet = call_of(call).is_some_and(Call::reads_sheet);
     let count = input.coordinates.len() as u32 / 3;
     match harm {
         Limit => input.order = typed::unusable(chance),
-        Counts if on_sheet => input.text.push(Counts),
+        Counts if counts_on_sheet => input.text.push(Counts),
         Counts => harm_counts(input, call, chance),
         // Short by less than a record of growing back, so that the rows themselves stay in the room.
         Room => input.spare = -chance.pick(&[1, 1, 1, 2, 5]),
@@ -208,6 +252,10 @@ pub fn harm(input: &mut Input, call: usize, harm: Harm, chance: &mut Chance) {
             }
         }
         Connected => add_tetrahedron(input, 4, chance),
+        Records => {
+            let more = WIDTH * (most_records(count as usize) + 1 + chance.pick(&[0, 0, 1, 50]));
+            input.log = input.log.iter().copied().cycle().take(more).collect();
+        }
         Log => harm_record(&mut input.log, count, chance),
         SheetSize | SheetFirstLine | SheetLines => input.text.push(harm),
     }
@@ -294,10 +342,11 @@ fn add_tetrahedron(input: &mut Input, new: u32, chance: &mut Chance) {
 /// A length or count outside its limits, by one of the ways the call has.
 fn harm_counts(input: &mut Input, call: usize, chance: &mut Chance) {
     let lists = matches!(call, THIN | VOLUME | CHANGE | SHIFT);
-    let logs = matches!(call, GROW_BACK | REPLAY | SHIFT);
+    let logs = matches!(call, GROW_BACK | REPLAY | SHIFT | WRITE_LOG_SHEET);
+    let told = matches!(call, GROW_BACK | WRITE_LOG_SHEET);
     let tables = matches!(call, THIN | REPLAY | VOLUME | CHANGE);
     loop {
-        match chance.below(9) {
+        match chance.below(10) {
             0 if tables => drop(input.table.split_off(input.table.len() - 1 - chance.below(2))),
             1 if tables => input.table.extend(vec![0; 1 + chance.below(2)]),
             2 if tables => input.table = input.table.iter().copied().cycle().take(3 * (MOST_ROWS + 1)).collect(),
@@ -308,9 +357,13 @@ fn harm_counts(input: &mut Input, call: usize, chance: &mut Chance) {
             6 if call == GROW_BACK => {
                 input.log.resize(WIDTH * (MOST_ROWS.saturating_sub(input.table.len() / 3) / 2 + 1), 0)
             }
-            7 if call == GROW_BACK => input.told = Some(hostile_count(input.table.len() as u64 / 3, chance)),
+            7 if told => input.told = Some(hostile_count(input.table.len() as u64 / 3, chance)),
             7 if call == REPLAY => input.log.resize(WIDTH * (input.table.len() / 6 - 1), 0),
             8 if !lists => input.count = Some(hostile_count(4, chance)),
+            9 if call == WRITE_LOG_SHEET => {
+                let at = chance.below(input.log.len());
+                input.log[at] = chance.pick(&[sheet::GREATEST as u32 + 1, 1 << 24, 1 << 31, u32::MAX]);
+            }
             _ => continue,
         }
         return;
@@ -355,23 +408,34 @@ pub fn harm_log(log: &mut [u32], count: u32, chance: &mut Chance) {
     };
 }
 
+/// The greatest corner count, rows and bytes that a kind of sheet may have.
+struct Most {
+    corners: usize,
+    rows: usize,
+    bytes: usize,
+}
+
+const OF_SHEETS: Most = Most { corners: sheet::MOST_CORNERS, rows: sheet::MOST_ROWS, bytes: sheet::MOST_BYTES };
+const OF_LOG_SHEETS: Most = Most { corners: MOST_CORNERS, rows: MOST_ROWS, bytes: log_sheet::MOST_BYTES };
+
 /// Harm to the text of a sheet.
-fn harm_text(text: &mut Vec<u8>, harm: Harm, chance: &mut Chance) {
+fn harm_text(text: &mut Vec<u8>, most: &Most, harm: Harm, chance: &mut Chance) {
     let first = text.iter().position(|&b| b == b'\n').map_or(0, |n| n + 1);
+    let name = text.iter().position(|&b| !b.is_ascii_alphabetic()).unwrap_or(0);
     match harm {
-        SheetSize => text.resize(sheet::MOST_BYTES + 1 + chance.below(3), b'\n'),
+        SheetSize => text.resize(most.bytes + 1 + chance.below(3), b'\n'),
         // The counts stay in the line, so that both can be wrong at once.
         SheetFirstLine => match chance.below(5) {
-            0 => text[4] = b' ',
-            1 => text.insert(5, b'0'),
-            2 => text[..4].copy_from_slice(b"skin"),
+            0 => text[name] = b' ',
+            1 => text.insert(name + 1, b'0'),
+            2 => text[..name].make_ascii_lowercase(),
             3 => text.insert(first - 1, b'\t'),
             _ => text.insert(first - 1, b'\r'),
         },
         Counts => {
-            let counts = [(3, 8), (sheet::MOST_CORNERS + 1, 8), (6, 3), (6, sheet::MOST_ROWS + 1), (0, 0)];
+            let counts = [(3, 8), (most.corners + 1, 8), (6, 3), (6, most.rows + 1), (0, 0)];
             let (corners, rows) = chance.pick(&counts);
-            text.splice(..first, format!("SKIN\t{corners}\t{rows}\n").bytes());
+            text.splice(name..first, format!("\t{corners}\t{rows}\n").bytes());
         }
         _ => {
             let at = first + chance.below(text.len() - first);

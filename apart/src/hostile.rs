@@ -29,10 +29,18 @@ pub fn tables(bench: &mut Bench, chance: &mut Chance) {
     }
 }
 
+/// The calls that are given any words.
+#[rustfmt::skip]
+pub const WORDS: [usize; 14] = [
+    THIN, GROW_BACK, REPLAY, VOLUME, CHANGE, SHIFT, LIMIT, READ_SHEET, DESK_ANSWER, WRITE_LOG_SHEET, READ_LOG_SHEET,
+    READ_RECORDS, OPEN_LOG_SHEET, RECORD_AT,
+];
+
 /// Any words of the right type, up to the type's ends.
 pub fn words(bench: &mut Bench, chance: &mut Chance) {
-    let call = chance.pick(&[THIN, GROW_BACK, REPLAY, VOLUME, CHANGE, SHIFT, LIMIT, READ_SHEET, DESK_ANSWER]);
-    let arguments = CALLS[call - 1].arguments.iter().map(|argument| any_words(argument.kind, chance)).collect();
+    let call = bench.some_call(&WORDS, chance);
+    let shape = call_of(call).expect("one of the calls");
+    let arguments = shape.arguments.iter().map(|argument| any_words(argument.kind, chance)).collect();
     bench.try_call("chance: hostile words", &Request { call, arguments });
 }
 
@@ -54,7 +62,12 @@ fn any_words(kind: Kind, chance: &mut Chance) -> Vec<Word> {
             vec![one(&ends, 600)]
         }
         Kind::Number => vec![one(&[u32::MAX.into(), 1 << 31], 20)],
-        Kind::Numbers => (0..length).map(|_| one(&[u32::MAX.into(), 1 << 31, 0], 6)).collect(),
+        Kind::Numbers => {
+            // Small enough for a log sheet as well.
+            let ends = [u32::MAX.into(), 1 << 31, 0];
+            let wild = one(&[1], 2) == 1;
+            (0..length).map(|_| one(if wild { &ends } else { &[0] }, 6)).collect()
+        }
         Kind::Coordinates => {
             let far = Word::from(FARTHEST);
             let ends = [i32::MAX.into(), i32::MIN.into(), far, -far, far + 1];

@@ -2,9 +2,9 @@
 
 use crate::chance::Chance;
 use crate::grow::grown;
-use crate::make::turned;
+use crate::make::{turned, Skin};
 use crate::skin::{Edges, Row};
-use crate::step::{contract, meets_link_condition, Record};
+use crate::step::{contract, meets_link_condition, thin, Record};
 
 /// Steps over contractible edges taken by chance, at most so many: the stage left and the log.
 pub fn steps(rows: &[Row], most: usize, chance: &mut Chance) -> (Vec<Row>, Vec<Record>) {
@@ -19,6 +19,15 @@ pub fn steps(rows: &[Row], most: usize, chance: &mut Chance) -> (Vec<Row>, Vec<R
         log.push(record);
     }
     (rows, log)
+}
+
+/// A log that 01 accepts for the skin, and the stage it leaves: thinning's own, or steps by chance.
+pub fn some_log(skin: &Skin, chance: &mut Chance) -> (Vec<Row>, Vec<Record>) {
+    match chance.below(4) {
+        0 => thin(skin.rows.clone(), &skin.corners, None),
+        1 => steps(&skin.rows, usize::MAX, chance),
+        _ => steps(&skin.rows, 1 + chance.below(6), chance),
+    }
 }
 
 pub fn some_edge(rows: &[Row], chance: &mut Chance) -> (u32, u32) {

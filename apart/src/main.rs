@@ -3,16 +3,17 @@
 
 use apart::bench::{desk_difference, Bench, END, PATIENCE};
 use apart::chance::Chance;
-use apart::protocol::{bytes_of, Request};
+use apart::protocol::{bytes_of, call_of, Request, CALLS};
 use apart::spoil::Spoiler;
 use apart::tally::{difference, words_of};
-use apart::{answers, counts, desk, ends, lines, order, round, serve, sheets, sums, sweep, trial};
+use apart::{answers, counts, desk, ends, lines, log_sheets, order, round, serve, sheets, sums, sweep, trial};
 use std::io::Read;
 use std::process::ExitCode;
 
 const USAGE: &str = "usage: apart CALLS DESK TRIALS [COUNT] [SEED]
        apart again CALLS WORDS | apart again-desk DESK WORDS   (- reads the words from standard input)
        apart part NAME CALLS DESK COUNT SEED   (one part of the run; `apart parts` lists them)
+       apart only NUMBERS CALLS COUNT SEED   (the calls of these numbers alone, as in 13,14,15)
        apart serve | apart desk   (the two programs, answered by this one's rules)
        apart serve SEED RESPONSES FOLDER | apart desk SEED RESPONSES FOLDER   (one of so many responses spoiled)";
 /// A run of this many calls must have met every refusal.
@@ -45,6 +46,10 @@ fn main() -> ExitCode {
                 _ => usage(),
             }
         }
+        ["only", numbers, calls, count, seed] => match (calls_of(numbers), number(count), number(seed)) {
+            (Some(only), Some(count), Some(seed)) => code(some_calls(only, calls, count as usize, seed)),
+            _ => usage(),
+        },
         ["desk"] => code(serve::desk(None).is_ok()),
         ["again", path, words] => code(again(path, words)),
         ["again-desk", path, words] => code(again_desk(path, words)),
@@ -77,12 +82,17 @@ fn number(text: &str) -> Option<u64> {
     text.replace(',', "").parse().ok()
 }
 
+/// The numbers of some calls, parted by commas.
+fn calls_of(text: &str) -> Option<Vec<usize>> {
+    text.split(',').map(|number| number.parse().ok().filter(|&number| call_of(number).is_some())).collect()
+}
+
 /// A part of the run, from a seed.
 type Part = fn(&mut Bench, u64);
 
 /// The parts after the lines of `trials`: 01's cases, the order of refusals, the sweeps, the ends, then rounds of
 /// chance up to the count.
-const PARTS: [(&str, Part); 11] = [
+const PARTS: [(&str, Part); 12] = [
     ("trial", |bench, seed| trial::run(bench, &mut own(seed, 0))),
     ("alone", |bench, seed| order::alone(bench, &mut own(seed, 1))),
     ("order", |bench, seed| order::run(bench, 3, &mut own(seed, 2))),
@@ -90,6 +100,7 @@ const PARTS: [(&str, Part); 11] = [
     ("sweep", |bench, seed| sweep::run(bench, &mut own(seed, 4))),
     ("sums", |bench, seed| sums::run(bench, &mut own(seed, 5))),
     ("sheets", |bench, seed| sheets::run(bench, &mut own(seed, 6))),
+    ("log-sheets", |bench, seed| log_sheets::run(bench, &mut own(seed, 10))),
     ("ends", |bench, seed| ends::run(bench, &mut own(seed, 7))),
     ("returning", |bench, seed| round::returning(bench, &mut own(seed, 8))),
     ("greatest", |bench, seed| round::greatest(bench, &mut own(seed, 9))),
@@ -104,7 +115,7 @@ fn own(seed: u64, part: u64) -> Chance {
 /// Each round has chance of its own, so that it can be made again without those before it.
 fn rounds(bench: &mut Bench, seed: u64) {
     let mut number = 0;
-    while !bench.enough() {
+    while !bench.enough() && round::any(bench) {
         let mut chance = Chance::new(seed.wrapping_mul(0x0100_0000_01b3) ^ number);
         round::run(bench, number % LARGE_ROUNDS == LARGE_ROUNDS - 1, &mut chance);
         number += 1;
@@ -116,14 +127,34 @@ fn run([calls, desk, trials]: [&str; 3], count: usize, seed: u64) -> bool {
     let mut bench = Bench::new(calls, desk, count, format!("apart {calls} {desk} {trials} {count} {seed}"));
     println!("seed {seed}");
     lines::run(&mut bench, trials);
-    for (_, part) in PARTS {
-        if !bench.enough() {
-            part(&mut bench, seed);
-        }
-    }
+    every_part(&mut bench, count, seed);
     if count >= WHOLE_RUN {
         bench.tally.ask_for_all();
     }
+    bench.tally.close()
+}
+
+/// Every part in turn up to the count; a whole run must have met each call that it drives.
+fn every_part(bench: &mut Bench, count: usize, seed: u64) {
+    for (_, part) in PARTS {
+        if !bench.enough() {
+            part(bench, seed);
+        }
+    }
+    for call in &CALLS {
+        if count >= WHOLE_RUN && bench.drives(call.number) {
+            bench.tally.ask_for_call(call);
+        }
+    }
+}
+
+/// The whole run with some calls alone.
+fn some_calls(only: Vec<usize>, calls: &str, count: usize, seed: u64) -> bool {
+    let numbers: Vec<String> = only.iter().map(usize::to_string).collect();
+    let whole = format!("apart only {} {calls} {count} {seed}", numbers.join(","));
+    let mut bench = Bench::only(only, calls, count, whole);
+    println!("seed {seed}");
+    every_part(&mut bench, count, seed);
     bench.tally.close()
 }
 

@@ -8,11 +8,9 @@ use crate::logs::steps;
 use crate::make;
 use crate::protocol::*;
 
-const TRIED: [usize; 9] = [THIN, GROW_BACK, REPLAY, VOLUME, CHANGE, SHIFT, LIMIT, READ_SHEET, DESK_ANSWER];
-
 pub fn run(bench: &mut Bench, rounds: usize, chance: &mut Chance) {
     for _ in 0..rounds {
-        for call in TRIED {
+        for call in CALLS.iter().filter(|call| call.refused > 0) {
             singles(bench, call, chance);
             pairs(bench, call, chance);
         }
@@ -37,8 +35,8 @@ fn honest(call: usize, chance: &mut Chance) -> Input {
     }
 }
 
-fn singles(bench: &mut Bench, call: usize, chance: &mut Chance) {
-    let kind = format!("order: one refusal of {}", CALLS[call - 1].name);
+fn singles(bench: &mut Bench, &Call { number: call, name, .. }: &Call, chance: &mut Chance) {
+    let kind = format!("order: one refusal of {name}");
     for one in asked(call) {
         let mut input = honest(call, chance);
         harm(&mut input, call, one, chance);
@@ -46,8 +44,8 @@ fn singles(bench: &mut Bench, call: usize, chance: &mut Chance) {
     }
 }
 
-fn pairs(bench: &mut Bench, call: usize, chance: &mut Chance) {
-    let kind = format!("order: two refusals of {}", CALLS[call - 1].name);
+fn pairs(bench: &mut Bench, &Call { number: call, name, .. }: &Call, chance: &mut Chance) {
+    let kind = format!("order: two refusals of {name}");
     let harms = asked(call);
     for first in 0..harms.len() {
         for second in first + 1..harms.len() {
@@ -88,7 +86,7 @@ fn compare(bench: &mut Bench, kind: &str, request: &Request, harms: &[Harm]) {
     let holding = holding(request);
     let seen = |harm: &Harm| holding.contains(&harm.number());
     // A length outside its limits may cut another harm off; 13 and a sheet's lines are seen in the work alone.
-    let apart = harms[0] == Harm::Counts || matches!(request.call, READ_SHEET | DESK_ANSWER);
+    let apart = harms[0] == Harm::Counts || request.shape().reads_sheet();
     let there = apart || harms.iter().all(|harm| *harm == Harm::Log || seen(harm));
     let status = refusal_told(&answer(request));
     if !there || status != harms[0].number() {

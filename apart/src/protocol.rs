@@ -1,4 +1,6 @@
-//! The pipe protocol: the twelve calls with their arguments, and requests and responses as words.
+//! The pipe protocol: the calls with their arguments, and requests and responses as words.
+
+use crate::step::WIDTH;
 
 /// 8 bytes, little-endian, two's complement.
 pub type Word = i64;
@@ -64,6 +66,7 @@ const fn lent(name: &'static str, kind: Kind) -> Argument {
 }
 
 pub struct Call {
+    pub number: usize,
     pub name: &'static str,
     pub arguments: &'static [Argument],
     /// How many words the answer has when the call refuses; 0 for a call that can't.
@@ -71,13 +74,18 @@ pub struct Call {
 }
 
 impl Call {
+    /// A sheet of any kind is read, so what it is asked comes in the work.
+    pub fn reads_sheet(&self) -> bool {
+        self.arguments.iter().any(|argument| argument.kind == Kind::Bytes && !argument.lent)
+    }
+
     pub fn lent(&self) -> impl Iterator<Item = (usize, &'static Argument)> {
         self.arguments.iter().enumerate().filter(|(_, argument)| argument.lent)
     }
 }
 
-const fn call(name: &'static str, refused: usize, arguments: &'static [Argument]) -> Call {
-    Call { name, arguments, refused }
+const fn call(number: usize, name: &'static str, refused: usize, arguments: &'static [Argument]) -> Call {
+    Call { number, name, arguments, refused }
 }
 
 pub const THIN: usize = 1;
@@ -92,12 +100,19 @@ pub const CATCH_UP: usize = 9;
 pub const READ_SHEET: usize = 10;
 pub const TRIAL_RING: usize = 11;
 pub const DESK_ANSWER: usize = 12;
+pub const WRITE_LOG_SHEET: usize = 13;
+pub const READ_LOG_SHEET: usize = 14;
+pub const READ_RECORDS: usize = 15;
+pub const OPEN_LOG_SHEET: usize = 24;
+pub const RECORD_AT: usize = 25;
+pub const LOG_SHEET_CALLS: [usize; 5] = [WRITE_LOG_SHEET, READ_LOG_SHEET, READ_RECORDS, OPEN_LOG_SHEET, RECORD_AT];
 
 use Kind::*;
 
-/// The calls, number 1 first.
-pub const CALLS: [Call; 12] = [
+/// The calls in the order of their numbers; the numbers between are kept for later requests.
+pub static CALLS: [Call; 17] = [
     call(
+        THIN,
         "thin",
         2,
         &[
@@ -109,21 +124,42 @@ pub const CALLS: [Call; 12] = [
         ],
     ),
     call(
+        GROW_BACK,
         "grow back",
         2,
         &[read("rows told", Whole), read("corner count", Whole), lent("room", Numbers), read("log", Numbers)],
     ),
-    call("replay", 2, &[read("corner count", Whole), lent("table", Numbers), read("log", Numbers)]),
-    call("volume", 2, &[read("table", Numbers), read("corners", Coordinates)]),
-    call("change", 2, &[read("earlier table", Numbers), read("later table", Numbers), read("corners", Coordinates)]),
-    call("shift", 4, &[read("corner", Number), read("corners", Coordinates), read("log", Numbers)]),
-    call("limit", 2, &[read("unit", LimitUnit), read("bits", Whole)]),
-    call("shorter ring", 0, &[read("first", Numbers), read("second", Numbers)]),
-    call("catch up", 0, &[read("first", Numbers), read("second", Numbers)]),
-    call("read a sheet", 3, &[read("bytes", Bytes), lent("table", Numbers), lent("corners", Coordinates)]),
-    call("trial ring", 0, &[]),
-    call("the desk's answer", 2, &[read("bytes", Bytes), lent("text", Bytes)]),
+    call(REPLAY, "replay", 2, &[read("corner count", Whole), lent("table", Numbers), read("log", Numbers)]),
+    call(VOLUME, "volume", 2, &[read("table", Numbers), read("corners", Coordinates)]),
+    call(
+        CHANGE,
+        "change",
+        2,
+        &[read("earlier table", Numbers), read("later table", Numbers), read("corners", Coordinates)],
+    ),
+    call(SHIFT, "shift", 4, &[read("corner", Number), read("corners", Coordinates), read("log", Numbers)]),
+    call(LIMIT, "limit", 2, &[read("unit", LimitUnit), read("bits", Whole)]),
+    call(SHORTER_RING, "shorter ring", 0, &[read("first", Numbers), read("second", Numbers)]),
+    call(CATCH_UP, "catch up", 0, &[read("first", Numbers), read("second", Numbers)]),
+    call(READ_SHEET, "read a sheet", 3, &[read("bytes", Bytes), lent("table", Numbers), lent("corners", Coordinates)]),
+    call(TRIAL_RING, "trial ring", 0, &[]),
+    call(DESK_ANSWER, "the desk's answer", 2, &[read("bytes", Bytes), lent("text", Bytes)]),
+    call(
+        WRITE_LOG_SHEET,
+        "write a log sheet",
+        2,
+        &[read("corner count", Whole), read("rows", Whole), read("log", Numbers), lent("text", Bytes)],
+    ),
+    call(READ_LOG_SHEET, "read a log sheet", 4, &[read("bytes", Bytes), lent("log", Numbers)]),
+    call(READ_RECORDS, "log records one at a time", 4, &[read("bytes", Bytes)]),
+    call(OPEN_LOG_SHEET, "open a log sheet", 4, &[read("bytes", Bytes)]),
+    call(RECORD_AT, "the record at a place", 3 + WIDTH, &[read("bytes", Bytes), read("place", Whole)]),
 ];
+
+/// The call of a number, where there is one.
+pub fn call_of(number: usize) -> Option<&'static Call> {
+    CALLS.iter().find(|call| call.number == number)
+}
 
 /// A call with its arguments; a scalar is a list of one word here.
 #[derive(Clone)]
@@ -134,7 +170,7 @@ pub struct Request {
 
 impl Request {
     pub fn shape(&self) -> &'static Call {
-        &CALLS[self.call - 1]
+        call_of(self.call).expect("a request has one of the calls")
     }
 
     /// What a failure calls it.
@@ -155,9 +191,9 @@ impl Request {
 
     /// Reads one request; nothing where a word, a length, a call or a unit is none, or the words run out.
     pub fn read(next: &mut impl FnMut() -> Option<Word>) -> Option<Request> {
-        let call = usize::try_from(next()?).ok().filter(|n| (1..=CALLS.len()).contains(n))?;
+        let call = call_of(usize::try_from(next()?).ok()?)?;
         let mut arguments = Vec::new();
-        for argument in CALLS[call - 1].arguments {
+        for argument in call.arguments {
             let length = if argument.kind.is_list() { usize::try_from(next()?).ok()? } else { 1 };
             if length > argument.kind.longest() {
                 return None;
@@ -166,7 +202,7 @@ impl Request {
                 (0..length).map(|_| next().filter(|&word| argument.kind.takes(word))).collect();
             arguments.push(given?);
         }
-        Some(Request { call, arguments })
+        Some(Request { call: call.number, arguments })
     }
 }
 

@@ -5,13 +5,14 @@ use crate::chance::Chance;
 use crate::check;
 use crate::harm::{asked, harm, harm_log, scribble, Input};
 use crate::hostile;
-use crate::logs::{growth, some_edge, steps};
+use crate::logs::{growth, some_edge, some_log, steps};
+use crate::mail;
 use crate::make::{self, Skin};
 use crate::place;
 use crate::protocol::*;
 use crate::sheets;
-use crate::skin::{Row, FARTHEST, MOST_CORNERS, MOST_ROWS};
-use crate::step::{contract, thin, Record, EARLIER, LATER, WIDTH};
+use crate::skin::{FARTHEST, MOST_CORNERS, MOST_ROWS};
+use crate::step::{contract, EARLIER, LATER, WIDTH};
 use crate::typed;
 
 /// One round. A large one works on more than 256 rows.
@@ -21,24 +22,56 @@ pub fn run(bench: &mut Bench, large: bool, chance: &mut Chance) {
     if large {
         return large_call(bench, &skin, chance);
     }
-    match chance.below(28) {
-        0..=2 => check::run(bench, &skin, typed::order(&skin, chance), chance),
-        3..=7 => thinned(bench, &skin, chance),
-        8..=10 => damaged(bench, &skin, chance),
-        11 | 12 => grown(bench, &skin, chance),
-        13 | 14 => replayed(bench, &skin, chance),
-        15..=17 => spoiled(bench, &skin, chance),
-        18 => measured(bench, &skin, chance),
-        19 => shifted(bench, &skin, chance),
-        20 => limits(bench, chance),
-        21 => parts(bench, chance),
-        22 => sheets::honest(bench, &skin, chance),
-        23 => sheets::spoiled(bench, &skin, chance),
-        24 => sheets::on_the_desk(bench, &skin, chance),
-        25 => hostile::tables(bench, chance),
-        26 => stage_for_first(bench, &skin, chance),
-        _ => hostile::words(bench, chance),
-    }
+    let drawn: Vec<&Round> = rounds(bench).flat_map(|kind| std::iter::repeat_n(kind, kind.share)).collect();
+    (chance.pick(&drawn).run)(bench, &skin, chance);
+}
+
+/// A kind of round: how often it is drawn against the others, and the calls that it starts with.
+struct Round {
+    share: usize,
+    calls: &'static [usize],
+    run: fn(&mut Bench, &Skin, &mut Chance),
+}
+
+static ROUNDS: [Round; 21] = [
+    Round { share: 12, calls: &[THIN], run: whole_run },
+    Round { share: 20, calls: &[THIN], run: thinned },
+    Round { share: 12, calls: &DAMAGED, run: damaged },
+    Round { share: 8, calls: &[GROW_BACK], run: grown },
+    Round { share: 8, calls: &[REPLAY], run: replayed },
+    Round { share: 12, calls: &[GROW_BACK, REPLAY], run: spoiled },
+    Round { share: 4, calls: &[VOLUME, CHANGE], run: measured },
+    Round { share: 4, calls: &[SHIFT], run: shifted },
+    Round { share: 4, calls: &[LIMIT], run: |bench, _, chance| limits(bench, chance) },
+    Round { share: 4, calls: &[SHORTER_RING, CATCH_UP], run: |bench, _, chance| parts(bench, chance) },
+    Round { share: 4, calls: &[READ_SHEET, DESK_ANSWER], run: sheets::honest },
+    Round { share: 4, calls: &[READ_SHEET], run: sheets::spoiled },
+    Round { share: 4, calls: &[], run: sheets::on_the_desk },
+    Round { share: 4, calls: &[THIN, VOLUME, REPLAY], run: |bench, _, chance| hostile::tables(bench, chance) },
+    Round { share: 4, calls: &[THIN, READ_SHEET, DESK_ANSWER], run: stage_for_first },
+    Round { share: 4, calls: &hostile::WORDS, run: |bench, _, chance| hostile::words(bench, chance) },
+    Round { share: 2, calls: &LOG_SHEET_CALLS, run: mail::honest },
+    Round { share: 4, calls: &mail::READING, run: mail::spoiled },
+    Round { share: 1, calls: &mail::READING, run: mail::byte_by_byte },
+    Round { share: 2, calls: &LOG_SHEET_CALLS, run: |bench, _, chance| mail::any_numbers(bench, chance) },
+    Round { share: 2, calls: &mail::READING, run: |bench, _, chance| mail::of_pieces(bench, chance) },
+];
+
+/// The kinds of round that make a call which is driven; the desk's alone makes none.
+fn rounds(bench: &Bench) -> impl Iterator<Item = &'static Round> + '_ {
+    let desk = |kind: &Round| kind.calls.is_empty() && bench.drives_desk();
+    ROUNDS.iter().filter(move |kind| desk(kind) || kind.calls.iter().any(|&call| bench.drives(call)))
+}
+
+/// Whether any round makes a call that is driven.
+pub fn any(bench: &Bench) -> bool {
+    rounds(bench).next().is_some()
+}
+
+/// A thinning run, and all that is asked of what it leaves.
+fn whole_run(bench: &mut Bench, skin: &Skin, chance: &mut Chance) {
+    let order = typed::order(skin, chance);
+    check::run(bench, skin, order, chance);
 }
 
 /// One call on a large skin.
@@ -82,9 +115,16 @@ fn stage_for_first(bench: &mut Bench, skin: &Skin, chance: &mut Chance) {
     }
 }
 
+/// The calls that are harmed, thinning twice as often.
+#[rustfmt::skip]
+const DAMAGED: [usize; 14] = [
+    THIN, THIN, GROW_BACK, REPLAY, VOLUME, CHANGE, SHIFT, READ_SHEET, DESK_ANSWER, WRITE_LOG_SHEET, READ_LOG_SHEET,
+    READ_RECORDS, OPEN_LOG_SHEET, RECORD_AT,
+];
+
 /// One to three harms at once on any call that can refuse.
 fn damaged(bench: &mut Bench, skin: &Skin, chance: &mut Chance) {
-    let call = chance.pick(&[THIN, THIN, GROW_BACK, REPLAY, VOLUME, CHANGE, SHIFT, READ_SHEET, DESK_ANSWER]);
+    let call = bench.some_call(&DAMAGED, chance);
     let (left, log) = steps(&skin.rows, 3, chance);
     if left.len() < 8 || log.is_empty() {
         return;
@@ -98,15 +138,6 @@ fn damaged(bench: &mut Bench, skin: &Skin, chance: &mut Chance) {
         harm(&mut input, call, one, chance);
     }
     bench.try_call("chance: damaged", &input.request(call, chance));
-}
-
-/// A log that 01 accepts for the skin, and the stage it leaves: thinning's own, or steps by chance.
-fn some_log(skin: &Skin, chance: &mut Chance) -> (Vec<Row>, Vec<Record>) {
-    match chance.below(4) {
-        0 => thin(skin.rows.clone(), &skin.corners, None),
-        1 => steps(&skin.rows, usize::MAX, chance),
-        _ => steps(&skin.rows, 1 + chance.below(6), chance),
-    }
 }
 
 /// Growing back what steps took, and growing freely.

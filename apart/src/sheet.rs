@@ -32,7 +32,7 @@ fn number(field: &[u8], coordinate: bool) -> Option<i32> {
 }
 
 /// The numbers of the next line, which must have this name and this many fields; moves past its newline.
-fn line<const N: usize>(bytes: &mut &[u8], name: &[u8], coordinates: bool) -> Option<[i32; N]> {
+pub fn line<const N: usize>(bytes: &mut &[u8], name: &[u8], coordinates: bool) -> Option<[i32; N]> {
     let end = bytes.iter().position(|&b| b == b'\n')?;
     let mut fields = bytes[..end].split(|&b| b == b'\t');
     *bytes = &bytes[end + 1..];

@@ -1,12 +1,12 @@
 //! What was tried and what came of it: counts for the summary, failures printed with the call that shows them again.
 
-use crate::protocol::{
-    Request, Response, Word, CALLS, CHANGE, DESK_ANSWER, GROW_BACK, READ_SHEET, REPLAY, THIN, VOLUME,
-};
+use crate::harm::asked;
+use crate::log_sheet::{self, most_records, LONGEST_ANSWER};
+use crate::protocol::*;
 use crate::refusal;
-use crate::skin::MOST_ROWS;
+use crate::skin::{MOST_CORNERS, MOST_ROWS};
 use crate::step::WIDTH;
-use std::collections::BTreeMap;
+use std::collections::{BTreeMap, BTreeSet};
 
 /// Failures past this many, of one kind and in all, are counted and no longer printed.
 const PRINTED_OF_A_KIND: usize = 3;
@@ -20,15 +20,15 @@ pub struct Tally {
     failed: usize,
     printed: usize,
     kinds: BTreeMap<String, (usize, usize)>,
-    by_call: BTreeMap<usize, usize>,
+    /// Calls by number and by the status that they must answer.
+    by_call: BTreeMap<usize, BTreeMap<Word, usize>>,
     desk_runs: usize,
-    refusals: BTreeMap<Word, usize>,
     met: BTreeMap<String, usize>,
     many_rows: usize,
 }
 
 /// What a whole run must have met at least once, besides every refusal.
-const MUST_MEET: [&str; 16] = [
+const MUST_MEET: [&str; 21] = [
     "a sphere",
     "a torus",
     "genus 2",
@@ -45,6 +45,11 @@ const MUST_MEET: [&str; 16] = [
     "replay that did some records before 13",
     "a stage grown freely",
     "an accepted stage with unused corners",
+    "the most records written",
+    "the most records read",
+    "more records one at a time than the corners allow",
+    "a log sheet of the most bytes",
+    "the longest answer",
 ];
 
 impl Tally {
@@ -77,11 +82,8 @@ impl Tally {
     /// Notes a call and what it must answer.
     pub fn note(&mut self, request: &Request, expected: &Response) {
         self.calls += 1;
-        *self.by_call.entry(request.call).or_default() += 1;
         let status = if request.shape().refused > 0 { expected.answer[0] } else { 0 };
-        if status > 0 {
-            *self.refusals.entry(status).or_default() += 1;
-        }
+        *self.by_call.entry(request.call).or_default().entry(status).or_default() += 1;
         let rows = rows_worked(request);
         if !refusal::BEFORE_ROWS.contains(&status) {
             self.many_rows += usize::from(rows > MANY_ROWS);
@@ -90,6 +92,31 @@ impl Tally {
         let partly = status == refusal::FAILS && expected.answer[1] > 0;
         self.meet_if(partly && request.call == GROW_BACK, "growing back that did some records before 13");
         self.meet_if(partly && request.call == REPLAY, "replay that did some records before 13");
+        if status == 0 {
+            self.note_log_sheet(request, expected);
+        }
+    }
+
+    /// Log sheets at their limits, done.
+    fn note_log_sheet(&mut self, request: &Request, expected: &Response) {
+        let most = most_records(MOST_CORNERS);
+        match request.call {
+            WRITE_LOG_SHEET => self.meet_if(request.arguments[2].len() == WIDTH * most, "the most records written"),
+            READ_LOG_SHEET => self.meet_if(expected.answer[3] == most as Word, "the most records read"),
+            READ_RECORDS => {
+                let more = expected.answer[3] as usize > most_records(expected.answer[1] as usize);
+                self.meet_if(more, "more records one at a time than the corners allow");
+                let bytes = request.arguments[0].len();
+                self.meet_if(bytes == log_sheet::MOST_BYTES, "a log sheet of the most bytes");
+                self.meet_if(expected.answer.len() == LONGEST_ANSWER, "the longest answer");
+            }
+            _ => {}
+        }
+    }
+
+    /// How often a refusal was to come, over all calls.
+    fn refusals(&self, number: Word) -> usize {
+        self.by_call.values().filter_map(|statuses| statuses.get(&number)).sum()
     }
 
     pub fn note_desk(&mut self) {
@@ -108,10 +135,22 @@ impl Tally {
         }
     }
 
+    /// A call that was never made, or never done, or one of its refusals that never came, is a failure of its own. The
+    /// desk's answer tells them in its text.
+    pub fn ask_for_call(&mut self, call: &Call) {
+        let refusals = if call.number == DESK_ANSWER { vec![] } else { asked(call.number) };
+        let numbers: BTreeSet<Word> = refusals.iter().map(|harm| harm.number()).chain([0]).collect();
+        for number in numbers {
+            let met = self.by_call.get(&call.number).is_some_and(|statuses| statuses.contains_key(&number));
+            let what = || format!("{} (call {}) never with status {number}", call.name, call.number);
+            self.verdict("every call met with its refusals", (!met).then(what), String::new);
+        }
+    }
+
     /// A refusal, or another kind of input, that a whole run never met is a failure of its own.
     pub fn ask_for_all(&mut self) {
         for number in refusal::ALL {
-            let never = !self.refusals.contains_key(&number);
+            let never = self.refusals(number) == 0;
             self.verdict("every refusal met", never.then(|| format!("refusal {number} never occurred")), String::new);
         }
         for kind in MUST_MEET {
@@ -128,12 +167,17 @@ impl Tally {
         for (kind, (passed, failed)) in &self.kinds {
             println!("{kind}: {passed} passed, {failed} failed");
         }
-        for (call, count) in &self.by_call {
-            println!("call {call}, {}: {count}", CALLS[call - 1].name);
+        for call in &CALLS {
+            let made = self.by_call.get(&call.number).map_or(0, |statuses| statuses.values().sum());
+            if made > 0 {
+                println!("call {}, {}: {made}", call.number, call.name);
+            }
         }
         println!("the desk program: {}", self.desk_runs);
-        for (number, count) in &self.refusals {
-            println!("refusal {number}: {count}");
+        for number in refusal::ALL {
+            if self.refusals(number) > 0 {
+                println!("refusal {number}: {}", self.refusals(number));
+            }
         }
         for (kind, count) in &self.met {
             println!("met {kind}: {count}");

@@ -1,5 +1,5 @@
-//! 01's own cases: its trial skins, its slips, its limits and its sheet. What is expected here is copied from 01,
-//! and both the driven programs and this program's own rules are held to it.
+//! 01's own cases: its trial skins, its slips, its limits and its sheet; and its O as the log sheet of 02. What is
+//! expected here is copied from them, and both the driven programs and this program's own rules are held to it.
 
 use crate::answers::answer;
 use crate::bench::Bench;
@@ -8,6 +8,7 @@ use crate::figures::sixfold_volume;
 use crate::grow::records_of;
 use crate::harm::{scribble, words};
 use crate::limit::{CENTIMETRES, FEET, METRES};
+use crate::mail::{read_request, text_words, write_request};
 use crate::make::{octahedron, seven_corner_torus, shaft_rows, tetrahedron};
 use crate::protocol::*;
 use crate::sheet;
@@ -19,6 +20,9 @@ const T_CORNERS: [Corner; 4] = [[0, 0, 0], [300, 0, 0], [0, 300, 0], [0, 0, 300]
 pub const O_CORNERS: [Corner; 6] = [[0, 0, 100], [100, 0, 0], [0, 100, 0], [-100, 0, 0], [0, -100, 0], [0, 0, -100]];
 pub const O_LEFT: [Row; 4] = [[0, 3, 4], [5, 3, 0], [5, 4, 3], [5, 0, 4]];
 pub const O_LOG: [Record; 2] = [[0, 1, 0, 0, 1, 2, 3, 0, 4, 1], [0, 2, 0, 0, 2, 3, 2, 5, 2, 0]];
+const REQUEST_1: &str = "02, request 1";
+/// `LOG`, corners, rows; then O's two `K` lines, as 01 has them.
+const O_LOG_SHEET: &str = "LOG\t6\t8\nK\t0\t1\t0\t0\t1\t2\t3\t0\t4\t1\nK\t0\t2\t0\t0\t2\t3\t2\t5\t2\t0\n";
 const O_TEXT: &str = "OK\t4\t2\t1\t0\nR\t0\t3\t4\nR\t5\t3\t0\nR\t5\t4\t3\nR\t5\t0\t4\n\
                       K\t0\t1\t0\t0\t1\t2\t3\t0\t4\t1\nK\t0\t2\t0\t0\t2\t3\t2\t5\t2\t0\n";
 
@@ -29,6 +33,7 @@ pub fn run(bench: &mut Bench, chance: &mut Chance) {
     limits(bench);
     sheets(bench, chance);
     the_trial_ring(bench, chance);
+    log_sheets(bench, chance);
 }
 
 pub fn coordinates(corners: &[Corner]) -> Vec<Word> {
@@ -44,10 +49,14 @@ fn thin(order: (i64, f64), rows: &[Row], corners: &[Corner], chance: &mut Chance
 
 /// Holds both the driven program and this program's rules to a response that 01 gives.
 fn hold(bench: &mut Bench, name: &str, request: &Request, expected: &Response) {
+    hold_to(bench, "01", name, request, expected);
+}
+
+fn hold_to(bench: &mut Bench, paper: &str, name: &str, request: &Request, expected: &Response) {
     if let Some(wrong) = difference(request, expected, &answer(request)) {
-        bench.tally.fail("01: this program's own rules", &format!("{name}: {wrong}"), "");
+        bench.tally.fail(&format!("{paper}: this program's own rules"), &format!("{name}: {wrong}"), "");
     }
-    bench.try_against(&format!("01: {name}"), request, expected);
+    bench.try_against(&format!("{paper}: {name}"), request, expected);
 }
 
 fn hold_untouched(bench: &mut Bench, name: &str, request: &Request, answer: &[Word]) {
@@ -183,5 +192,64 @@ fn the_trial_ring(bench: &mut Bench, chance: &mut Chance) {
     if let Some(found) = bench.try_call("01: the trial ring", &thin((0, 0.0), &rows, &corners, chance)) {
         let left = 64 - found.answer[1];
         bench.property("01: the trial ring", (7..=10).contains(&left), "7 to 10 corners at the end", &request);
+    }
+}
+
+/// O's log as a sheet, written and read by every call; and what 02 refuses, in its order.
+fn log_sheets(bench: &mut Bench, chance: &mut Chance) {
+    let (log, text) = (words(&O_LOG.concat()), text_words(O_LOG_SHEET.as_bytes()));
+    let written = Response { answer: vec![0, 52], lent: vec![[text.clone(), vec![1, 2, 3]].concat()] };
+    let room = [vec![9; O_LOG_SHEET.len()], vec![1, 2, 3]].concat();
+    hold_to(bench, REQUEST_1, "O's log written", &write_request([6, 8], &log, room), &written);
+    let found = Response { answer: vec![0, 6, 8, 2], lent: vec![[log.clone(), vec![7]].concat()] };
+    let room = [scribble(log.len() as i64, chance), vec![7]].concat();
+    hold_to(bench, REQUEST_1, "O's log read", &read_request(O_LOG_SHEET.as_bytes(), room), &found);
+    let answers = [
+        (READ_RECORDS, None, [vec![0, 6, 8, 2], log.clone()].concat()),
+        (OPEN_LOG_SHEET, None, vec![0, 6, 8, 8]),
+        (RECORD_AT, Some(0), [vec![12], vec![0; 12]].concat()),
+        (RECORD_AT, Some(8), [&[0, 1, 30], &log[..WIDTH]].concat()),
+        (RECORD_AT, Some(9), [vec![12], vec![0; 12]].concat()),
+        (RECORD_AT, Some(30), [&[0, 1, 52], &log[WIDTH..]].concat()),
+        (RECORD_AT, Some(52), [vec![0, 0, 52], vec![0; WIDTH]].concat()),
+        (RECORD_AT, Some(-1), [vec![0, 0, -1], vec![0; WIDTH]].concat()),
+    ];
+    for (call, place, answer) in answers {
+        let arguments = std::iter::once(text.clone()).chain(place.map(|place| vec![place])).collect();
+        let request = Request { call, arguments };
+        let expected = Response { answer, lent: vec![] };
+        hold_to(bench, REQUEST_1, "O's log record by record", &request, &expected);
+    }
+    log_sheets_refused(bench, &log, chance);
+}
+
+/// "Bad form is 12; counts outside limits, a log of more than corners - 4 records, or a number over six digits to be
+/// written is 2; short room is 3; tested in that order."
+fn log_sheets_refused(bench: &mut Bench, log: &[Word], chance: &mut Chance) {
+    let large = [&log[..19], &[1_000_000]].concat();
+    // None of these lends a byte of room: short room is asked last.
+    let cases = [([3, 8], log), ([515, 8], log), ([6, 3], log), ([6, 1_025], log), ([5, 8], log), ([6, 8], &large)];
+    for (counts, log) in cases {
+        let request = write_request(counts, log, vec![]);
+        let expected = Response::untouched(&request, vec![2, 0]);
+        hold_to(bench, REQUEST_1, "not written, 2", &request, &expected);
+    }
+    let short = write_request([6, 8], log, vec![9; 51]);
+    hold_to(bench, REQUEST_1, "not written, 3", &short, &Response::untouched(&short, vec![3, 0]));
+    let record = "K\t0\t1\t0\t0\t1\t2\t3\t0\t4\t1\n";
+    let sheets = [
+        (12, format!("LOG\t3\t8\n{record}{}", record.trim_end())),
+        (12, format!("LOG\t6\t8\n{record}{}", record.replace('4', "1000000"))),
+        (12, format!("LOG\t6\t8\n{}", record.repeat(2_979))),
+        (2, format!("LOG\t515\t8\n{record}")),
+        (2, format!("LOG\t6\t1025\n{record}")),
+        (2, format!("LOG\t4\t8\n{record}")),
+        (2, format!("LOG\t6\t8\n{}", record.repeat(2_978))),
+        (3, format!("LOG\t6\t8\n{record}")),
+    ];
+    for (number, sheet) in sheets {
+        let request = read_request(sheet.as_bytes(), scribble(9, chance));
+        let expected = Response::untouched(&request, vec![number, 0, 0, 0]);
+        hold_to(bench, REQUEST_1, "not read, 12, 2 or 3", &request, &expected);
     }
 }

@@ -45,6 +45,11 @@ SIGNATURES = {  # name: (result, arguments)
     "read_sheet": (u64, [lent, size, lent, size, lent, size, number, number]),
     "trial_number": (Stored, [size]),
     "reply": (Written, [lent, size, lent, size]),
+    "write_log_sheet": (Written, [size, size, lent, size, lent, size]),
+    "read_log_sheet": (u64, [lent, size, lent, size, number, number, number]),
+    "each_record": (u64, [lent, size, lent, size, number, number, number]),
+    "open_log_sheet": (u64, [lent, size, number, number, number]),
+    "next_record": (u64, [lent, size, size, number, number, lent]),
 }
 
 

@@ -1,5 +1,8 @@
 """Every call on numpy arrays or lists. Arrays of the right kind are lent as they stand, others are copied with their numbers looked at; what is
 handed in is never written."""
+from collections.abc import Iterator
+from typing import NamedTuple
+
 import numpy as np
 
 from . import lent
@@ -134,3 +137,61 @@ def reply(sheet: bytes) -> bytes:
     """The desk's whole answer to a sheet."""
     text = np.empty(LIMITS.MOST_TEXT, np.uint8)
     return text[: lent.reply(np.frombuffer(sheet, np.uint8), text)].tobytes()
+
+
+# Log sheets
+
+
+class LogSheet(NamedTuple):
+    """The corners and rows of the skin whose log it is, and the log, (r, width)."""
+
+    corners: int
+    rows: int
+    log: np.ndarray
+
+
+def write_log_sheet(corners: int, rows: int, log) -> bytes:
+    """A log as a log sheet, with the counts of the skin whose log it is."""
+    text = np.empty(LIMITS.MOST_LOG_BYTES, np.uint8)  # more than the longest log in its longest numbers takes
+    return text[: lent.write_log_sheet(corners, rows, _log(log), text)].tobytes()
+
+
+def read_log_sheet(sheet: bytes) -> LogSheet:
+    """Counts and log of a log sheet."""
+    return _read_log(lent.read_log_sheet, sheet)
+
+
+def each_record(sheet: bytes) -> LogSheet:
+    """The same by the reader that keeps sheet and place; records past corners - 4 are read too."""
+    return _read_log(lent.each_record, sheet)
+
+
+def _read_log(call, sheet: bytes) -> LogSheet:
+    shortest = len("K\n") + LIMITS.WIDTH * len("\t0")
+    log = np.empty(LIMITS.WIDTH * (min(len(sheet), LIMITS.MOST_LOG_BYTES) // shortest), np.uint32)
+    corners, rows, records = call(np.frombuffer(sheet, np.uint8), log)
+    return LogSheet(corners, rows, log[: LIMITS.WIDTH * records].reshape(-1, LIMITS.WIDTH))
+
+
+def open_log_sheet(sheet: bytes) -> tuple[int, int, int]:
+    """The corners and rows that a log sheet's first line tells, and the place after it."""
+    return lent.open_log_sheet(np.frombuffer(sheet, np.uint8))
+
+
+def next_record(sheet: bytes, place: int) -> tuple[np.ndarray, int] | None:
+    """The record at a place of a log sheet and the place after its line, None at the end."""
+    record = np.empty(LIMITS.WIDTH, np.uint32)
+    after = lent.next_record(np.frombuffer(sheet, np.uint8), place, record)
+    return None if after is None else (record, after)
+
+
+def records(sheet: bytes) -> Iterator[np.ndarray]:
+    """The records of a log sheet one by one. The first line is looked at now, each other line when its record is asked for, and no further: a bad
+    one raises Refused there. Records are not counted against the corners."""
+    return _records_from(sheet, open_log_sheet(sheet)[2])
+
+
+def _records_from(sheet: bytes, place: int) -> Iterator[np.ndarray]:
+    while (one := next_record(sheet, place)) is not None:
+        record, place = one
+        yield record

@@ -12,7 +12,7 @@ from functools import wraps
 import click
 import numpy as np
 
-from . import calls, faults, files, lengths, skins
+from . import calls, faults, files, lengths, logs, skins
 from .diameter import of_skin
 from .refusals import Fault, FileFault, LibraryMissing, OurFault, Refused, UsageFault
 
@@ -25,7 +25,8 @@ EXITS = """
 \b
 Exit: 0  done; and, if a least mean diameter was asked, shown to be met
       1  the library refused: number, meaning, places, hint
-      2  wrong usage: no unit, no such option, a limit that is no figure and unit
+      2  wrong usage: no unit, no such option, a limit that is no figure and unit,
+         a log of another skin
       3  the file cannot be turned into points and rows: line or byte, and why
       4  done, but the least mean diameter is not shown to be met
       5  our fault: no library or one of another version, places and number disagree
@@ -44,7 +45,7 @@ class Outcome:
 
 
 def refusal(refused: Refused) -> Outcome:
-    hint = faults.HINTS.get(refused.number)
+    hint = refused.hint or faults.HINTS.get(refused.number)
     answer = {"status": refused.number, "meaning": refused.meaning, "faults": [asdict(fault) for fault in refused.faults], "hint": hint}
     lines = [str(refused)] + [f"  {fault.text}" for fault in refused.faults[:MOST_FAULTS]]
     lines += [f"  and {len(refused.faults) - MOST_FAULTS:,} more"] if len(refused.faults) > MOST_FAULTS else []
@@ -107,7 +108,8 @@ def command(name: str, **settings):
 def main():
     """Thins scanned skins of shafts by a proved library: checks them, says where a fault lies, and reports.
 
-    FILE is a scan (.stl, .obj, .ply, .off), whose --unit has to be told, or a sheet (.sheet). LOG is an answer of the desk: OK, R and K lines.
+    FILE is a scan (.stl, .obj, .ply, .off), whose --unit has to be told, or a sheet (.sheet). LOG is a log sheet, LOG and K lines, or an answer of
+    the desk, OK, R and K lines.
     In the repository `./flaxglimmer set-up` installs what is needed and builds the library."""
 
 
@@ -147,9 +149,24 @@ def opened(file, unit, origin, weld, drop_flat, turn) -> skins.Skin:
         return files.read(file, unit, origin, weld, drop_flat, turn)
 
 
-def opened_log(log) -> files.Answer:
-    with named(log):
-        return files.read_answer(log)
+def opened_log(path, skin: skins.Skin) -> files.Log:
+    """The log in a file. The counts of a log sheet have to be those of the skin that it is asked about with."""
+    with named(path):
+        log = files.read_log(path)
+    here = len(skin.corners), len(skin.rows)
+    if log.counts not in (None, here):
+        told, found = (f"{corners:,} corners and {rows:,} rows" for corners, rows in (log.counts, here))
+        name = files.shown(path)
+        raise UsageFault(f"{name} is the log of a skin of {told}, and {skin.name} has {found}: is it that scan, read with the same options?")
+    return log
+
+
+def left(log: files.Log, skin: skins.Skin) -> np.ndarray:
+    """The rows left by a log: an answer tells them, and a log sheet is replayed on the skin."""
+    if log.rows is not None:
+        return log.rows
+    with placed(skin, skin.rows, log.log):
+        return calls.replay(skin.rows, len(skin.corners), log.log)
 
 
 def apart(reads: list, writes: list) -> None:
@@ -192,15 +209,16 @@ def told_of(skin: skins.Skin, figure: int) -> list:
 @click.option("--length", help="The shaft's, as '30 m', for the mean diameter of the skin.")
 @click.option("--mean-at-least", help="As '3000 mm': whether the mean diameter is shown to be as much.")
 @to_write("sheet", "Write the scanned skin as a sheet.")
-@to_write("log", "Write rows and log as the desk's answer.")
-def thin(file, limit, report, length, mean_at_least, sheet, log, **prepared):
+@to_write("log", "Write the log as a log sheet, which can be mailed.")
+@to_write("answer", "Write rows and log as the desk's answer.")
+def thin(file, limit, report, length, mean_at_least, sheet, log, answer, **prepared):
     """Thin the skin in FILE under a limit."""
     lengths.order(limit)
     for typed in filter(None, (length, mean_at_least)):
         lengths.millimetres(typed)
     if mean_at_least and not length:
         raise UsageFault("--mean-at-least needs --length, the shaft's, as '30 m'")
-    apart([file], [report, sheet, log])
+    apart([file], [report, sheet, log, answer])
     skin = opened(file, **prepared)
     thinned = skins.thin(skin, limit)
     thinned.hold()
@@ -213,7 +231,9 @@ def thin(file, limit, report, length, mean_at_least, sheet, log, **prepared):
     if sheet:
         write(sheet, files.sheet_text(skin))
     if log:
-        write(log, files.answer_text(thinned.rows, thinned.log, first, last))
+        write(log, thinned.log_sheet().decode("ascii"))
+    if answer:
+        write(answer, files.answer_text(thinned.rows, thinned.log, first, last))
     return thinned_outcome(thinned, first, last, diameter)
 
 
@@ -299,9 +319,9 @@ def placed(skin: skins.Skin, rows, log, **asked):
 @with_file
 @click.argument("log", required=False)
 def volume(file, log, **prepared):
-    """The volume of the skin in FILE, or with LOG of the rows left in it."""
+    """The volume of the skin in FILE, or with LOG of the rows left by it."""
     skin = opened(file, **prepared)
-    rows = opened_log(log).rows if log else skin.rows
+    rows = left(opened_log(log, skin), skin) if log else skin.rows
     with placed(skin, rows, np.empty((0, 2))):
         figure = calls.volume(rows, skin.corners)
     return Outcome({"status": 0, "volume": figure}, [f"{figure} cubic metres"], notes=told_of(skin, figure))
@@ -311,12 +331,13 @@ def volume(file, log, **prepared):
 @with_file
 @click.argument("log")
 def change(file, log, **prepared):
-    """The change of volume from the skin in FILE to the rows left in LOG."""
-    skin, answer = opened(file, **prepared), opened_log(log)
+    """The change of volume from the skin in FILE to the rows left by LOG."""
+    skin = opened(file, **prepared)
+    later = left(opened_log(log, skin), skin)
     try:
-        figure = calls.change(skin.rows, answer.rows, skin.corners)
+        figure = calls.change(skin.rows, later, skin.corners)
     except Refused as refused:
-        refused.faults, refused.notes = in_either(skin, answer.rows, refused.number), skin.told()
+        refused.faults, refused.notes = in_either(skin, later, refused.number), skin.told()
         raise
     return Outcome({"status": 0, "change": figure}, [f"{figure} cubic metres"], notes=told_of(skin, 0))
 
@@ -335,9 +356,10 @@ def in_either(skin: skins.Skin, later, number: int) -> tuple[Fault, ...]:
 @click.argument("corner", type=click.IntRange(0, 2**32 - 1))
 def shift(file, log, corner, **prepared):
     """The shift of CORNER by LOG: stand-in, count and squared distance."""
-    skin, answer = opened(file, **prepared), opened_log(log)
-    with placed(skin, skin.rows, answer.log, corner=corner):
-        found = calls.shift(corner, skin.corners, answer.log)
+    skin = opened(file, **prepared)
+    records = opened_log(log, skin).log
+    with placed(skin, skin.rows, records, corner=corner):
+        found = calls.shift(corner, skin.corners, records)
     line = f"corner {corner}: corner {found.stand_in} stands in after {found.count}, squared distance {found.squared:,} square cm"
     return Outcome({"status": 0, "corner": corner, **found._asdict()}, [line], notes=told_of(skin, 0))
 
@@ -345,32 +367,70 @@ def shift(file, log, corner, **prepared):
 @command("grow-back")
 @with_file
 @click.argument("log")
+@click.option("--from", "start", metavar="ANSWER", help="Grow back from the rows left in this answer of the desk.")
 @to_write("sheet", "Write the sheet here, and not to standard output.")
-def grow_back(file, log, sheet, **prepared):
-    """Grow LOG back from the rows left in it, over the corners of FILE; the grown skin is written as a sheet."""
-    apart([file, log], [sheet])
-    skin, answer = opened(file, **prepared), opened_log(log)
-    with placed(skin, answer.rows, answer.log, backward=True):
-        rows = calls.grow_back(answer.rows, len(skin.corners), answer.log)
-    same = np.array_equal(rows, skin.rows)
-    told = text_outcome(files.sheet_text(skins.Skin(rows, skin.corners)), sheet, "sheet", told_of(skin, 0))
+def grow_back(file, log, start, sheet, **prepared):
+    """Grow LOG back from the rows left by it, over the corners of FILE; the grown skin is written as a sheet.
+
+    An answer of the desk tells the rows left. A log sheet does not: they are those of --from, or else LOG is first replayed on the rows of FILE."""
+    apart([file, log] + ([start] if start else []), [sheet])
+    skin = opened(file, **prepared)
+    read = opened_log(log, skin)
+    if start:
+        with named(start):
+            read.rows = files.read_answer(start).rows
+    rows = left(read, skin)
+    with placed(skin, rows, read.log, backward=True):
+        grown = calls.grow_back(rows, len(skin.corners), read.log)
+    same = np.array_equal(grown, skin.rows)
+    told = text_outcome(files.sheet_text(skins.Skin(grown, skin.corners)), sheet, "sheet", told_of(skin, 0))
+    if read.rows is None:
+        told.notes.append(f"{files.shown(log)} was replayed on {skin.name} first: a log sheet has no rows to grow back from, and --from tells some")
     return compared(told, same, f"the grown rows are {'those of' if same else 'NOT those of'} {skin.name}, number for number")
 
 
 @command("replay")
 @with_file
-@click.argument("answer", metavar="LOG")
-@to_write("log", "Write the answer here, and not to standard output.")
-def replay(file, answer, log, **prepared):
+@click.argument("log")
+@click.option("--answer", "--log", "answer", type=click.Path(), help="Write the answer here, and not to standard output.")
+def replay(file, log, answer, **prepared):
     """Replay LOG on the skin in FILE; the rows reached and the log are written as the desk's answer."""
-    apart([file, answer], [log])
-    skin, told = opened(file, **prepared), opened_log(answer)
-    with placed(skin, skin.rows, told.log):
-        rows = calls.replay(skin.rows, len(skin.corners), told.log)
+    apart([file, log], [answer])
+    skin = opened(file, **prepared)
+    read = opened_log(log, skin)
+    with placed(skin, skin.rows, read.log):
+        rows = calls.replay(skin.rows, len(skin.corners), read.log)
         first, last = skin.volume(), calls.volume(rows, skin.corners)
-    same = np.array_equal(rows, told.rows)
-    reached = text_outcome(files.answer_text(rows, told.log, first, last), log, "log", told_of(skin, first))
-    return compared(reached, same, f"the rows reached are {'those of' if same else 'NOT those of'} {files.shown(answer)}, number for number")
+    told = text_outcome(files.answer_text(rows, read.log, first, last), answer, "log", told_of(skin, first))
+    if read.rows is None:
+        told.answer["same"] = None
+        told.notes.append(f"{files.shown(log)} replays to its end, {logs.counted(len(read.log), 'record')}; a log sheet has no rows to compare with")
+        return told
+    same = np.array_equal(rows, read.rows)
+    return compared(told, same, f"the rows reached are {'those of' if same else 'NOT those of'} {files.shown(log)}, number for number")
+
+
+@command("log")
+@click.argument("log")
+def log(log):
+    """Say what the log sheet LOG holds, record by record; of a damaged one, what stands before the damage.
+
+    It says what stands there. Whether a skin has such a log, `replay` says."""
+    with named(log):
+        data = files.log_bytes(log)
+    name = files.shown(log)
+    try:
+        corners, rows, records = logs.read(data, name)
+        told, summary = Outcome({"status": 0}), logs.summary(corners, rows, len(records))
+    except Refused as refused:
+        told = refusal(refused)
+        corners, rows, records, bad = logs.held(data)
+        summary = f"{logs.counted(len(records), 'whole record')}, counted from 0; " + ("refused" if bad is None else f"then line {len(records) + 2}, which is none")
+    told.answer.update(file=name, corners=corners, rows=rows, records=len(records), log=[logs.parts(record) for record in records])
+    if corners is not None:
+        told.lines = [f"{name}: the log of a skin of {corners:,} corners and {rows:,} rows", summary]
+        told.lines += [logs.in_words(at, record) for at, record in enumerate(records)]
+    return told
 
 
 @command("limit", ignore_unknown_options=True)  # a limit below zero is no option

@@ -186,18 +186,19 @@ def _form(sheet: bytes, lines: list, first) -> str:
     if len(sheet) > LIMITS.MOST_SHEET_BYTES:
         return f"it has over {LIMITS.MOST_SHEET_BYTES:,} bytes"
     if not first:
-        return f"line 1 is not SKIN and two counts, parted by tabs: {_shown(lines[0])}"
+        return f"line 1 is not SKIN and two counts, parted by tabs: {quoted(lines[0])}"
     corners, rows = map(int, first.groups())
     for at, word in enumerate([b"C"] * corners + [b"R"] * rows, 2):
         line = lines[at - 1] if at <= len(lines) else b""
         if not LINES[word].fullmatch(line):
-            return f"line {at} is not {word.decode()} and three numbers, parted by tabs: {_shown(line)}"
+            return f"line {at} is not {word.decode()} and three numbers, parted by tabs: {quoted(line)}"
     if len(lines) != corners + rows + 2 or lines[-1]:
         return f"line {corners + rows + 2}: after the last row and its one newline nothing may follow, and that newline must be there"
     raise OurFault("the library refuses by 12, and no place of it is found")
 
 
-def _shown(line: bytes) -> str:
+def quoted(line: bytes) -> str:
+    """The beginning of a line, with nothing in it that a terminal would act on."""
     return repr(line[:60].decode("ascii", "replace"))
 
 

@@ -1,5 +1,5 @@
-"""Files to skins and back: a scan read, prepared and rounded once to whole centimetres; sheets; logs, which are kept as the desk's answer. What was
-done to a file is told in notes, and nothing is mended, joined, turned or guessed unasked."""
+"""Files to skins and back: a scan read, prepared and rounded once to whole centimetres; sheets; logs, which are kept as log sheets or, with the rows
+left, as the desk's answer. What was done to a file is told in notes, and nothing is mended, joined, turned or guessed unasked."""
 import hashlib
 import os
 import re
@@ -10,8 +10,8 @@ from pathlib import Path
 
 import numpy as np
 
-from . import calls, lent, readers
-from .faults import in_sheet
+from . import calls, lent, logs, readers
+from .faults import in_sheet, quoted
 from .header import LIMITS
 from .lengths import CENTIMETRES
 from .refusals import Fault, FileFault, Refused, UsageFault
@@ -282,15 +282,36 @@ def sheet_text(skin: Skin) -> str:
     return "\n".join(lines) + "\n"
 
 
-# Logs, in the form of the desk's answer
+# Logs: log sheets, and the desk's answer
 
 
 @dataclass
-class Answer:
-    """The rows left and the log of an answer."""
+class Log:
+    """The log in a file, and what the file tells beside it: a log sheet the counts of the skin, the desk's answer the rows that are left."""
 
-    rows: np.ndarray
     log: np.ndarray
+    rows: np.ndarray | None = None
+    counts: tuple[int, int] | None = None  # corners, rows
+
+
+def log_bytes(path) -> bytes:
+    """A file that may be a log, as far as the longest one goes and a byte more."""
+    with _open(Path(path)) as file:
+        return _read_bytes(file, max(LIMITS.MOST_TEXT, LIMITS.MOST_LOG_BYTES) + 1)
+
+
+def read_log(path) -> Log:
+    """The log in a file: a log sheet, whose first word is LOG, or the desk's answer."""
+    data = log_bytes(path)
+    if logs.is_log_sheet(data):
+        corners, rows, log = logs.read(data, shown(path))
+        return Log(log, counts=(corners, rows))
+    return _answer(data)
+
+
+def read_answer(path) -> Log:
+    """Rows and log of the desk's answer: OK, R and K lines."""
+    return _answer(log_bytes(path))
 
 
 def answer_text(rows, log, first: int, last: int) -> str:
@@ -303,19 +324,18 @@ def answer_text(rows, log, first: int, last: int) -> str:
 def _fields(line: bytes, at: int, word: bytes, count: int) -> list:
     fields = line.split(b"\t")
     if fields[0] != word or len(fields) != count + 1 or not all(re.fullmatch(rb"-?\d{1,10}", field) for field in fields[1:]):
-        raise FileFault(f"expected {word.decode()} and {count} whole numbers, parted by tabs: {line[:60].decode('ascii', 'replace')!r}", at)
+        raise FileFault(f"expected {word.decode()} and {count} whole numbers, parted by tabs: {quoted(line)}", at)
     return [int(field) for field in fields[1:]]
 
 
-def read_answer(path) -> Answer:
-    """Rows and log of the desk's answer: OK, R and K lines."""
-    with _open(Path(path)) as file:
-        data = _read_bytes(file, LIMITS.MOST_TEXT + 1)
+def _answer(data: bytes) -> Log:
     if len(data) > LIMITS.MOST_TEXT:
         raise FileFault(f"no answer of the desk: it has over {LIMITS.MOST_TEXT:,} bytes")
     if re.fullmatch(rb"NO\t\d{1,3}\n", data):
         raise FileFault(f"the desk said no: {data[3:-1].decode()}; there is no log in it")
     lines = data.split(b"\n")
+    if not lines[0].startswith(b"OK"):
+        raise FileFault(f"a log begins with LOG and 2 counts, as log sheets do, or with OK and 4 numbers, as the desk's answer: {quoted(lines[0])}", 1)
     rows, records, _, _ = _fields(lines[0], 1, b"OK", 4)
     if lines[-1] or len(lines) != rows + records + 2:
         raise FileFault(f"it tells {rows} rows and {records} records, which are {rows + records + 1} lines, each ended by a newline, and has {len(lines) - 1}")
@@ -326,4 +346,4 @@ def read_answer(path) -> Answer:
             tables.append(calls.whole(np.array(numbers, np.int64), np.uint32, "numbers").reshape(-1, width))
         except OverflowError:
             raise FileFault(f"a number of its {word.decode()} lines is below 0 or past 32 bits") from None
-    return Answer(*tables)
+    return Log(tables[1], tables[0])

@@ -7,6 +7,7 @@ from typing import NamedTuple
 import numpy as np
 
 from ._native import library, u64
+from .header import LIMITS
 from .lengths import order
 from .refusals import Refused
 
@@ -148,3 +149,50 @@ def reply(sheet, text) -> int:
     answer = library().flaxglimmer_reply(*_over(sheet, text))
     _done(answer.status)
     return answer.bytes
+
+
+def write_log_sheet(corners: int, rows: int, log, text) -> int:
+    """A log with the counts of its skin as a log sheet in front of the text; how many bytes it has."""
+    corners, rows = _whole(corners, 64, "corners"), _whole(rows, 64, "rows")
+    _array(log, np.uint32, "log")
+    _written(text, np.uint8, "text", log)
+    answer = library().flaxglimmer_write_log_sheet(corners, rows, *_over(log, text))
+    _done(answer.status)
+    return answer.bytes
+
+
+def read_log_sheet(sheet, log) -> tuple[int, int, int]:
+    """Reads a log sheet's bytes into the log; how many corners, rows and records it has."""
+    return _read_log("read_log_sheet", sheet, log)
+
+
+def each_record(sheet, log) -> tuple[int, int, int]:
+    """The same by the reader that keeps sheet and place; it does not count the records against the corners."""
+    return _read_log("each_record", sheet, log)
+
+
+def _read_log(call: str, sheet, log) -> tuple[int, int, int]:
+    _array(sheet, np.uint8, "sheet")
+    _written(log, np.uint32, "log", sheet)
+    numbers = u64(), u64(), u64()
+    _done(getattr(library(), "flaxglimmer_" + call)(*_over(sheet, log), *map(ctypes.byref, numbers)))
+    return tuple(number.value for number in numbers)
+
+
+def open_log_sheet(sheet) -> tuple[int, int, int]:
+    """The corners and rows of a log sheet's first line, and the place after it."""
+    numbers = u64(), u64(), u64()
+    _done(library().flaxglimmer_open_log_sheet(*_over(_array(sheet, np.uint8, "sheet")), *map(ctypes.byref, numbers)))
+    return tuple(number.value for number in numbers)
+
+
+def next_record(sheet, place: int, record) -> int | None:
+    """Puts the record at a place of a sheet into `record`; the place after its line, None at the end. Without a record there are zeros in it."""
+    place = _whole(place, 64, "place")
+    _array(sheet, np.uint8, "sheet")
+    if _written(record, np.uint32, "record", sheet).size != LIMITS.WIDTH:
+        raise ValueError(f"record has {record.size} numbers, and a record {LIMITS.WIDTH}")
+    found, after = u64(), u64()
+    start, length = _over(sheet)
+    _done(library().flaxglimmer_next_record(start, length, place, ctypes.byref(found), ctypes.byref(after), record.ctypes.data))
+    return after.value if found.value else None

@@ -36,6 +36,14 @@ class Fault:
     at: tuple[float, ...] | None = None
 
 
+@dataclass(frozen=True)
+class LineFault(Fault):
+    """A line that makes a refusal true: its number, from 1, and the byte at which it begins, from 0."""
+
+    line: int = 1
+    byte: int = 0
+
+
 def meaning(number: int) -> str:
     """What a refusal number says: 01's words, then what they come to."""
     return {
@@ -57,9 +65,10 @@ def meaning(number: int) -> str:
 
 class Refused(ValueError):
     """The library said no. `number` is the refusal; `records` and `rows` are, for 13, how many records were done and the stage that they led to;
-    `faults` are the places, where they were looked for, and `notes` what was done to the file before."""
+    `faults` are the places, where they were looked for, `hint` what to do about them, where that is not the number's own, and `notes` what was
+    done to the file before."""
 
     def __init__(self, number: int, records: int = 0, rows=None, faults: tuple[Fault, ...] = ()):
         self.number, self.records, self.rows, self.faults, self.notes = int(number), int(records), rows, tuple(faults), []
-        self.meaning = meaning(self.number)
+        self.meaning, self.hint = meaning(self.number), None
         super().__init__(f"refused, {self.number}: {self.meaning}")

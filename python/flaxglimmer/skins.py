@@ -83,6 +83,10 @@ class Thinned:
         if not (np.array_equal(self.grow_back(), self.skin.rows) and np.array_equal(there, self.rows)):
             raise OurFault("the log does not lead from the scanned rows to the thinned ones and back")
 
+    def log_sheet(self) -> bytes:
+        """The log as a log sheet, with the counts of the skin that was thinned."""
+        return calls.write_log_sheet(len(self.skin.corners), len(self.skin.rows), self.log)
+
     def report(self, path, length: str | None = None, mean_at_least: str | None = None) -> None:
         """Writes the report: one HTML file."""
         from . import report

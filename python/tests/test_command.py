@@ -20,7 +20,7 @@ def sheet(rows=O_ROWS, corners=O_CORNERS):
 
 @pytest.fixture
 def folder(tmp_path):
-    """A shaft as OFF, the octahedron as a sheet, and its log."""
+    """A shaft as OFF, the octahedron as a sheet, and its log as the desk's answer."""
     off(tmp_path / "shaft.off", POINTS, ROWS)
     (tmp_path / "o.sheet").write_text(sheet())
     (tmp_path / "o.log").write_bytes(calls.reply(sheet().encode()))
@@ -127,7 +127,7 @@ def test_ten_lines_and_how_many_more(run, folder):
 
 
 def test_thin_tells_writes_and_ends_with_0(run, folder):
-    told = run("thin", folder / "shaft.off", "--unit", "m", "--limit", "1.5 m", "--sheet", folder / "s.sheet", "--log", folder / "s.log", "--report", folder / "r.html")
+    told = run("thin", folder / "shaft.off", "--unit", "m", "--limit", "1.5 m", "--sheet", folder / "s.sheet", "--log", folder / "s.log", "--answer", folder / "s.answer", "--report", folder / "r.html")
     skin = fg.read(folder / "shaft.off", "m")
     thinned = fg.thin(skin, "1.5 m")
     first, last = thinned.volumes()
@@ -138,8 +138,9 @@ def test_thin_tells_writes_and_ends_with_0(run, folder):
     assert "rounded once" in told.err and len(thinned.log) > 0
     again = files.read_sheet(folder / "s.sheet")
     assert np.array_equal(again.rows, skin.rows) and np.array_equal(again.corners, skin.corners)
-    answer = files.read_answer(folder / "s.log")
+    answer = files.read_answer(folder / "s.answer")
     assert np.array_equal(answer.rows, thinned.rows) and np.array_equal(answer.log, thinned.log)
+    assert np.array_equal(calls.read_log_sheet((folder / "s.log").read_bytes()).log, thinned.log)
     assert "<svg" in (folder / "r.html").read_text()
 
 
@@ -181,13 +182,14 @@ def test_to_files_and_not_to_standard_output(run, folder):
 
 def test_a_scan_is_asked_of_the_desk_by_its_sheet(run, folder):
     text = run("sheet", folder / "shaft.off", "--unit", "m").out
-    run("thin", folder / "shaft.off", "--unit", "m", "--limit", "none", "--log", folder / "s.log", "--quiet")
-    assert calls.reply(text.encode()) == (folder / "s.log").read_bytes()
+    run("thin", folder / "shaft.off", "--unit", "m", "--limit", "none", "--answer", folder / "s.answer", "--quiet")
+    assert calls.reply(text.encode()) == (folder / "s.answer").read_bytes()
 
 
 BAD_LOGS = [
     ("NO\t8\n", "the desk said no: 8"),
-    ("", "line 1: expected OK and 4 whole numbers"),
+    ("", "line 1: a log begins with LOG and 2 counts, as log sheets do, or with OK and 4 numbers, as the desk's answer: ''"),
+    ("K\t0\t1\n", "line 1: a log begins with LOG and 2 counts"),
     ("OK 4 2 1 0\n", "line 1: expected OK and 4 whole numbers"),
     ("OK\t4\t2\t1\t0\n", "it tells 4 rows and 2 records"),
     ("OK\t1\t0\t1\t0\nR\t0\t1\n", "line 2: expected R and 3 whole numbers"),
@@ -222,7 +224,9 @@ USAGE = [
     (["thin", "shaft.off", "--unit", "m", "--limit", "none", "--report", "shaft.off"], "never written over"),
     (["thin", "shaft.off", "--unit", "m", "--limit", "none", "--report", "x", "--log", "./x"], "named twice"),
     (["thin", "shaft.off", "--unit", "m", "--limit", "none", "--report", "none/r.html"], "cannot be written: No such file"),
+    (["thin", "shaft.off", "--unit", "m", "--limit", "none", "--answer", "x", "--log", "./x"], "named twice"),
     (["replay", "o.sheet", "o.log", "--log", "o.log"], "never written over"),
+    (["replay", "o.sheet", "o.log", "--answer", "o.log"], "never written over"),
     (["check", "o.sheet", "--unit", "m"], "a sheet is in whole centimetres"),
     (["check", "o.sheet", "--turn"], "a sheet is in whole centimetres"),
     (["shift", "o.sheet", "o.log", "-1"], "-1"),

@@ -1,4 +1,4 @@
-"""What the documents show of the front end holds: the commands of README with what they print, and the Python of docs/FRONT-END.md."""
+"""What the documents show of the front end holds: the commands of README and of docs/FRONT-END.md with what they print, and its Python."""
 import os
 import re
 import subprocess
@@ -21,11 +21,19 @@ def place(tmp_path):
     return tmp_path
 
 
+def commands(document):
+    """The commands of its one console, each with what it prints."""
+    (block,) = re.findall(r"^```console\n(.*?)^```$", document, re.M | re.S)
+    return re.findall(r"^\$ (.*)\n((?:(?!\$ ).*\n)*)", block, re.M)
+
+
 def test_readme_shows_what_the_command_prints(place):
-    (block,) = re.findall(r"^```console\n(.*?)^```$", README, re.M | re.S)
-    commands = re.findall(r"^\$ (.*)\n((?:(?!\$ ).*\n)*)", block, re.M)
-    assert [ended for command, printed in commands for ended in [shown(place, command, printed)]] == [0, 1]
+    assert [shown(place, *one) for one in commands(README)] == [0, 1]
     assert (place / "report.html").exists()
+
+
+def test_the_page_shows_what_becomes_of_a_mailed_log(place):
+    assert [shown(place, *one) for one in commands(FRONT_END)] == [0, 0, 1, 1]
 
 
 def shown(place, command, printed):

@@ -1,4 +1,5 @@
 """The library: its table of limits, the calls against document 01, against exact integers, against the pipe and the desk; what is lent is checked."""
+import random
 import re
 import struct
 import subprocess
@@ -160,6 +161,49 @@ def test_the_library_is_the_pipe_in_every_number_of_every_buffer(pipe, part):
         assert grown == [lent_answer(fg.lent.grow_back, standing, len(corners), room, records), room.tolist()]
 
 
+def changed(chance, sheet):
+    """A log sheet, mostly with up to two bytes put in, left out or changed, or cut."""
+    for _ in range(chance.choice([0, 1, 1, 2])):
+        at = chance.randrange(len(sheet) + 1)
+        sheet = chance.choice([sheet[:at] + chance.choice([b"\t", b"\n", b"0", b"7", b"K", b"\r"]) + sheet[at + chance.randrange(2) :], sheet[:at] + sheet[at + 1 :], sheet[:at]])
+    return sheet
+
+
+@pytest.mark.parametrize("part", range(5))
+def test_log_sheets_are_the_pipes_in_every_number_of_every_buffer(pipe, part):
+    statuses = set()
+    for seed in range(30 * part, 30 * part + 30):
+        chance = random.Random(seed)
+        points, rows = shaft(3 + seed % 5, 2 + seed % 4, seed=seed)
+        log = fg.thin(fg.from_points(points, rows, "m"), f"{2 + seed % 9} m").log.reshape(-1).copy()
+        if log.size and seed % 5 == 0:
+            log[chance.randrange(log.size)] = chance.choice([999_999, 1_000_000, 2**32 - 1])
+        log = log[: log.size - (seed % 7 == 0)]
+        corners = len(points) if seed % 6 else chance.choice([0, 3, 4, 515, 2**63 - 1])
+        text = np.full(8 * log.size + 20 if seed % 4 else chance.randrange(40), 77, np.uint8)
+        over = pipe.ask(13, corners, len(rows), log.tolist(), text.tolist(), lists=1)
+        wrote = lent_answer(fg.lent.write_log_sheet, corners, len(rows), log, text)
+        assert over == [wrote, text.tolist()]
+        sheet = changed(chance, text[: wrote[1]].tobytes() or b"LOG\t6\t8\n" + b"K\t0\t1\t0\t0\t1\t2\t3\t0\t4\t1\n" * chance.randrange(5))
+        data = np.frombuffer(sheet, np.uint8)
+        room = np.full(max(0, log.size + 20 - chance.randrange(60)), 77, np.uint32)
+        over = pipe.ask(14, data.tolist(), room.tolist(), lists=1)
+        status, counts = lent_answer(fg.lent.read_log_sheet, data, room)
+        assert over == [[status, *(counts or (0, 0, 0))], room.tolist()]
+        statuses |= {wrote[0], status}
+        room = np.full(len(sheet), 77, np.uint32)
+        status, counts = lent_answer(fg.lent.each_record, data, room)
+        assert pipe.ask(15, data.tolist(), lists=0) == [[status, *(counts or (0, 0, 0)), *room[: 10 * counts[2] if counts else 0].tolist()]]
+        status, counts = lent_answer(fg.lent.open_log_sheet, data)
+        assert pipe.ask(24, data.tolist(), lists=0) == [[status, *(counts or (0, 0, 0))]]
+        for place in {0, len(sheet), 2**40, chance.randrange(len(sheet) + 1), *(match.end() for match in re.finditer(b"\n", sheet))}:
+            record = np.full(10, 77, np.uint32)
+            status, after = lent_answer(fg.lent.next_record, data, place, record)
+            found = [1, after] if after and not status else [0, 0 if status else place]
+            assert pipe.ask(25, data.tolist(), place, lists=0) == [[status, *found, *record.tolist()]]
+    assert statuses == {0, 2, 3, 12}
+
+
 def test_the_answer_without_a_limit_is_the_desks_byte_for_byte():
     for path in sorted((ROOT / "sheets").glob("*.sheet")):
         skin = files.read_sheet(path)
@@ -228,16 +272,17 @@ def test_lent_memory_is_looked_at_first():
         ((both[:24], corners, both[20:40]), ValueError),
         ((both[:24], both[18:36].view(np.int32), log), ValueError),
     ):
-        with pytest.raises(error):
+        with pytest.raises(error) as raised:
             fg.lent.thin(*arguments, "none")
-    with pytest.raises(ValueError):
-        fg.lent.replay(6, both[:24], both[14:24])
-    with pytest.raises(ValueError):
-        fg.lent.grow_back(4, 6, both[:24], both[14:34])
-    with pytest.raises(ValueError):
-        fg.lent.read_sheet(both.view(np.uint8), both[:12], corners)
-    with pytest.raises(ValueError):
-        fg.lent.reply(both.view(np.uint8), both.view(np.uint8)[4:])
+        assert type(raised.value) is error  # and no refusal, which is a ValueError too
+    for call in (
+        lambda: fg.lent.replay(6, both[:24], both[14:24]),
+        lambda: fg.lent.grow_back(4, 6, both[:24], both[14:34]),
+        lambda: fg.lent.read_sheet(both.view(np.uint8), both[:12], corners),
+        lambda: fg.lent.reply(both.view(np.uint8), both.view(np.uint8)[4:]),
+    ):
+        with pytest.raises(ValueError, match="shares memory"):
+            call()
     assert np.array_equal(locked, O_ROWS.reshape(-1)) and not both.any()
 
 
