@@ -8,7 +8,7 @@ use denote.Ref.{now}
 use Rattle.refusal.specs.First.{First}
 use Rattle.refusal.specs.declared.Verdict.the-variants as verdict
 use Rattle.refusal.proofs.Laws.{verdicts, first-one, refused-one, refused-passes, all-nor, passed, passes-none, none-yet, _nor_}
-use Rattle.record.specs.Layout.{count, records}
+use Rattle.record.specs.Layout.{count, records, first-records}
 use Rattle.lines.specs.Kinds.{record-lines}
 use Rattle.heading.specs.Heading.{first-line, NoFirstLine}
 use Rattle.heading.proofs.Heading.{same-first}
@@ -16,16 +16,16 @@ use Rattle.logform.specs.LogSheet.{LOG, LogSheetOf, CountsIn}
 use Rattle.logform.proofs.Forming.{its-line, one-log}
 use Rattle.logrecords.specs.Outcome as opening
 use Rattle.logrecords.specs.Outcome.{open-refusals}
-use Rattle.logrecords.specs.Walk.{Walked}
-use Rattle.logrecords.proofs.Walking.{walked-through}
+use Rattle.logrecords.specs.Walk.{Walked, BreaksAfter, Broken}
+use Rattle.logrecords.proofs.Walking.{walked-through, broken-off}
 use Rattle.logsheet.specs.declared.LogSheet.{LogSheet}
 use Rattle.logsheet.specs.declared.LogSheet.the-variants.{Read, Refused}
 use Rattle.logsheet.specs.Outcome as whole
 use Rattle.logsheet.specs.Outcome.{read-refusals, ReadLogSheet}
 use Rattle.logreader.specs.declared.Reader.{Reader}
 use Rattle.logreader.specs.Outcome.{each-refusals, EachRecord, unread, each}
-use Rattle.logreader.specs.Walk.{AskedOn}
-use Rattle.logreader.proofs.Again.{walks-asked}
+use Rattle.logreader.specs.Walk.{AskedOn, BrokenOn}
+use Rattle.logreader.proofs.Again.{walks-asked, breaks-asked}
 
 -- ---- one outcome
 
@@ -79,3 +79,7 @@ each-as-read {room = room} (whole.read f s e p) x = each-one x (each (each-passe
 -- a reader of a log sheet, asked from the place after the first line on, gives its log's records, and then the end
 pub reader-through : (r : Reader) {n m : ℕ} {log : List ℕ} → LogSheetOf (now (r .bytes)) n m log → r .at ≡ length (first-line LOG n m) → AskedOn r (records log)
 reader-through r {log = log} s at = walks-asked (r .bytes) (subst (λ (k : ℕ). Walked (now (r .bytes)) k (records log)) (sym at) (walked-through s))
+
+-- and where something else follows some lines of records, these, and then that it stands there
+pub reader-breaks : (r : Reader) {n m k : ℕ} {log rest : List ℕ} → BreaksAfter (now (r .bytes)) n m k log rest → r .at ≡ length (first-line LOG n m) → BrokenOn r (first-records k log)
+reader-breaks r {k = k} {log} w at = breaks-asked (r .bytes) (subst (λ (i : ℕ). Broken (now (r .bytes)) i (first-records k log)) (sym at) (broken-off w))

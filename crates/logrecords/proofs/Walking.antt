@@ -17,6 +17,7 @@ use Rattle.lines.specs.Kinds.{K, record-lines}
 use Rattle.lines.proofs.Cut.{map-take, map-drop, short-left, short-right}
 use Rattle.heading.specs.Heading.{most-digits, first-line}
 use Rattle.logform.specs.LogSheet.{LOG, LogSheetOf}
+use Rattle.logrecords.specs.declared.Next.the-variants.{Found, End, Bad}
 use Rattle.logrecords.specs.Outcome.{LineStands, found, ended, other}
 use Rattle.logrecords.specs.Walk.{Gives, Walked, BreaksAfter, Broken}
 
@@ -66,7 +67,7 @@ passes (suc k) b at log rest n s e =
     let m = at + length (line K (map pos ns)) in
     let next : drop m b ≡ more = sym (drop-drop (length (line K (map pos ns))) at b) ∙ ap (drop (length (line K (map pos ns)))) f ∙ drop-at (line K (map pos ns)) more (length (line K (map pos ns))) refl in
     let on = passes k b m (drop width log) rest (length-drop width log ∙ (omega arith)) (rw (map-drop pos width log) (short-right most-digits (take width (map pos log)) (drop width (map pos log)) short)) next in
-    record { to = on .to; gives = one-step (record { told = first-told log; answer = found here (own log) refl; means = refl }) (on .gives); left = on .left }
+    record { to = on .to; gives = one-step (record { answer = Found (first-told log) (record { at = m }); asked = found here (own log) refl; tells = refl }) (on .gives); left = on .left }
 
 -- asked from the place after the first line on, a log sheet gives its log's records, and then the end
 pub walked-through : {b : List ℕ} {n m : ℕ} {log : List ℕ} → LogSheetOf b n m log → Walked b (length (first-line LOG n m)) (records log)
@@ -76,7 +77,7 @@ walked-through {b} {n} {m} {log} s =
     let all = drop-at (first-line LOG n m) (record-lines (count log) log) at refl ∙ sym (append-nil (record-lines (count log) log)) in
     let p = passes (count log) b at log [] (omega arith) (s .short) (ap (drop at) (s .text) ∙ all) in
     let f = ap length (p .left) in
-    record { to = p .to; gives = p .gives; ends = ended (omega (arith, length-drop (p .to) b)) refl }
+    record { to = p .to; gives = p .gives; ends = record { answer = End (record { at = p .to }); asked = ended (omega (arith, length-drop (p .to) b)) refl; tells = refl } }
 
 some : (l : List ℕ) → ¬ (l ≡ []) → 0 < length l
 some [] h = absurd (h refl)
@@ -89,4 +90,4 @@ broken-off {b} {n} {m} {k} {log} {rest} w =
     let p = passes k b at log rest (w .count) (w .short) (ap (drop at) (w .text) ∙ drop-at (first-line LOG n m) (record-lines k log ++ rest) at refl) in
     let f = ap length (p .left) in
     let here : p .to < length b = omega (arith, length-drop (p .to) b, some rest (w .more)) in
-    record { to = p .to; gives = p .gives; bad = other here (λ ns x. w .other ns (record { count = x .count; after = x .after; line = rw (p .left) at (x .line) })) refl }
+    record { to = p .to; gives = p .gives; bad = record { answer = Bad; asked = other here (λ ns x. w .other ns (record { count = x .count; after = x .after; line = rw (p .left) at (x .line) })) refl; tells = refl } }

@@ -61,13 +61,13 @@ module _ {d : Asked} {xs : List ℤ} {t l : List ℕ} {k : ℕ} {t′ l′ : Lis
     there = replayed-stage first begun
 
     -- the rest of the log leads on to the last stage
-    on : Replayed T₁ q (w .last)
-    on = let c = taken-cut p (rw e at (w .run .taken)) in rw (leads-one (λ T T₁ T₂ k r q. left r q) (taken-replayed (c .1)) begun) at (taken-replayed (c .2))
+    pub leads-rest : Replayed T₁ q (w .last)
+    leads-rest = let c = taken-cut p (rw e at (w .run .taken)) in rw (leads-one (λ T T₁ T₂ k r q. left r q) (taken-replayed (c .1)) begun) at (taken-replayed (c .2))
 
     rows-left : length (rows t) - 2 * k ≡ length (w .last)
     rows-left =
         let a = replayed-rows first begun in
-        let b = replayed-rows there on in
+        let b = replayed-rows there leads-rest in
         let c = w .count ∙ ap length e ∙ length-append p q in
         omega arith
 
@@ -79,13 +79,13 @@ module _ {d : Asked} {xs : List ℤ} {t l : List ℕ} {k : ℕ} {t′ l′ : Lis
       rows = stage-rows (last-stage w);
       corners = stage-corners (last-stage w);
       whole = let z = log-length q in omega arith;
-      most = let a = records-many q in let b = replayed-rows there on in let c = there .most in omega arith;
+      most = let a = records-many q in let b = replayed-rows there leads-rest in let c = there .most in omega arith;
     }
 
     enough : room-need (length (w .last)) (log-of q) ≤ length t′
     enough =
         let a = records-many q in
-        let b = replayed-rows there on in
+        let b = replayed-rows there leads-rest in
         let c = replayed-rows first begun in
         let f = ap length (w .table) ∙ length-append (flat (w .last)) (replicate (length t - length (flat (w .last))) 0) in
         let z = length-replicate {A = ℕ} (length t - length (flat (w .last))) 0 in
@@ -100,7 +100,7 @@ module _ {d : Asked} {xs : List ℤ} {t l : List ℕ} {k : ℕ} {t′ l′ : Lis
         let L = flat (w .last) in
         let a = flat-length T₁ in
         let b = flat-length (w .last) in
-        let c = replayed-rows there on in
+        let c = replayed-rows there leads-rest in
         let e : 3 * length T₁ ≡ length L + (3 * length T₁ - length L) = omega arith in
         let f : length t - length L - (3 * length T₁ - length L) ≡ length t - length (flat T₁) = omega arith in
         ap (λ z. flat T₁ ++ z)
@@ -116,7 +116,7 @@ module _ {d : Asked} {xs : List ℤ} {t l : List ℕ} {k : ℕ} {t′ l′ : Lis
         (told a ≡ answers.done (pos (length q) ∷ [])) × (r ≡ filled T₁ room)
     restored-in {room} same h g =
         let s : standing (length (w .last)) room ≡ w .last = rw rows-left at same ∙ stands in
-        let o = restores fits (rw rows-left at h) there (rw (records-log q, s) on) (rw (rows-left, rest-log w p q e) at g) in
+        let o = restores fits (rw rows-left at h) there (rw (records-log q, s) leads-rest) (rw (rows-left, rest-log w p q e) at g) in
         (ap told (o .0 ∙ ap Done (records-many q)), o .1)
 
     -- where thinning left its table: the table before record i

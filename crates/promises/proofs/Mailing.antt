@@ -1,14 +1,14 @@
 -- Log sheets: what was written reads back, the log of a thinning can be mailed, and demands 2 and 3 hold of what was mailed.
 use mathlib.Core.Path.{_≡_, refl, sym, _∙_, ap, subst}
-use mathlib.Core.List.{List, [], _∷_, _++_}
-use Prim.Native.Nat.{ℕ, _-_, _/_, _≤_}
-use native.Mathlib.Nat.{mul-div-cancel-left}
+use mathlib.Core.List.{List, [], _∷_, _++_, append-nil}
+use Prim.Native.Nat.{ℕ, _+_, _-_, _≤_}
 use native.Mathlib.Omega.{arith}
 use lib.IntN.{ℤ, pos, natAbs}
-use lib.ListN.{length, getD, take, drop}
+use lib.ListN.{length, length-append, getD, take, drop}
 use lib.Seq.{take-at}
-use Rattle.surface.specs.Rows.{rows}
-use Rattle.surface.specs.Record.{Record}
+use Rattle.surface.specs.Rows.{Row, rows}
+use Rattle.surface.specs.Stage.{Stage}
+use Rattle.surface.specs.Record.{Record, Replayed}
 use Rattle.surface.proofs.Main.{four-used}
 use Rattle.engine.proofs.Whole.{used-most}
 use Rattle.refusal.specs.Told as answers
@@ -42,12 +42,13 @@ use Rattle.logrecords.specs.Outcome.{OpenedLog, unopened, opened}
 use Rattle.logrecords.specs.Walk.{Walked, BreaksAfter, Broken}
 use Rattle.logrecords.proofs.Main.{opened-one}
 use Rattle.logrecords.proofs.Walking.{walked-through, broken-off}
+use Rattle.logreader.specs.Outcome as asking
 use Rattle.logreader.specs.Outcome.{EachRecord}
-use Rattle.logreader.proofs.Main.{open-passes, each-as-read, reader-through}
+use Rattle.logreader.proofs.Main.{open-passes, each-as-read, reader-through, reader-breaks}
 use Rattle.promises.specs.Mailing.{Mailed, LogSheets}
-use Rattle.promises.proofs.Back.{restored, restored-from, replayed}
+use Rattle.promises.proofs.Back.{restored, restored-from, replayed, leads-rest}
 use Rattle.promises.proofs.Figures.{shift-promised}
-use Rattle.promises.proofs.Logged.{front-log}
+use Rattle.promises.proofs.Logged.{front-log, rest-log}
 use Rattle.promises.proofs.Whole.{as-done}
 
 -- ---- what is told, and what was written or read
@@ -82,9 +83,10 @@ record HasRead (b room′ : List ℕ) (n m k : ℕ) : Type 0 where
   many : k ≡ count log
   stands : take (room-for k) room′ ≡ log
 
-has-read : {b room room′ : List ℕ} {n m k : ℕ} {a : LogSheet} → ReadLogSheet b room room′ a → logs.told a ≡ answers.done (pos n ∷ pos m ∷ pos k ∷ []) → HasRead b room′ n m k
-has-read {a = a} (refused {r = r} f e p) t = absurd (refused-done r (sym (ap logs.told e) ∙ t))
-has-read {b} {room} {room′} {n} {m} {k} {a} (read {n = x} {m = y} {log = log} f s e p) t =
+-- from the answer, the sheet and what is left
+held : (room : List ℕ) {b room′ : List ℕ} {n m k x y : ℕ} {log : List ℕ} (a : LogSheet) → LogSheetOf b x y log → a ≡ sheet.Read x y (count log) → room′ ≡ log ++ drop (length log) room →
+    logs.told a ≡ answers.done (pos n ∷ pos m ∷ pos k ∷ []) → HasRead b room′ n m k
+held room {b} {room′} {n} {m} {k} {x} {y} {log} a s e p t =
     let g : sheet.Read x y (count log) ≡ sheet.Read n m k = sym e ∙ read-told a t in
     let hx : x ≡ n = cc in
     let hy : y ≡ m = cc in
@@ -97,6 +99,14 @@ has-read {b} {room} {room′} {n} {m} {k} {a} (read {n = x} {m = y} {log = log} 
       stands = ap (take (room-for k)) p ∙ take-at log (drop (length log) room) (room-for k) (omega (arith, hk, w));
     }
 
+has-read : {b room room′ : List ℕ} {n m k : ℕ} {a : LogSheet} → ReadLogSheet b room room′ a → logs.told a ≡ answers.done (pos n ∷ pos m ∷ pos k ∷ []) → HasRead b room′ n m k
+has-read (refused {r = r} f e p) t = absurd (refused-done r (sym (ap logs.told e) ∙ t))
+has-read {room = room} {a = a} (read f s e p) t = held room a s e p t
+
+has-each : {b room room′ : List ℕ} {n m k : ℕ} {a : LogSheet} → EachRecord b room room′ a → logs.told a ≡ answers.done (pos n ∷ pos m ∷ pos k ∷ []) → HasRead b room′ n m k
+has-each (asking.unread {r = r} f e p) t = absurd (refused-done r (sym (ap logs.told e) ∙ t))
+has-each {room = room} {a = a} (asking.each f s e p) t = held room a s e p t
+
 -- what was mailed is the same log, with the same counts
 mailed-same : {n m : ℕ} {log log′ : List ℕ} (w : Mailed n m log log′) → (w .n′ ≡ n) × (w .m′ ≡ m) × (log′ ≡ log)
 mailed-same {n} {m} {log} w =
@@ -105,48 +115,53 @@ mailed-same {n} {m} {log} w =
     let o = one-log (h .sheet) s in
     (o .corners, o .rows, w .log-is ∙ h .stands ∙ o .numbers)
 
+written-back : {n m j : ℕ} {log txt txt′ : List ℕ} {a : Answer} → WroteLogSheet n m log txt txt′ a → texts.told a ≡ answers.done (pos j ∷ []) →
+    {room room′ : List ℕ} {z : LogSheet} → length log ≤ length room → ReadLogSheet (take j txt′) room room′ z →
+    (logs.told z ≡ answers.done (pos n ∷ pos m ∷ pos (count log) ∷ [])) × (room′ ≡ log ++ drop (length log) room)
+written-back {n} {m} {log = log} {txt} {txt′} {a} w tells fits r =
+    let o = written-reads (subst (λ x. WroteLogSheet n m log txt txt′ x) (wrote-told a tells) w) fits r in
+    (ap logs.told (o .0), o .1)
+
 -- ---- the log of a thinning can be mailed
 
-module _ {d : Asked} {xs : List ℤ} {t l : List ℕ} {k : ℕ} {t′ l′ : List ℕ} (w : RunOf d xs t l k t′ l′) (p q : List Record) (e : w .log ≡ p ++ q) where
-  abbrev front : List ℕ
-  front = take (room-for (length p)) l′
+-- what can be written is written where as many bytes are lent as a log sheet may have
+can-write : {n m : ℕ} {log txt txt′ : List ℕ} {a : Answer} → Writable n m log → most-log-bytes ≤ length txt → WroteLogSheet n m log txt txt′ a → (j : ℕ) × (texts.told a ≡ answers.done (pos j ∷ []))
+unfolding write-refusals
+can-write w h (unwritten f g same) = refused-passes (first-one verdicts _ f (passes-none verdicts _ .1 ((λ no. no w) nor (λ short. omega (arith, log-size w, short, h)) nor none-yet)))
+can-write {n} {m} {log} w h (wrote f v g same) = (length (log-text n m log), ap texts.told g)
 
-  records-many : count front ≡ length p
-  records-many = ap (λ z. length z / width) (front-log w p q e) ∙ ap (λ z. z / width) (log-length p) ∙ mul-div-cancel-left (length p) {n = width} (omega arith)
-
-  -- no more than the corners but four: a stage uses four
-  fewer : length p ≤ corners xs - 4
+module _ {d : Asked} {xs : List ℤ} {t l : List ℕ} {k : ℕ} {t′ l′ : List ℕ} (w : RunOf d xs t l k t′ l′) where
+  -- no more records than the corners but four: a stage uses four
+  fewer : length (w .log) ≤ corners xs - 4
   fewer =
-      let a = thinned-kept w p q e in
+      let a = thinned-kept w (w .log) [] (sym (append-nil (w .log))) in
       let kept = a .2 in
       let f = four-used (corners xs) (a .0) (kept .stage) (kept .used-after) in
       let h = used-most (w .skin .stage) (kept .used-before) in
       omega (arith, f, h)
 
-  can-write : Writable (corners xs) (length (rows t)) front
-  can-write =
+  -- a part of its records, from one of its stages to another
+  part-writable : {T T′ : List Row} (m : List Record) → Stage (corners xs) T → Replayed T m T′ → length m ≤ length (w .log) → Writable (corners xs) (length (rows t)) (log-of m)
+  part-writable m stage leads few =
       let s = w .skin .stage in
-      let a = ap length (front-log w p q e) ∙ log-length p in
+      let a = log-length m in
       record {
         whole = omega arith;
-        counts = record { few = s .few; many = s .many; least = s .least; most = s .most; fewer = omega (arith, records-many, fewer) };
-        short = rw (front-log w p q e) (log-few s (taken-replayed (thinned-kept w p q e .1)));
+        counts = record { few = s .few; many = s .many; least = s .least; most = s .most; fewer = omega (arith, fewer, few, a) };
+        short = log-few stage leads;
       }
 
-  passes : {room : ℕ} → most-log-bytes ≤ room → First (write-refusals (corners xs) (length (rows t)) front room) verdict.Passes
-  unfolding write-refusals
-  passes h = passes-none verdicts _ .1 ((λ no. no can-write) nor (λ short. omega (arith, log-size can-write, short, h)) nor none-yet)
+  module _ (p q : List Record) (e : w .log ≡ p ++ q) where
+    both : length (w .log) ≡ length p + length q
+    both = ap length e ∙ length-append p q
 
-  can-mail : {txt txt′ : List ℕ} {a : Answer} → most-log-bytes ≤ length txt → WroteLogSheet (corners xs) (length (rows t)) front txt txt′ a → (j : ℕ) × (texts.told a ≡ answers.done (pos j ∷ []))
-  can-mail h (unwritten f g same) = refused-passes (first-one verdicts _ f (passes h))
-  can-mail h (wrote f v g same) = (length (log-text (corners xs) (length (rows t)) front), ap texts.told g)
+    front-writable : Writable (corners xs) (length (rows t)) (take (room-for (length p)) l′)
+    front-writable = rw (front-log w p q e) (part-writable p (w .skin .stage) (taken-replayed (thinned-kept w p q e .1)) (omega (arith, both)))
 
-  mailed-reads : {txt txt′ : List ℕ} {a : Answer} {j : ℕ} → texts.told a ≡ answers.done (pos j ∷ []) → WroteLogSheet (corners xs) (length (rows t)) front txt txt′ a →
-      {room room′ : List ℕ} {z : LogSheet} → room-for (length p) ≤ length room → ReadLogSheet (take j txt′) room room′ z → logs.told z ≡ answers.done (pos (corners xs) ∷ pos (length (rows t)) ∷ pos (length p) ∷ [])
-  mailed-reads {txt} {txt′} {a} tells v fits r =
-      let long = ap length (front-log w p q e) ∙ log-length p in
-      let o = written-reads (subst (λ x. WroteLogSheet (corners xs) (length (rows t)) front txt txt′ x) (wrote-told a tells) v) (omega (arith, long, fits)) r in
-      ap logs.told (o .0 ∙ ap (sheet.Read (corners xs) (length (rows t))) records-many)
+    rest-writable : Writable (corners xs) (length (rows t)) (drop (room-for (length p)) (take (room-for k) l′))
+    rest-writable =
+        let h = thinned-kept w p q e in
+        rw (rest-log w p q e) (part-writable q (h .2 .stage) (leads-rest w p q e (h .1)) (omega (arith, both)))
 
 -- ---- one by one
 
@@ -174,17 +189,23 @@ each-too {b} {room} {room₁} {a = a} r t x = let o = each-as-read (subst (λ y.
 
 pub log-sheets : LogSheets
 log-sheets = record {
+  reads-back = λ w t h r. written-back w t h r;
   same = λ w. mailed-same w;
   only = λ {n} {m} {k} {b} {c} p q s t e.
       let h = has-read p s in
       let g = has-read q t in
       only-log-sheet (h .sheet) (subst (λ log. LogSheetOf c n m log) (sym (g .stands) ∙ sym e ∙ h .stands) (g .sheet));
-  writes = λ o w p q e h g. can-mail w p q e h g;
-  reads = λ o w p q e t g h r. mailed-reads w p q e t g h r;
+  only-each = λ {n} {m} {k} {b} {c} p q s t e.
+    let h = has-each p s in
+    let g = has-each q t in
+    only-log-sheet (h .sheet) (subst (λ log. LogSheetOf c n m log) (sym (g .stands) ∙ sym e ∙ h .stands) (g .sheet));
+  writes = λ o w p q e h g. can-write (front-writable w p q e) h g;
+  writes-from = λ o w p q e h g. can-write (rest-writable w p q e) h g;
   one-by-one = λ r t o. walks r t o;
   by-reader = λ r w t o g. let h = has-read w t in rw (h .stands) (reader-through r (h .sheet) (opened-place o g));
   each = λ r t x. each-too r t x;
   breaks-off = λ w o t. rw (opened-place o t) (broken-off w);
+  reader-breaks-off = λ r w o t. reader-breaks r w (opened-place o t);
   restores = λ o w m g. restored o (as-done w) (rw (mailed-same m .2) at g);
   restores-from = λ o w p q e h m g. restored-from w p q e h (rw (mailed-same m .2) at g);
   replays = λ o w m g. replayed o (as-done w) (rw (mailed-same m .2) at g);

@@ -11,7 +11,7 @@ use Rattle.surface.specs.Record.{Record}
 use Rattle.refusal.specs.Told as answers
 use Rattle.faults.specs.Counts.{corners}
 use Rattle.run.specs.Run.{Taken}
-use Rattle.record.specs.Layout.{room-for, first-records, records}
+use Rattle.record.specs.Layout.{room-for, count, first-records, records}
 use Rattle.record.specs.Front.{zeroed}
 use Rattle.length.specs.declared.Order.{Order}
 use Rattle.length.specs.declared.Order.the-variants.{Limit}
@@ -40,7 +40,7 @@ use Rattle.logrecords.specs.Outcome.{OpenedLog}
 use Rattle.logrecords.specs.Walk.{Walked, BreaksAfter, Broken}
 use Rattle.logreader.specs.declared.Reader.{Reader}
 use Rattle.logreader.specs.Outcome.{EachRecord}
-use Rattle.logreader.specs.Walk.{AskedOn}
+use Rattle.logreader.specs.Walk.{AskedOn, BrokenOn}
 use Rattle.promises.specs.Thinning.{DoneWith}
 
 -- a log was written as a sheet for n corners and m rows, j bytes; these were read, and tell counts and records; log′ is what then stands in the room
@@ -62,20 +62,25 @@ pub record Mailed (n m : ℕ) (log log′ : List ℕ) : Type 0 where
   pub log-is : log′ ≡ take (room-for records) room′
 
 pub record LogSheets : Type 0 where
-  -- "Reading what was written gives the same log", and the same counts
+  -- "Reading what was written gives the same log", whatever it is: it reads wherever its numbers fit, and tells the same counts
+  pub reads-back : {n m j : ℕ} {log text text′ : List ℕ} {a : Answer} → WroteLogSheet n m log text text′ a → texts.told a ≡ answers.done (pos j ∷ []) →
+      {room room′ : List ℕ} {z : LogSheet} → length log ≤ length room → ReadLogSheet (take j text′) room room′ z →
+      (logs.told z ≡ answers.done (pos n ∷ pos m ∷ pos (count log) ∷ [])) × (room′ ≡ log ++ drop (length log) room)
+  -- so what was mailed is the log that was written
   pub same : {n m : ℕ} {log log′ : List ℕ} (w : Mailed n m log log′) → (w .n′ ≡ n) × (w .m′ ≡ m) × (log′ ≡ log)
-  -- "a sheet that reads at all is the only one for its log and counts"
+  -- "a sheet that reads at all is the only one for its log and counts", read whole or record by record
   pub only : {n m k : ℕ} {b c room room′ space space′ : List ℕ} {a z : LogSheet} → ReadLogSheet b room room′ a → ReadLogSheet c space space′ z →
+      logs.told a ≡ answers.done (pos n ∷ pos m ∷ pos k ∷ []) → logs.told z ≡ answers.done (pos n ∷ pos m ∷ pos k ∷ []) → take (room-for k) room′ ≡ take (room-for k) space′ → b ≡ c
+  pub only-each : {n m k : ℕ} {b c room room′ space space′ : List ℕ} {a z : LogSheet} → EachRecord b room room′ a → EachRecord c space space′ z →
       logs.told a ≡ answers.done (pos n ∷ pos m ∷ pos k ∷ []) → logs.told z ≡ answers.done (pos n ∷ pos m ∷ pos k ∷ []) → take (room-for k) room′ ≡ take (room-for k) space′ → b ≡ c
   -- the log of a thinning, or a beginning p of it, can be written where as many bytes are lent as a log sheet may have
   pub writes : (o : Order) {xs : List ℤ} {t l : List ℕ} {k : ℕ} {t′ l′ : List ℕ} (w : RunOf (asked o) xs t l k t′ l′) (p q : List Record) → w .log ≡ p ++ q →
       {text text′ : List ℕ} {a : Answer} → most-log-bytes ≤ length text → WroteLogSheet (corners xs) (length (rows t)) (take (room-for (length p)) l′) text text′ a →
       (j : ℕ) × (texts.told a ≡ answers.done (pos j ∷ []))
-  -- and what was written of it reads wherever its numbers fit
-  pub reads : (o : Order) {xs : List ℤ} {t l : List ℕ} {k : ℕ} {t′ l′ : List ℕ} (w : RunOf (asked o) xs t l k t′ l′) (p q : List Record) → w .log ≡ p ++ q →
-      {text text′ : List ℕ} {a : Answer} {j : ℕ} → texts.told a ≡ answers.done (pos j ∷ []) → WroteLogSheet (corners xs) (length (rows t)) (take (room-for (length p)) l′) text text′ a →
-      {room room′ : List ℕ} {z : LogSheet} → room-for (length p) ≤ length room → ReadLogSheet (take j text′) room room′ z →
-      logs.told z ≡ answers.done (pos (corners xs) ∷ pos (length (rows t)) ∷ pos (length p) ∷ [])
+  -- and so can the rest of it after p
+  pub writes-from : (o : Order) {xs : List ℤ} {t l : List ℕ} {k : ℕ} {t′ l′ : List ℕ} (w : RunOf (asked o) xs t l k t′ l′) (p q : List Record) → w .log ≡ p ++ q →
+      {text text′ : List ℕ} {a : Answer} → most-log-bytes ≤ length text → WroteLogSheet (corners xs) (length (rows t)) (drop (room-for (length p)) (take (room-for k) l′)) text text′ a →
+      (j : ℕ) × (texts.told a ≡ answers.done (pos j ∷ []))
   -- one by one the records of a sheet are those of the whole reading, and then comes the end
   pub one-by-one : {n m k : ℕ} {b room room′ : List ℕ} {a : LogSheet} {c : Opened} → ReadLogSheet b room room′ a → logs.told a ≡ answers.done (pos n ∷ pos m ∷ pos k ∷ []) → OpenedLog b c →
       (at : ℕ) × (told-opened c ≡ answers.done (pos n ∷ pos m ∷ pos at ∷ [])) × Walked b at (records (take (room-for k) room′))
@@ -85,9 +90,11 @@ pub record LogSheets : Type 0 where
   -- where the whole reading reads, reading record by record answers the same and leaves the same
   pub each : {b room room₁ room₂ : List ℕ} {n m k : ℕ} {a z : LogSheet} → ReadLogSheet b room room₁ a → logs.told a ≡ answers.done (pos n ∷ pos m ∷ pos k ∷ []) → EachRecord b room room₂ z →
       (logs.told z ≡ answers.done (pos n ∷ pos m ∷ pos k ∷ [])) × (room₂ ≡ room₁)
-  -- a bad line is told at its record and not before
+  -- a bad line is told at its record and not before, by whoever asks at places and by a reader
   pub breaks-off : {b : List ℕ} {n m k : ℕ} {log rest : List ℕ} {c : Opened} {at : ℕ} → BreaksAfter b n m k log rest → OpenedLog b c → told-opened c ≡ answers.done (pos n ∷ pos m ∷ pos at ∷ []) →
       Broken b at (first-records k log)
+  pub reader-breaks-off : (r : Reader) {n m k : ℕ} {log rest : List ℕ} {c : Opened} → BreaksAfter (now (r .bytes)) n m k log rest → OpenedLog (now (r .bytes)) c →
+      told-opened c ≡ answers.done (pos n ∷ pos m ∷ pos (r .at) ∷ []) → BrokenOn r (first-records k log)
   -- "Demands 2 and 3 read the log as before": growing back a mailed log restores the first table, number for number
   pub restores : (o : Order) {xs : List ℤ} {t l : List ℕ} {k : ℕ} {t′ l′ : List ℕ} → DoneWith o xs t l k t′ l′ → {n m : ℕ} {log : List ℕ} → Mailed n m (take (room-for k) l′) log → {a : Regrown} {r : List ℕ} →
       GrownAs (corners xs) (length (rows t) - 2 * k) t′ log a r → (regrowths.told a ≡ answers.done (pos k ∷ [])) × (r ≡ t)
