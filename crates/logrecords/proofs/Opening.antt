@@ -1,19 +1,15 @@
 -- Opening a log sheet: why each answer is the first that holds.
-use mathlib.Core.Path.{_≡_, ap}
-use mathlib.Core.List.{List, [], _∷_}
-use Prim.Native.Nat.{ℕ, _+_, _≤_, _<_}
+use mathlib.Core.Path.{_≡_, _∙_, ap}
+use mathlib.Core.List.{List, [], _∷_, _++_}
+use Prim.Native.Nat.{ℕ, _-_, _≤_, _<_}
 use native.Mathlib.Omega.{arith}
 use lib.IntN.{pos}
-use lib.ListN.{length}
-use mir.Syntax.{w64}
-use mir.Val.{SFits, toZ}
-use mir.ValLaws.{toZ-ofZ}
+use lib.ListN.{length, length-append, drop, length-drop}
 use Rattle.refusal.specs.First.{First}
 use Rattle.refusal.specs.declared.Refusal.the-variants.{CountsOutside, SheetForm}
 use Rattle.refusal.specs.declared.Verdict.the-variants.{Passes, Refused}
 use Rattle.refusal.proofs.Laws.{verdicts, given-first, passes-none, none-yet, _nor_}
-use Rattle.lines.specs.Lines.{fields, LineAt}
-use Rattle.lines.proofs.Lengths.{line-length}
+use Rattle.lines.specs.Lines.{LineAt}
 use Rattle.heading.specs.Heading.{most-digits, first-line, Begins, NoFirstLine}
 use Rattle.heading.proofs.Heading.{same-first}
 use Rattle.logform.specs.LogSheet.{LOG, most-log-bytes, CountsIn}
@@ -45,18 +41,10 @@ module _ {b : List ℕ} (size : length b ≤ most-log-bytes) where
       unfolding open-refusals
       passes = passes-none verdicts _ .1 ((λ k. omega arith) nor (λ none. none n m begins) nor not-out nor none-yet)
 
-      pub corners-fit : SFits w64 (pos n)
-      corners-fit = let h = c .many in record { sfits = omega arith }
-
-      pub rows-fit : SFits w64 (pos m)
-      rows-fit = let h = c .most in record { sfits = omega arith }
-
-      counts-are : toZ w64 n ∷ toZ w64 m ∷ [] ≡ pos n ∷ pos m ∷ []
-      counts-are = λ i. toZ-ofZ w64 (pos n) corners-fit i ∷ toZ-ofZ w64 (pos m) rows-fit i ∷ []
-
-      -- the place after the first line is its length
-      pub opened-at : {a : ℕ} → a ≡ length (fields (toZ w64 n ∷ toZ w64 m ∷ [])) → OpenedLog b (At n m (record { at = 4 + a }))
-      opened-at {a} e =
-          let g = ap (λ zs. length (fields zs)) counts-are in
-          let p : 4 + a ≡ length (first-line LOG n m) = omega (arith, line-length LOG (pos n ∷ pos m ∷ [])) in
+      -- the place answered is the first line's length, or past the end where nothing follows it
+      pub opened-at : (c : ℕ) {a : ℕ} → rest ≡ drop c b → a ≡ c - (c - length b) → OpenedLog b (At n m (record { at = a }))
+      opened-at c {a} d e =
+          let l = first-line LOG n m in
+          let s : length b ≡ length (l ++ drop c b) = ap length (f .bytes ∙ ap (λ r. l ++ r) d) in
+          let p : a ≡ length l = omega (arith, e, s, length-append l (drop c b), length-drop c b) in
           opened passes begins (ap (λ (k : ℕ). At n m (record { at = k })) p)

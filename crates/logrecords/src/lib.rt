@@ -1,4 +1,7 @@
 // The records of a log sheet, one at a time: opened, then the record at a place. The caller keeps the sheet and the place.
+ghost use mathlib.Core.Path.{_≡_};
+ghost use Prim.Native.Nat.{_-_};
+ghost use lib.ListN.{length};
 ghost use Rattle.logrecords.specs.Outcome.{OpenedLog, NextRecord};
 use heading::FirstLine;
 use record::Record;
@@ -19,6 +22,16 @@ pub enum Next {
     Bad,
 }
 
+// The place after a line, as it was read: past the end where nothing is left, and then the end is meant.
+fn within(bytes: &[u8], at: usize) -> usize
+    ensures { λ r. ⌜ r ≡ at - (at - length (now (bytes .entry))) ⌝ }
+{
+    if bytes.len() < at {
+        return bytes.len();
+    }
+    at
+}
+
 // Opens a log sheet: size, first line, counts.
 pub fn open_log_sheet(bytes: &[u8]) -> Opened
     ensures { λ a. ⌜ OpenedLog (now (bytes .entry)) a ⌝ }
@@ -27,16 +40,14 @@ pub fn open_log_sheet(bytes: &[u8]) -> Opened
         return Opened::Refused(Refusal::SheetForm);
     }
     let first = heading::first_line(bytes, b"LOG");
-    let FirstLine::Read(n, m, _) = first else {
+    let FirstLine::Read(n, m, next) = first else {
         return Opened::Refused(Refusal::SheetForm);
     };
     if !logform::counts_in(n, m, 0) {
         return Opened::Refused(Refusal::CountsOutside);
     }
-    // its word, its newline and its fields
-    let counts = [n as i64, m as i64];
-    let at = 4 + writing::fields_length(&counts);
-    Opened::At(n, m, Cursor { at: at })
+    let after = within(bytes, next.at);
+    Opened::At(n, m, Cursor { at: after })
 }
 
 // The record at a place of a log sheet, or of any bytes.
@@ -60,9 +71,8 @@ pub fn next_record(bytes: &[u8], from: Cursor) -> Next
     );
     match line {
         Passed::Bad => Next::Bad,
-        Passed::To(_) => {
-            // its word, its newline and its fields
-            let after = at + 2 + writing::numbers_length(&numbers);
+        Passed::To(next) => {
+            let after = within(bytes, next.at);
             Next::Found(record::read_record(&numbers, 0), Cursor { at: after })
         }
     }

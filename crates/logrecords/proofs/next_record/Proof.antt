@@ -2,7 +2,7 @@
 use mathlib.Core.Path.{refl}
 use Rattle.lines.specs.Inner.{ReadInto}
 use Rattle.logrecords.specs.Outcome.{ended}
-use Rattle.logrecords.proofs.Standing.{no-record, inside, record-found}
+use Rattle.logrecords.proofs.Standing.{no-record, record-found}
 use native.Mathlib.Omega.{arith}
 use borrow.Author.Needs.{needs}
 use Rattle.logrecords.proofs.next_record.Statement.{statement}
@@ -23,27 +23,11 @@ number-line-requires c κs = (record { some = omega arith; few = omega arith; li
 enum-told : tie.Need-enum-told
 enum-told c = search needs
 
-enum-told-2 : tie.Need-enum-told-2
-enum-told-2 c = search needs
+enum-known-line : tie.Need-enum-known-line
+enum-known-line c = search needs
 
-add-after : tie.Need-add-after
-add-after c = search needs
-
-slice-aggregate-numbers-length : tie.Need-slice-aggregate-numbers-length
-slice-aggregate-numbers-length c = search needs
-
-numbers-length-requires : tie.Need-numbers-length-requires
-numbers-length-requires c κs = search needs
-
-add-after-2 : tie.Need-add-after-2
-unfolding ReadInto
-add-after-2 c =
-    let enum-told2 = c .before .before .enum-told2 in
-    let number-line = c .before .before .before .before .before .number-line in
-    let args = c .before .before .before .before .before .before .before .before .before .before .args in
-    let if1 = c .before .before .before .before .before .before .before .before .if1 in
-    let put = rw (enum-told2 .given .1) at (number-line .ensures) in
-    let h = inside (args .bytes .now) (args .from .at) put (c .numbers-length .ensures .0) (if1 .left) in search needs
+within-requires : tie.Need-within-requires
+within-requires c κs = search needs
 
 slice-aggregate-read-record : tie.Need-slice-aggregate-read-record
 slice-aggregate-read-record c = search needs
@@ -61,12 +45,12 @@ returns-2 c =
 returns-3 : tie.Need-returns-3
 unfolding ReadInto
 returns-3 c =
-    let enum-told2 = c .before .before .before .before .enum-told2 in
+    let line = c .before .before .before .before .line in
     let number-line = c .before .before .before .before .before .before .before .number-line in
     let args = c .before .before .before .before .before .before .before .before .before .before .before .before .args in
-    let numbers-length = c .before .before .numbers-length in
-    let put = rw (enum-told2 .given .1) at (number-line .ensures) in
-    record-found (args .bytes .now) (args .from .at) put (numbers-length .ensures .0) (c .read-record .ensures)
+    let if1 = c .before .before .before .before .before .before .before .before .before .before .if1 in
+    let put = rw (line .given .1) at (number-line .ensures) in
+    record-found (args .bytes .now) (args .from .at) _ put (c .before .before .within .ensures) (if1 .left) (c .read-record .ensures)
 
 pub next-record-spec : {M : Type 1} → statement M
 next-record-spec =
@@ -77,11 +61,8 @@ next-record-spec =
     slice-aggregate-number-line-2
     number-line-requires
     enum-told
-    enum-told-2
-    add-after
-    slice-aggregate-numbers-length
-    numbers-length-requires
-    add-after-2
+    enum-known-line
+    within-requires
     slice-aggregate-read-record
     read-record-requires
     returns-2

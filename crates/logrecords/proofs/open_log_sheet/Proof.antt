@@ -3,7 +3,7 @@ use mathlib.Core.Path.{refl}
 use borrow.Author.Tests.{not-true, not-false}
 use Rattle.heading.specs.Inner.{ReadFirst}
 use Rattle.logrecords.specs.Outcome.{unopened}
-use Rattle.logrecords.proofs.Opening.{too-long, no-first, counts-out, corners-fit, rows-fit, opened-at}
+use Rattle.logrecords.proofs.Opening.{too-long, no-first, counts-out, opened-at}
 use borrow.Author.Needs.{needs}
 use Rattle.logrecords.proofs.open_log_sheet.Statement.{statement}
 use Rattle.logrecords.proofs.open_log_sheet.Tie as tie
@@ -44,46 +44,20 @@ returns-3 c =
     let line = rw (first .given .1) at (first-line .ensures) in
     unopened (counts-out (if1 .left) line (c .before .counts-in .ensures .when-false (not-true _ (c .if2 .taken)))) refl
 
-cast-t16 : tie.Need-cast-t16
-unfolding ReadFirst
-cast-t16 c =
-    let first = c .before .before .before .first in
-    let first-line = c .before .before .before .before .before .first-line in
-    let if1 = c .before .before .before .before .before .before .before .if1 in
-    let line = rw (first .given .1) at (first-line .ensures) in
-    let fit = c .before .counts-in .ensures .when-true (not-false _ (c .if2 .left)) in
-    corners-fit (if1 .left) line fit
-
-cast-t17 : tie.Need-cast-t17
-unfolding ReadFirst
-cast-t17 c =
-    let first = c .before .before .before .first in
-    let first-line = c .before .before .before .before .before .first-line in
-    let if1 = c .before .before .before .before .before .before .before .if1 in
-    let line = rw (first .given .1) at (first-line .ensures) in
-    let fit = c .before .counts-in .ensures .when-true (not-false _ (c .if2 .left)) in
-    rows-fit (if1 .left) line fit
-
-slice-aggregate-fields-length : tie.Need-slice-aggregate-fields-length
-slice-aggregate-fields-length c = search needs
-
-fields-length-requires : tie.Need-fields-length-requires
-fields-length-requires c κs = search needs
-
-add-at : tie.Need-add-at
-add-at c = search needs
+within-requires : tie.Need-within-requires
+within-requires c κs = search needs
 
 returns-4 : tie.Need-returns-4
 unfolding ReadFirst
 returns-4 c =
-    let first = c .before .before .before .before .before .first in
-    let first-line = c .before .before .before .before .before .before .before .first-line in
-    let counts-in = c .before .before .before .counts-in in
-    let if2 = c .before .before .if2 in
-    let if1 = c .before .before .before .before .before .before .before .before .before .if1 in
+    let first = c .before .before .before .before .first in
+    let first-line = c .before .before .before .before .before .before .first-line in
+    let counts-in = c .before .before .counts-in in
+    let if2 = c .before .if2 in
+    let if1 = c .before .before .before .before .before .before .before .before .if1 in
     let line = rw (first .given .1) at (first-line .ensures) in
     let fit = counts-in .ensures .when-true (not-false _ (if2 .left)) in
-    opened-at (if1 .left) line fit (c .fields-length .ensures .0)
+    opened-at (if1 .left) line fit _ refl (c .within .ensures)
 
 pub open-log-sheet-spec : {M : Type 1} → statement M
 open-log-sheet-spec =
@@ -97,9 +71,5 @@ open-log-sheet-spec =
     returns-2
     counts-in-requires
     returns-3
-    cast-t16
-    cast-t17
-    slice-aggregate-fields-length
-    fields-length-requires
-    add-at
+    within-requires
     returns-4)
