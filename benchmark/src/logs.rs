@@ -1,8 +1,9 @@
-//! Log sheets in ordinary Rust: a log written as one, and read whole or a record at a time. Nothing is allocated, and nothing is written where it is
-//! refused: a text is measured first, a sheet's lines are passed over first.
+//! Log sheets in ordinary Rust, in the same loops: a log written as one, and read whole or a record at a time. Nothing is allocated, and nothing is
+//! written where it is refused: a text is measured first, a sheet's lines are passed over first.
 
+use crate::sheet::Reader;
 use crate::work::Work;
-use apart::sheet::{GREATEST, MOST_DIGITS};
+use apart::sheet::GREATEST;
 use apart::skin::{CORNERS, FEWEST, ROWS};
 use apart::step::WIDTH;
 use flaxglimmer::Refusal::{self, CountsOutside, RoomShort, SheetForm};
@@ -10,49 +11,21 @@ use flaxglimmer::{LogCounts, Opened, Record};
 
 pub const MOST_BYTES: usize = 65_536;
 
-/// The bytes of a log sheet that are left to read.
-#[derive(Clone)]
-struct Lines<'a> {
-    left: &'a [u8],
-}
-
-impl Lines<'_> {
-    fn expect(&mut self, word: &[u8]) -> Result<(), Refusal> {
-        self.left = self.left.strip_prefix(word).ok_or(SheetForm)?;
-        Ok(())
-    }
-
-    fn number(&mut self) -> Result<u32, Refusal> {
-        let (mut digits, mut value) = (0, 0);
-        while let Some(digit @ b'0'..=b'9') = self.left.get(digits) {
-            if (digits > 0 && value == 0) || digits == MOST_DIGITS {
-                return Err(SheetForm);
-            }
-            value = 10 * value + u32::from(digit - b'0');
-            digits += 1;
-        }
-        if digits == 0 {
+/// The plain numbers of the next line, which has this word and so many of them: staged with their signs, then narrowed.
+fn line<const N: usize>(lines: &mut Reader, word: &[u8]) -> Result<[u32; N], Refusal> {
+    let (mut staged, mut numbers) = ([0; N], [0; N]);
+    lines.line(word, &mut staged)?;
+    for (number, &z) in numbers.iter_mut().zip(&staged) {
+        if z < 0 {
             return Err(SheetForm);
         }
-        self.left = &self.left[digits..];
-        Ok(value)
+        *number = z as u32;
     }
+    Ok(numbers)
+}
 
-    /// The numbers of the next line, which has this word and so many of them.
-    fn line<const N: usize>(&mut self, word: &[u8]) -> Result<[u32; N], Refusal> {
-        let mut numbers = [0; N];
-        self.expect(word)?;
-        for number in &mut numbers {
-            self.expect(b"\t")?;
-            *number = self.number()?;
-        }
-        self.expect(b"\n")?;
-        Ok(numbers)
-    }
-
-    fn record(&mut self) -> Result<Record, Refusal> {
-        self.line(b"K")
-    }
+fn record(lines: &mut Reader) -> Result<Record, Refusal> {
+    line(lines, b"K")
 }
 
 /// Whether the counts are inside their limits, and the records no more than the corners allow.
@@ -61,12 +34,12 @@ pub fn counts_fit(corners: usize, rows: usize, records: usize) -> bool {
 }
 
 /// The counts of the first line and the lines after it.
-fn first_line(bytes: &[u8]) -> Result<(usize, usize, Lines<'_>), Refusal> {
+fn first_line(bytes: &[u8]) -> Result<(usize, usize, Reader<'_>), Refusal> {
     if bytes.len() > MOST_BYTES {
         return Err(SheetForm);
     }
-    let mut lines = Lines { left: bytes };
-    let [corners, rows] = lines.line(b"LOG")?;
+    let mut lines = Reader { left: bytes };
+    let [corners, rows] = line(&mut lines, b"LOG")?;
     Ok((corners as usize, rows as usize, lines))
 }
 
@@ -76,15 +49,15 @@ pub fn read(bytes: &[u8], log: &mut [u32], work: &mut impl Work) -> Result<LogCo
     work.bytes(bytes.len() + lines.left.len());
     let (mut passed, mut records) = (lines.clone(), 0);
     while !passed.left.is_empty() {
-        passed.record()?;
+        record(&mut passed)?;
         records += 1;
     }
     if !counts_fit(corners, rows, records) {
         return Err(CountsOutside);
     }
     let room = log.get_mut(..WIDTH * records).ok_or(RoomShort)?;
-    for record in room.chunks_exact_mut(WIDTH) {
-        record.copy_from_slice(&lines.record()?);
+    for numbers in room.chunks_exact_mut(WIDTH) {
+        numbers.copy_from_slice(&record(&mut lines)?);
     }
     Ok(LogCounts { corners, rows, records })
 }
@@ -103,14 +76,20 @@ pub fn open(bytes: &[u8], work: &mut impl Work) -> Result<Opened, Refusal> {
 /// The call: the record at a place and the place after its line, or that no byte follows.
 pub fn next(bytes: &[u8], place: usize, work: &mut impl Work) -> Result<Option<(Record, usize)>, Refusal> {
     let Some(left @ [_, ..]) = bytes.get(place..) else { return Ok(None) };
-    let mut lines = Lines { left };
-    let record = lines.record()?;
+    let mut lines = Reader { left };
+    let numbers = record(&mut lines)?;
     work.bytes(left.len() - lines.left.len());
-    Ok(Some((record, bytes.len() - lines.left.len())))
+    Ok(Some((numbers, bytes.len() - lines.left.len())))
 }
 
-fn digits(number: u32) -> usize {
-    1 + [10, 100, 1_000, 10_000, 100_000].into_iter().filter(|&power| power <= number).count()
+/// How many bytes a number takes.
+fn length(z: i64) -> usize {
+    let (mut size, mut digits) = (z.unsigned_abs(), 1);
+    while size >= 10 {
+        size /= 10;
+        digits += 1;
+    }
+    digits + usize::from(z < 0)
 }
 
 /// The text that is written so far, in front of its room.
@@ -125,22 +104,26 @@ impl Written<'_> {
         self.end += 1;
     }
 
-    fn number(&mut self, mut number: u32) {
-        let start = self.end;
-        self.end += digits(number);
-        for byte in self.text[start..self.end].iter_mut().rev() {
-            *byte = b'0' + (number % 10) as u8;
-            number /= 10;
+    fn digits(&mut self, size: u64) {
+        if size >= 10 {
+            self.digits(size / 10);
         }
+        self.put(b'0' + (size % 10) as u8);
     }
 
-    fn line(&mut self, word: &[u8], numbers: &[u32]) {
-        for &byte in word {
-            self.put(byte);
+    fn signed(&mut self, z: i64) {
+        if z < 0 {
+            self.put(b'-');
         }
-        for &number in numbers {
+        self.digits(z.unsigned_abs());
+    }
+
+    /// A line of plain numbers, staged with their signs.
+    fn line<const N: usize>(&mut self, word: &[u8], numbers: &[u32; N]) {
+        word.iter().for_each(|&byte| self.put(byte));
+        for z in numbers.map(i64::from) {
             self.put(b'\t');
-            self.number(number);
+            self.signed(z);
         }
         self.put(b'\n');
     }
@@ -148,7 +131,7 @@ impl Written<'_> {
 
 /// How many bytes a line has.
 fn measured(word: &[u8], numbers: &[u32]) -> usize {
-    word.len() + numbers.iter().map(|&number| 1 + digits(number)).sum::<usize>() + 1
+    word.len() + numbers.iter().map(|&number| 1 + length(i64::from(number))).sum::<usize>() + 1
 }
 
 /// The call: the log's sheet goes in front of the lent text; how many bytes it has.
