@@ -24,6 +24,8 @@ use Rattle.logrecords.specs.declared.Next.{Next}
 use Rattle.logrecords.specs.declared.Next.the-variants.{Found, End, Bad}
 use Rattle.logrecords.proofs.Next.{the-type}
 use Rattle.logrecords.specs.Outcome.{LineStands, NextRecord, found, ended, other}
+use Rattle.logreader.specs.declared.Answered.{Answered}
+use Rattle.logreader.specs.Outcome.{place-after, AnsweredAt}
 
 -- the numbers of a record's line are the record's
 own-numbers : (ns : List ℕ) → length ns ≡ width → numbers (record-at ns 0) ≡ ns
@@ -34,22 +36,25 @@ own-numbers ns h = sym (append-nil (numbers (record-at ns 0))) ∙ log-first 1 n
 after-line : {b : List ℕ} {at : ℕ} {ns : List ℕ} (s : LineStands b at ns) → drop (at + length (line K (map pos ns))) b ≡ s .after
 after-line {b} {at} {ns} s = let z = length (line K (map pos ns)) in sym (drop-drop z at b) ∙ ap (drop z) (s .line .bytes) ∙ drop-at (line K (map pos ns)) (s .after) z refl
 
--- the line of a record that was answered, and its numbers
-pub record FoundLine (b : List ℕ) (at : ℕ) (r : Record) (c : Cursor) : Type 0 where
-  pub passed : LinePassed (drop at b) (drop (c .at) b)
+-- the line of a record that was answered, up to where the reader stands then, and its numbers
+pub record FoundLine (b : List ℕ) (at : ℕ) (r : Record) (to : ℕ) : Type 0 where
+  pub passed : LinePassed (drop at b) (drop to b)
   pub told : numbers (meant r) ≡ passed .ns
 
-pub found-line : {b : List ℕ} {at : ℕ} (r : Record) (c : Cursor) → NextRecord b at (Found r c) → FoundLine b at r c
-found-line {b} {at} r c (found {ns = ns} {r = x} s m e) =
-    let p : c .at ≡ at + length (line K (map pos ns)) = cc in
-    let q : r ≡ x = cc in
-    record { passed = record { ns = ns; count = s .count; here = rw (p, after-line s) (s .line) }; told = ap numbers (ap meant q ∙ m) ∙ own-numbers ns (s .count) }
-found-line r c (ended h e) = let z : _≡_ {A = ℕ} 0 1 = cc in absurd (omega arith)
-found-line r c (other h none e) = let z : _≡_ {A = ℕ} 0 1 = cc in absurd (omega arith)
+pub found-line : {b : List ℕ} {at : ℕ} {a : Answered} (r : Record) (c : Cursor) → AnsweredAt b at a → a .next ≡ Found r c → FoundLine b at r (a .at)
+found-line {b} {at} {a} r c w f = go (w .answer)
+  where
+    go : NextRecord b at (a .next) → FoundLine b at r (a .at)
+    go (found {ns = ns} {r = x} s m e) =
+        let p : a .at ≡ at + length (line K (map pos ns)) = w .kept ∙ ap (λ n. place-after n at) e in
+        let q : r ≡ x = cc in
+        record { passed = record { ns = ns; count = s .count; here = rw (p, after-line s) (s .line) }; told = ap numbers (ap meant q ∙ m) ∙ own-numbers ns (s .count) }
+    go (ended h e) = let z : _≡_ {A = ℕ} 0 1 = cc in absurd (omega arith)
+    go (other h none e) = let z : _≡_ {A = ℕ} 0 1 = cc in absurd (omega arith)
 
 -- its numbers are put
-pub numbers-put : {b : List ℕ} {at : ℕ} {r : Record} {c : Cursor} (room room′ : List ℕ) (start : ℕ) → FoundLine b at r c → room′ ≡ sets room start (numbers (meant r)) →
-    PutFrom (LineOf pos most-digits K (drop at b)) width room start room′ (drop (c .at) b)
+pub numbers-put : {b : List ℕ} {at to : ℕ} {r : Record} (room room′ : List ℕ) (start : ℕ) → FoundLine b at r to → room′ ≡ sets room start (numbers (meant r)) →
+    PutFrom (LineOf pos most-digits K (drop at b)) width room start room′ (drop to b)
 numbers-put room room′ start l put = let p = l .passed in record { zs = p .ns; count = p .count; here = p .here; put = put ∙ ap (sets room start) (l .told) }
 
 -- an answer that is not the first of the three is no record

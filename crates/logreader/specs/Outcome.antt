@@ -17,6 +17,7 @@ use Rattle.logsheet.specs.declared.LogSheet.{LogSheet}
 use Rattle.logsheet.specs.declared.LogSheet.the-variants.{Read, Refused}
 use Rattle.logsheet.specs.Outcome.{NoRoom}
 use Rattle.logreader.specs.declared.Reader.{Reader}
+use Rattle.logreader.specs.declared.Answered.{Answered}
 
 -- where a reader that stood at a place stands once it was answered so: past the record's line, or where it stood
 abbrev pub place-after : Next → ℕ → ℕ
@@ -29,6 +30,11 @@ pub record Asked (r r′ : Reader) (a : Next) : Type 0 where
   pub same : r′ .bytes ≡ r .bytes
   pub answer : NextRecord (now (r .bytes)) (r .at) a
   pub place : r′ .at ≡ place-after a (r .at)
+
+-- a reader made at a place of b, asked once: what it answers, and the place that it then keeps
+pub record AnsweredAt (b : List ℕ) (at : ℕ) (a : Answered) : Type 0 where
+  pub answer : NextRecord b at (a .next)
+  pub kept : a .at ≡ place-after (a .next) at
 
 -- those of opening: 12 for size and first line, 2 for its counts. Then 12 where no lines of records to the end follow, and 3 for room
 unfoldable pub each-refusals : List ℕ → ℕ → Refusals

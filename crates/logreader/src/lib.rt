@@ -9,8 +9,7 @@ ghost use Rattle.lines.specs.Kinds.{K};
 ghost use Rattle.reading.specs.Inner.{LinesOf};
 ghost use Rattle.heading.specs.Heading.{most-digits};
 ghost use Rattle.logform.specs.Inner.{WhatIsLeft};
-ghost use Rattle.logrecords.specs.Outcome.{NextRecord};
-ghost use Rattle.logreader.specs.Outcome.{place-after, Asked, EachRecord};
+ghost use Rattle.logreader.specs.Outcome.{place-after, Asked, AnsweredAt, EachRecord};
 use logform::Left;
 use logrecords::Next;
 use logrecords::Opened;
@@ -56,12 +55,22 @@ pub fn next<'s, 'a>(r: &'s mut Reader<'a>) -> Next
     found
 }
 
-// The record at a place of a sheet, asked of a reader that is made there.
-pub fn ask(bytes: &[u8], from: Cursor) -> Next
-    ensures { λ a. ⌜ NextRecord (now (bytes .entry)) (from .at) a ⌝ }
+// What a reader answered, and where it stands then.
+pub struct Answered {
+    pub next: Next,
+    pub at: usize,
+}
+
+// The record at a place of a sheet, asked of a reader that is made there; and the place that the reader then keeps.
+pub fn ask(bytes: &[u8], from: Cursor) -> Answered
+    ensures { λ a. ⌜ AnsweredAt (now (bytes .entry)) (from .at) a ⌝ }
 {
     let mut r = reader_at(bytes, from);
-    next(&mut r)
+    let found = next(&mut r);
+    Answered {
+        next: found,
+        at: r.at,
+    }
 }
 
 // Counts the records from a place on, to the end.
@@ -71,11 +80,12 @@ fn records_on(bytes: &[u8], from: Cursor) -> Left
     let mut k = from.at;
     let mut count: usize = 0;
     while k < bytes.len() {
-        let found = ask(bytes, Cursor { at: k });
-        let Next::Found(_, after) = found else {
+        let answered = ask(bytes, Cursor { at: k });
+        let found = answered.next;
+        let Next::Found(_, _) = found else {
             return Left::Other;
         };
-        k = after.at;
+        k = answered.at;
         count += 1;
     }
     Left::Lines(count)
@@ -90,12 +100,13 @@ fn put_records(bytes: &[u8], from: Cursor, count: usize, log: &mut [u32]) -> Pas
     let mut start: usize = 0;
     let mut i: usize = 0;
     while i < count {
-        let found = ask(bytes, Cursor { at: k });
-        let Next::Found(r, after) = found else {
+        let answered = ask(bytes, Cursor { at: k });
+        let found = answered.next;
+        let Next::Found(r, _) = found else {
             return Passed::Bad;
         };
         record::write_record(log, start, r);
-        k = after.at;
+        k = answered.at;
         start += record::WIDTH;
         i += 1;
     }

@@ -40,7 +40,7 @@ unfolding ReadInto
 returns c =
     let loop = c .before .before .before .loop in
     let loop-test = c .before .before .loop-test in
-    lines-stop (loop .inv) (loop-test .taken) (no-line (c .before .ask .ensures) (c .match .keys2))
+    lines-stop (loop .inv) (loop-test .taken) (no-line (c .before .ask .ensures .answer) (c .match .keys2))
 
 write-record-requires : tie.Need-write-record-requires Inv-loop μ-loop
 write-record-requires c κs =
@@ -71,7 +71,7 @@ loop-again c =
     let ask = c .before .before .before .before .before .before .before .ask in
     let here = c .before .before .before .before .before .found .given in
     let write-record = c .before .before .write-record in
-    lines-next (loop .inv) _ (here .0 .1 .0 .at) (loop-test .taken) (numbers-put _ _ _ (found-line (here .0 .0) (here .0 .1 .0) (rw (here .1) at (ask .ensures))) (write-record .ensures))
+    lines-next (loop .inv) _ (ask .result .at) (loop-test .taken) (numbers-put _ _ _ (found-line (here .0 .0) (here .0 .1 .0) (ask .ensures) (here .1)) (write-record .ensures))
 
 same-length-2 : tie.Need-same-length-2 Inv-loop μ-loop
 same-length-2 c = put-length (c .before .loop .inv .put)

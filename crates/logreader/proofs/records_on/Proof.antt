@@ -20,34 +20,34 @@ loop-holds c = passing-start (c .before .args .bytes .now) (c .before .args .fro
 ask-requires : tie.Need-ask-requires Inv-loop μ-loop
 ask-requires c κs = search needs
 
-enum-known-found : tie.Need-enum-known-found Inv-loop μ-loop
-enum-known-found c = search needs
+enum-told : tie.Need-enum-told Inv-loop μ-loop
+enum-told c = search needs
 
 returns : tie.Need-returns Inv-loop μ-loop
 unfolding WhatIsLeft
 returns c =
     let loop = c .before .before .before .loop in
     let loop-test = c .before .before .loop-test in
-    other-stands (loop .inv) (loop-test .taken) (no-line (c .before .ask .ensures) (c .match .keys2))
+    other-stands (loop .inv) (loop-test .taken) (no-line (c .before .ask .ensures .answer) (c .match .keys2))
 
 add-count : tie.Need-add-count Inv-loop μ-loop
 add-count c =
-    let loop = c .before .before .before .before .before .loop in
+    let loop = c .before .before .before .before .loop in
     let h = few-lines (loop .inv) in search needs
 
 loop-less : tie.Need-loop-less Inv-loop μ-loop
 loop-less c =
-    let loop = c .before .before .before .before .before .loop in
-    let ask = c .before .before .before .ask in
-    let here = c .before .found .given in
-    nearer (loop .inv) (here .0 .1 .0 .at) (found-line (here .0 .0) (here .0 .1 .0) (rw (here .1) at (ask .ensures)) .passed)
+    let loop = c .before .before .before .before .loop in
+    let ask = c .before .before .ask in
+    let here = c .enum-told .given in
+    nearer (loop .inv) (ask .result .at) (found-line (here .0 .0) (here .0 .1 .0) (ask .ensures) (here .1) .passed)
 
 loop-again : tie.Need-loop-again Inv-loop μ-loop
 loop-again c =
-    let loop = c .before .before .before .before .before .loop in
-    let ask = c .before .before .before .ask in
-    let here = c .before .found .given in
-    passing-next (loop .inv) (here .0 .1 .0 .at) (found-line (here .0 .0) (here .0 .1 .0) (rw (here .1) at (ask .ensures)) .passed)
+    let loop = c .before .before .before .before .loop in
+    let ask = c .before .before .ask in
+    let here = c .enum-told .given in
+    passing-next (loop .inv) (ask .result .at) (found-line (here .0 .0) (here .0 .1 .0) (ask .ensures) (here .1) .passed)
 
 returns-2 : tie.Need-returns-2 Inv-loop μ-loop
 unfolding WhatIsLeft
@@ -61,7 +61,7 @@ records-on-spec =
     μ-loop
     loop-holds
     ask-requires
-    enum-known-found
+    enum-told
     returns
     add-count
     loop-less
