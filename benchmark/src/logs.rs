@@ -104,18 +104,16 @@ impl Written<'_> {
         self.end += 1;
     }
 
-    fn digits(&mut self, size: u64) {
-        if size >= 10 {
-            self.digits(size / 10);
-        }
-        self.put(b'0' + (size % 10) as u8);
-    }
-
     fn signed(&mut self, z: i64) {
-        if z < 0 {
-            self.put(b'-');
+        let (start, mut size) = (self.end, z.unsigned_abs());
+        self.end += length(z);
+        for byte in self.text[start..self.end].iter_mut().rev() {
+            *byte = b'0' + (size % 10) as u8;
+            size /= 10;
         }
-        self.digits(z.unsigned_abs());
+        if z < 0 {
+            self.text[start] = b'-';
+        }
     }
 
     /// A line of plain numbers, staged with their signs.

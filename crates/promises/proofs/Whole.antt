@@ -1,5 +1,5 @@
 -- Demands 2 and 3, and that nothing is left to choose. Demand 1 stands in Refusing.antt.
-use mathlib.Core.Path.{ap}
+use mathlib.Core.Path.{sym, _∙_, ap}
 use mathlib.Core.List.{List}
 use Prim.Native.Nat.{ℕ}
 use lib.IntN.{ℤ}
@@ -47,6 +47,7 @@ nothing-left = record {
   each-record = λ p q. each-one p q;
   open-log = λ p q. opened-one p q;
   next-record = λ p q. next-one p q;
+  reader-at = λ p q. (p .0 ∙ sym (q .0), p .1 ∙ sym (q .1));
   reader = λ p q. asked-one p q;
 }
 

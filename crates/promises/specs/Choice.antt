@@ -62,5 +62,6 @@ pub record NothingLeft : Type 0 where
   pub each-record : {b room : List ℕ} {a₁ a₂ : LogSheet} {room₁ room₂ : List ℕ} → EachRecord b room room₁ a₁ → EachRecord b room room₂ a₂ → (a₁ ≡ a₂) × (room₁ ≡ room₂)
   pub open-log : {b : List ℕ} {a₁ a₂ : Opened} → OpenedLog b a₁ → OpenedLog b a₂ → a₁ ≡ a₂
   pub next-record : {b : List ℕ} {at : ℕ} {a₁ a₂ : Next} → NextRecord b at a₁ → NextRecord b at a₂ → a₁ ≡ a₂
-  -- the answer, and the reader after it
+  -- a reader made of the caller's bytes at a place; then the answer, and the reader after it
+  pub reader-at : {bytes : RefT (List ℕ)} {at : ℕ} {r₁ r₂ : Reader} → (r₁ .bytes ≡ bytes) × (r₁ .at ≡ at) → (r₂ .bytes ≡ bytes) × (r₂ .at ≡ at) → (r₁ .bytes ≡ r₂ .bytes) × (r₁ .at ≡ r₂ .at)
   pub reader : {r r₁ r₂ : Reader} {a₁ a₂ : Next} → Asked r r₁ a₁ → Asked r r₂ a₂ → (a₁ ≡ a₂) × (r₁ .bytes ≡ r₂ .bytes) × (r₁ .at ≡ r₂ .at)
