@@ -11,21 +11,27 @@ use flaxglimmer::{LogCounts, Opened, Record};
 
 pub const MOST_BYTES: usize = 65_536;
 
-/// The plain numbers of the next line, which has this word and so many of them: staged with their signs, then narrowed.
-fn line<const N: usize>(lines: &mut Reader, word: &[u8]) -> Result<[u32; N], Refusal> {
-    let (mut staged, mut numbers) = ([0; N], [0; N]);
-    lines.line(word, &mut staged)?;
-    for (number, &z) in numbers.iter_mut().zip(&staged) {
+/// No line has more numbers.
+const MOST_LINE: usize = 16;
+
+/// The plain numbers of the next line, which has this word and as many of them as the room: staged with their signs, then narrowed.
+fn number_line(lines: &mut Reader, word: &[u8], room: &mut [u32]) -> Result<(), Refusal> {
+    let mut staged = [0; MOST_LINE];
+    let staged = &mut staged[..room.len()];
+    lines.line(word, staged)?;
+    for (number, &mut z) in room.iter_mut().zip(staged) {
         if z < 0 {
             return Err(SheetForm);
         }
         *number = z as u32;
     }
-    Ok(numbers)
+    Ok(())
 }
 
 fn record(lines: &mut Reader) -> Result<Record, Refusal> {
-    line(lines, b"K")
+    let mut numbers = [0; WIDTH];
+    number_line(lines, b"K", &mut numbers)?;
+    Ok(numbers)
 }
 
 /// Whether the counts are inside their limits, and the records no more than the corners allow.
@@ -39,7 +45,9 @@ fn first_line(bytes: &[u8]) -> Result<(usize, usize, Reader<'_>), Refusal> {
         return Err(SheetForm);
     }
     let mut lines = Reader { left: bytes };
-    let [corners, rows] = line(&mut lines, b"LOG")?;
+    let mut counts = [0; 2];
+    number_line(&mut lines, b"LOG", &mut counts)?;
+    let [corners, rows] = counts;
     Ok((corners as usize, rows as usize, lines))
 }
 
@@ -57,7 +65,7 @@ pub fn read(bytes: &[u8], log: &mut [u32], work: &mut impl Work) -> Result<LogCo
     }
     let room = log.get_mut(..WIDTH * records).ok_or(RoomShort)?;
     for numbers in room.chunks_exact_mut(WIDTH) {
-        numbers.copy_from_slice(&record(&mut lines)?);
+        number_line(&mut lines, b"K", numbers)?;
     }
     Ok(LogCounts { corners, rows, records })
 }
