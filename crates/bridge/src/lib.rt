@@ -216,7 +216,7 @@ pub extern "C" fn flaxglimmer_read_log_sheet(
     read.status
 }
 
-// The same, record by record, by the reader that keeps the sheet and its own place.
+// The same, record by record: each is asked of a reader, from the place that the one before keeps.
 #[no_mangle]
 pub extern "C" fn flaxglimmer_each_record(
     bytes: &[u8],

@@ -15,11 +15,15 @@ use Rattle.logrecords.specs.Answer.{told-next}
 use Rattle.logrecords.specs.Walk.{told-record, Tells, Gives, Walked, Broken}
 use Rattle.logrecords.proofs.Main.{next-one}
 use Rattle.logreader.specs.declared.Reader.{Reader}
-use Rattle.logreader.specs.Outcome.{place-after, Asked}
+use Rattle.logreader.specs.declared.Answered.{Answered}
+use Rattle.logreader.specs.Outcome.{place-after, Asked, AnsweredAt}
 use Rattle.logreader.specs.Walk.{TellsOn, GivesOn, AskedOn, BrokenOn}
 
 pub asked-one : {r r₁ r₂ : Reader} {a₁ a₂ : Next} → Asked r r₁ a₁ → Asked r r₂ a₂ → (a₁ ≡ a₂) × (r₁ .bytes ≡ r₂ .bytes) × (r₁ .at ≡ r₂ .at)
 asked-one {r} p q = let e = next-one (p .answer) (q .answer) in (e, p .same ∙ sym (q .same), p .place ∙ ap (λ a. place-after a (r .at)) e ∙ sym (q .place))
+
+pub answered-one : {b : List ℕ} {at : ℕ} {a₁ a₂ : Answered} → AnsweredAt b at a₁ → AnsweredAt b at a₂ → (a₁ .next ≡ a₂ .next) × (a₁ .at ≡ a₂ .at)
+answered-one {at = at} p q = let e = next-one (p .answer) (q .answer) in (e, p .kept ∙ ap (λ a. place-after a at) e ∙ sym (q .kept))
 
 -- the value at place i of what is told
 abbrev value : ℕ → Told → ℕ

@@ -1,4 +1,5 @@
-// A reader that keeps the caller's log sheet and its own place, and is asked for one record at a time; and a log read through it, record by record.
+// A reader that keeps the caller's log sheet and its own place, and is asked for one record at a time; and a log read record by record, each asked of
+// a reader, from the place that the one before keeps.
 ghost use mathlib.Core.Path.{_≡_};
 ghost use Prim.Native.Nat.{_*_, _≤_};
 ghost use lib.IntN.{pos};

@@ -22,7 +22,7 @@ pub enum Next {
     Bad,
 }
 
-// The place after a line, as it was read: past the end where nothing is left, and then the end is meant.
+// The place after a line. Where nothing is left, its reader's contract allows any place past the end; the end is meant.
 fn within(bytes: &[u8], at: usize) -> usize
     ensures { λ r. ⌜ r ≡ at - (at - length (now (bytes .entry))) ⌝ }
 {

@@ -14,7 +14,7 @@ use Rattle.engine.proofs.Whole.{used-most}
 use Rattle.refusal.specs.Told as answers
 use Rattle.refusal.specs.First.{First}
 use Rattle.refusal.specs.declared.Verdict.the-variants as verdict
-use Rattle.refusal.proofs.Laws.{verdicts, first-one, refused-passes, passes-none, none-yet, _nor_}
+use Rattle.refusal.proofs.Laws.{verdicts, first-one, refused-passes, passed, passes-none, none-yet, _nor_}
 use Rattle.refusal.proofs.Outcome.{refused-done}
 use Rattle.faults.specs.Counts.{corners}
 use Rattle.run.proofs.Main.{taken-replayed}
@@ -38,12 +38,12 @@ use Rattle.logsheet.proofs.Main.{its-log-sheet, log-size, written-reads}
 use Rattle.logrecords.specs.declared.Opened.{Opened}
 use Rattle.logrecords.specs.declared.Opened.the-variants as opens
 use Rattle.logrecords.specs.Answer.{told-opened}
-use Rattle.logrecords.specs.Outcome.{OpenedLog, unopened, opened}
+use Rattle.logrecords.specs.Outcome.{open-refusals, OpenedLog, unopened, opened}
 use Rattle.logrecords.specs.Walk.{Walked, BreaksAfter, Broken}
 use Rattle.logrecords.proofs.Main.{opened-one}
 use Rattle.logrecords.proofs.Walking.{walked-through, broken-off}
 use Rattle.logreader.specs.Outcome as asking
-use Rattle.logreader.specs.Outcome.{EachRecord}
+use Rattle.logreader.specs.Outcome.{each-refusals, EachRecord}
 use Rattle.logreader.proofs.Main.{open-passes, each-as-read, reader-through, reader-breaks}
 use Rattle.promises.specs.Mailing.{Mailed, LogSheets}
 use Rattle.promises.proofs.Back.{restored, restored-from, replayed, leads-rest}
@@ -165,13 +165,32 @@ module _ {d : Asked} {xs : List ℤ} {t l : List ℕ} {k : ℕ} {t′ l′ : Lis
 
 -- ---- one by one
 
+-- a sheet that is opened with some counts
+opens-at : {b : List ℕ} {n m : ℕ} {log : List ℕ} {c : Opened} → First (open-refusals b) verdict.Passes → LogSheetOf b n m log → OpenedLog b c → c ≡ opens.At n m (record { at = length (first-line LOG n m) })
+opens-at f s o = opened-one o (opened f (record { rest = _; line = its-line s }) refl)
+
+-- what passes the reading record by record is opened
+each-opens : (b : List ℕ) (room : ℕ) → First (each-refusals b room) verdict.Passes → First (open-refusals b) verdict.Passes
+unfolding each-refusals open-refusals
+each-opens b room f =
+    let a = passed verdicts _ _ f in
+    let c = passed verdicts _ _ (a .1) in
+    let d = passed verdicts _ _ (c .1) in
+    passes-none verdicts _ .1 (a .0 nor c .0 nor d .0 nor none-yet)
+
+walks-each : {n m k : ℕ} {b room room′ : List ℕ} {a : LogSheet} {c : Opened} → EachRecord b room room′ a → logs.told a ≡ answers.done (pos n ∷ pos m ∷ pos k ∷ []) → OpenedLog b c →
+    (at : ℕ) × (told-opened c ≡ answers.done (pos n ∷ pos m ∷ pos at ∷ [])) × Walked b at (records (take (room-for k) room′))
+walks-each (asking.unread {r = r} f e p) t o = absurd (refused-done r (sym (ap logs.told e) ∙ t))
+walks-each {n} {m} {k} {b} {room} {room′} (asking.each f s e p) t o =
+    let h = has-each (asking.each f s e p) t in
+    (length (first-line LOG n m), ap told-opened (opens-at (each-opens b (length room) f) (h .sheet) o), rw (h .stands) (walked-through (h .sheet)))
+
 walks : {n m k : ℕ} {b room room′ : List ℕ} {a : LogSheet} {c : Opened} → ReadLogSheet b room room′ a → logs.told a ≡ answers.done (pos n ∷ pos m ∷ pos k ∷ []) → OpenedLog b c →
     (at : ℕ) × (told-opened c ≡ answers.done (pos n ∷ pos m ∷ pos at ∷ [])) × Walked b at (records (take (room-for k) room′))
 walks (refused {r = r} f e p) t o = absurd (refused-done r (sym (ap logs.told e) ∙ t))
 walks {n} {m} {k} {b} {room} {room′} (read f s e p) t o =
     let h = has-read (read f s e p) t in
-    let z = opened-one o (opened (open-passes (h .sheet) (length room) f) (record { rest = _; line = its-line (h .sheet) }) refl) in
-    (length (first-line LOG n m), ap told-opened z, rw (h .stands) (walked-through (h .sheet)))
+    (length (first-line LOG n m), ap told-opened (opens-at (open-passes (h .sheet) (length room) f) (h .sheet) o), rw (h .stands) (walked-through (h .sheet)))
 
 -- the place after the first line
 opened-place : {b : List ℕ} {n m at : ℕ} {c : Opened} → OpenedLog b c → told-opened c ≡ answers.done (pos n ∷ pos m ∷ pos at ∷ []) → at ≡ length (first-line LOG n m)
@@ -202,7 +221,8 @@ log-sheets = record {
   writes = λ o w p q e h g. can-write (front-writable w p q e) h g;
   writes-from = λ o w p q e h g. can-write (rest-writable w p q e) h g;
   one-by-one = λ r t o. walks r t o;
-  by-reader = λ r w t o g. let h = has-read w t in rw (h .stands) (reader-through r (h .sheet) (opened-place o g));
+  one-by-one-each = λ r t o. walks-each r t o;
+  by-reader = λ r w t o g. let h = has-each w t in rw (h .stands) (reader-through r (h .sheet) (opened-place o g));
   each = λ r t x. each-too r t x;
   breaks-off = λ w o t. rw (opened-place o t) (broken-off w);
   reader-breaks-off = λ r w o t. reader-breaks r w (opened-place o t);

@@ -191,4 +191,5 @@ demand-one = record {
   each-record-same = λ w r p. each-same w r p;
   open-log = λ w. open-refuses w;
   next-record = λ w. next-refuses w;
+  reader = λ w. next-refuses (w .answer);
 }

@@ -21,7 +21,7 @@ use Rattle.reply.proofs.Main.{replied-one}
 use Rattle.logsheet.proofs.Main.{read-log-one, wrote-log-one}
 use Rattle.logrecords.proofs.Main.{opened-one, next-one}
 use Rattle.logreader.proofs.Main.{each-one}
-use Rattle.logreader.proofs.Again.{asked-one}
+use Rattle.logreader.proofs.Again.{asked-one, answered-one}
 use Rattle.promises.specs.Choice.{NothingLeft}
 use Rattle.promises.specs.Thinning.{DoneWith, DemandTwo, DemandThree}
 use Rattle.promises.specs.Stages.{StagesLeft}
@@ -49,6 +49,7 @@ nothing-left = record {
   next-record = λ p q. next-one p q;
   reader-at = λ p q. (p .0 ∙ sym (q .0), p .1 ∙ sym (q .1));
   reader = λ p q. asked-one p q;
+  ask = λ p q. answered-one p q;
 }
 
 -- what tells 0 and k records is done with k

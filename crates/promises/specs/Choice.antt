@@ -33,9 +33,10 @@ use Rattle.logrecords.specs.declared.Opened.{Opened}
 use Rattle.logrecords.specs.declared.Next.{Next}
 use Rattle.logrecords.specs.Outcome.{OpenedLog, NextRecord}
 use Rattle.logreader.specs.declared.Reader.{Reader}
-use Rattle.logreader.specs.Outcome.{Asked, EachRecord}
+use Rattle.logreader.specs.declared.Answered.{Answered}
+use Rattle.logreader.specs.Outcome.{Asked, AnsweredAt, EachRecord}
 
--- the calls in the order of their numbers over a pipe: 1 to 15, 24, 25; each line names the relation that the call's `ensures` states
+-- the calls in the order of their numbers over a pipe, 1 to 15, 24, 25, then the reader's own functions; each line names the relation that the call's `ensures` states
 pub record NothingLeft : Type 0 where
   -- the answer, the table and the log
   pub thin : (o : Order) {xs : List ℤ} {t l : List ℕ} {a b : Thinning} {t₁ t₂ l₁ l₂ : List ℕ} → Thinned o xs t l a t₁ l₁ → Thinned o xs t l b t₂ l₂ → (a ≡ b) × (t₁ ≡ t₂) × (l₁ ≡ l₂)
@@ -65,3 +66,5 @@ pub record NothingLeft : Type 0 where
   -- a reader made of the caller's bytes at a place; then the answer, and the reader after it
   pub reader-at : {bytes : RefT (List ℕ)} {at : ℕ} {r₁ r₂ : Reader} → (r₁ .bytes ≡ bytes) × (r₁ .at ≡ at) → (r₂ .bytes ≡ bytes) × (r₂ .at ≡ at) → (r₁ .bytes ≡ r₂ .bytes) × (r₁ .at ≡ r₂ .at)
   pub reader : {r r₁ r₂ : Reader} {a₁ a₂ : Next} → Asked r r₁ a₁ → Asked r r₂ a₂ → (a₁ ≡ a₂) × (r₁ .bytes ≡ r₂ .bytes) × (r₁ .at ≡ r₂ .at)
+  -- the answer of one that is made for it, and the place that it then keeps
+  pub ask : {b : List ℕ} {at : ℕ} {a₁ a₂ : Answered} → AnsweredAt b at a₁ → AnsweredAt b at a₂ → (a₁ .next ≡ a₂ .next) × (a₁ .at ≡ a₂ .at)

@@ -84,8 +84,11 @@ pub record LogSheets : Type 0 where
   -- one by one the records of a sheet are those of the whole reading, and then comes the end
   pub one-by-one : {n m k : ℕ} {b room room′ : List ℕ} {a : LogSheet} {c : Opened} → ReadLogSheet b room room′ a → logs.told a ≡ answers.done (pos n ∷ pos m ∷ pos k ∷ []) → OpenedLog b c →
       (at : ℕ) × (told-opened c ≡ answers.done (pos n ∷ pos m ∷ pos at ∷ [])) × Walked b at (records (take (room-for k) room′))
+  -- those of any sheet that reads record by record too
+  pub one-by-one-each : {n m k : ℕ} {b room room′ : List ℕ} {a : LogSheet} {c : Opened} → EachRecord b room room′ a → logs.told a ≡ answers.done (pos n ∷ pos m ∷ pos k ∷ []) → OpenedLog b c →
+      (at : ℕ) × (told-opened c ≡ answers.done (pos n ∷ pos m ∷ pos at ∷ [])) × Walked b at (records (take (room-for k) room′))
   -- and so are those that a reader gives, which keeps the sheet and its own place
-  pub by-reader : (r : Reader) {n m k : ℕ} {room room′ : List ℕ} {a : LogSheet} {c : Opened} → ReadLogSheet (now (r .bytes)) room room′ a → logs.told a ≡ answers.done (pos n ∷ pos m ∷ pos k ∷ []) →
+  pub by-reader : (r : Reader) {n m k : ℕ} {room room′ : List ℕ} {a : LogSheet} {c : Opened} → EachRecord (now (r .bytes)) room room′ a → logs.told a ≡ answers.done (pos n ∷ pos m ∷ pos k ∷ []) →
       OpenedLog (now (r .bytes)) c → told-opened c ≡ answers.done (pos n ∷ pos m ∷ pos (r .at) ∷ []) → AskedOn r (records (take (room-for k) room′))
   -- where the whole reading reads, reading record by record answers the same and leaves the same
   pub each : {b room room₁ room₂ : List ℕ} {n m k : ℕ} {a z : LogSheet} → ReadLogSheet b room room₁ a → logs.told a ≡ answers.done (pos n ∷ pos m ∷ pos k ∷ []) → EachRecord b room room₂ z →

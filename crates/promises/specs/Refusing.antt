@@ -7,6 +7,7 @@ use mathlib.Core.List.{List}
 use Prim.Native.Nat.{ℕ, _<_}
 use lib.IntN.{ℤ}
 use lib.ListN.{length}
+use denote.Ref.{now}
 use Rattle.follow.specs.Follow.{Followed}
 use Rattle.surface.specs.Rows.{Row}
 use Rattle.refusal.specs.declared.Refusal.{Refusal}
@@ -53,7 +54,8 @@ use Rattle.logrecords.specs.declared.Opened.{Opened}
 use Rattle.logrecords.specs.declared.Next.{Next}
 use Rattle.logrecords.specs.Answer.{told-opened, told-next}
 use Rattle.logrecords.specs.Outcome.{open-refusals, OpenedLog, LineStands, NextRecord}
-use Rattle.logreader.specs.Outcome.{each-refusals, EachRecord}
+use Rattle.logreader.specs.declared.Reader.{Reader}
+use Rattle.logreader.specs.Outcome.{Asked, each-refusals, EachRecord}
 
 -- 13 and a number of records are told exactly when no refusal of the list holds and the records stop after so many; the rows that these led to are left
 pub record Fails (l : Refusals) (Stops : ℕ → List Row → Type 0) (Left : List Row → Type 0) (v : Told) : Type 0 where
@@ -95,6 +97,8 @@ pub record DemandOne : Type 0 where
   pub each-record : {b room : List ℕ} {a : LogSheet} {room′ : List ℕ} → EachRecord b room room′ a → Refuses (each-refusals b (length room)) (logs.told a)
   pub each-record-same : {b room : List ℕ} {a : LogSheet} {room′ : List ℕ} → EachRecord b room room′ a → (r : Refusal) → logs.told a ≡ refused r → room′ ≡ room
   pub open-log : {b : List ℕ} {a : Opened} → OpenedLog b a → Refuses (open-refusals b) (told-opened a)
-  -- 12 exactly where a byte follows the place and no record's line stands there
+  -- 12 exactly where a byte follows the place and no record's line stands there; by a reader too, at its own place
   pub next-record : {b : List ℕ} {at : ℕ} {a : Next} → NextRecord b at a → (at < length b → ((ns : List ℕ) → ¬ LineStands b at ns) → told-next a ≡ refused-as 12)
       × ((r : Refusal) → told-next a ≡ refused r → (at < length b) × ((ns : List ℕ) → ¬ LineStands b at ns))
+  pub reader : {r r′ : Reader} {a : Next} → Asked r r′ a → (r .at < length (now (r .bytes)) → ((ns : List ℕ) → ¬ LineStands (now (r .bytes)) (r .at) ns) → told-next a ≡ refused-as 12)
+      × ((q : Refusal) → told-next a ≡ refused q → (r .at < length (now (r .bytes))) × ((ns : List ℕ) → ¬ LineStands (now (r .bytes)) (r .at) ns))
