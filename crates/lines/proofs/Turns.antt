@@ -1,24 +1,24 @@
 -- What holds between two fields, and why each way out of the readers is right.
 use mathlib.Core.Path.{_≡_, refl, sym, _∙_, ap, subst}
-use mathlib.Core.List.{List, [], _∷_, _++_, append-assoc, append-nil, append-cancel-left}
+use mathlib.Core.List.{List, [], _∷_, _++_, append-assoc, append-nil, append-cancel-left, map, map-id, map-append}
 use Prim.Native.Nat.{ℕ, suc, _+_, _≤_, _<_}
 use native.Mathlib.Omega.{arith}
-use lib.IntN.{ℤ, natAbs}
-use lib.ListN.{length, length-append, take, drop, set}
-use lib.Seq.{sets, length-sets, sets-eq, take-at}
+use lib.IntN.{ℤ, pos, natAbs}
+use lib.ListN.{length, length-append, length-map, take, drop, length-drop, set}
+use lib.Seq.{sets, length-sets, sets-eq, take-at, drop-at}
 use mir.Syntax.{w64}
 use mir.Val.{SFits}
 use Rattle.ints.proofs.Machine.{sfits-abs}
-use Rattle.text.specs.Decimal.{signed}
-use Rattle.text.specs.InnerReading.{ReadSigned, Expected}
+use Rattle.text.specs.Decimal.{decimal, signed}
+use Rattle.text.specs.InnerReading.{NumberAt, ReadSigned, Expected}
 use Rattle.text.specs.declared.Signed.{Signed}
 use Rattle.text.specs.declared.Signed.the-variants as whole
 use Rattle.text.specs.declared.Passed.{Passed}
 use Rattle.text.specs.declared.Passed.the-variants.{To, Bad}
 use Rattle.text.proofs.Digits.{digits-below}
 use Rattle.lines.specs.Lines.{tab, newline, fields, FewDigits, LineAt}
-use Rattle.lines.specs.Inner.{FieldAt, FieldsAt, ReadField, PutFrom, ReadInto}
-use Rattle.lines.proofs.Cut.{short-append, short-right, fields-append, after-field, newline-no-digit, cut, fields-unique, line-after}
+use Rattle.lines.specs.Inner.{FieldAt, FieldsOf, ReadField, PutFrom, ReadInto}
+use Rattle.lines.proofs.Cut.{map-drop, short-append, short-right, fields-append, after-field, newline-no-digit, cut, fields-unique, line-after}
 
 -- ---- one field
 
@@ -30,6 +30,20 @@ field-read most s at c e whole.Bad a = λ z r b. a z r (record { bytes = (let f 
 pub field-none : (most : ℕ) (s : List ℕ) (at : ℕ) → ((r : List ℕ) → ¬ (drop at s ≡ tab ∷ r)) → ReadField most s at whole.Bad
 unfolding ReadField
 field-none most s at h = λ z r b. h (signed z ++ r) (b .bytes)
+
+-- ---- a plain number after its tab
+
+module _ {most : ℕ} {l x : List ℕ} (e : l ≡ tab ∷ x) where
+  pub plain-field : {v : ℕ} {r : List ℕ} → NumberAt most x v r → FieldAt most l (pos v) r
+  plain-field a = record { bytes = e ∙ ap (λ y. tab ∷ y) (a .bytes); short = a .short; ends = a .ends }
+
+  pub no-plain : ((v : ℕ) (r : List ℕ) → ¬ NumberAt most x v r) → (v : ℕ) (r : List ℕ) → ¬ FieldAt most l (pos v) r
+  no-plain h v r a = h v r (record { bytes = (let f : tab ∷ x ≡ tab ∷ (decimal v ++ r) = sym e ∙ a .bytes in cc); short = a .short; ends = a .ends })
+
+-- ---- how big a field is
+
+pub field-small : {most : ℕ} {l : List ℕ} {z : ℤ} {r : List ℕ} → most ≤ 18 → FieldAt most l z r → SFits w64 z
+field-small {z = z} m a = let h = a .short in sfits-abs w64 z (omega (arith, digits-below (natAbs z) 18 (omega arith)))
 
 -- ---- stores one after another
 
@@ -53,79 +67,90 @@ in-front l xs h = let e : 0 + length xs ≡ length xs = omega arith in sets-eq x
 pub front : {A : Type 0} (l l′ xs : List A) (n : ℕ) → l′ ≡ sets l 0 xs → length xs ≡ n → n ≤ length l → take n l′ ≡ xs
 front l l′ xs n p h k = ap (take n) (p ∙ in-front l xs (omega arith)) ∙ take-at xs (drop (length xs) l) n h
 
--- ---- fields
+-- ---- fields, of numbers that stand in a line as up says
 
-module _ (most count : ℕ) (s : List ℕ) (at : ℕ) (room : List ℤ) (start : ℕ) where
+module _ {A : Type 0} (up : A → ℤ) (most count : ℕ) (s : List ℕ) (at : ℕ) (room : List A) (start : ℕ) where
   -- i fields are read, up to k
-  pub record Fielded (room′ : List ℤ) (k i : ℕ) : Type 0 where
+  pub record Fielded (room′ : List A) (k i : ℕ) : Type 0 where
     pub within : i ≤ count
-    pub put : PutFrom (FieldsAt most (drop at s)) i room start room′ (drop k s)
+    pub put : PutFrom (FieldsOf up most (drop at s)) i room start room′ (drop k s)
 
   pub fields-start : Fielded room at 0
   fields-start = record { within = omega arith; put = record { zs = []; count = refl; here = record { bytes = refl; short = tt; ends = λ h. absurd (omega arith) }; put = refl } }
 
-  module _ (room′ : List ℤ) (k i : ℕ) (so : Fielded room′ k i) where
-    pub field-small : {z : ℤ} {r : List ℕ} → most ≤ 18 → FieldAt most (drop k s) z r → SFits w64 z
-    field-small {z} m a = let h = a .short in sfits-abs w64 z (omega (arith, digits-below (natAbs z) 18 (omega arith)))
-
-    pub fields-more : (z : ℤ) (n : ℕ) → i < count → FieldAt most (drop k s) z (drop n s) → Fielded (set room′ (start + i) z) n (i + 1)
-    fields-more z n h a = let p = so .put in record {
-      within = omega arith;
-      put = record {
-        zs = p .zs ++ (z ∷ []);
-        count = length-append (p .zs) (z ∷ []) ∙ (let c = p .count in omega arith);
-        here = record {
-          bytes = p .here .bytes ∙ ap (λ x. fields (p .zs) ++ x) (a .bytes ∙ ap (λ x. tab ∷ (x ++ drop n s)) (sym (append-nil (signed z)))) ∙ sym (append-assoc (fields (p .zs)) (tab ∷ (signed z ++ [])) (drop n s)) ∙ ap (λ x. x ++ drop n s) (sym (fields-append (p .zs) (z ∷ [])));
-          short = short-append most (p .zs) (z ∷ []) (p .here .short) (a .short, tt);
-          ends = λ l. a .ends;
+module _ {A : Type 0} {up : A → ℤ} {most count : ℕ} {s : List ℕ} {at : ℕ} {room : List A} {start : ℕ} {room′ : List A} {k i : ℕ} (so : Fielded up most count s at room start room′ k i) where
+  -- one more; x is what the machine stores
+  pub fields-more : (x y : A) (n : ℕ) → x ≡ y → i < count → FieldAt most (drop k s) (up y) (drop n s) → Fielded up most count s at room start (set room′ (start + i) x) n (i + 1)
+  fields-more x y n e h a =
+      let p = so .put in
+      let zs = p .zs in
+      let both : map up (zs ++ (y ∷ [])) ≡ map up zs ++ (up y ∷ []) = map-append up zs (y ∷ []) in
+      record {
+        within = omega arith;
+        put = record {
+          zs = zs ++ (y ∷ []);
+          count = length-append zs (y ∷ []) ∙ (let c = p .count in omega arith);
+          here = record {
+            bytes = p .here .bytes ∙ ap (λ x. fields (map up zs) ++ x) (a .bytes ∙ ap (λ x. tab ∷ (x ++ drop n s)) (sym (append-nil (signed (up y))))) ∙ sym (append-assoc (fields (map up zs)) (tab ∷ (signed (up y) ++ [])) (drop n s)) ∙ ap (λ x. x ++ drop n s) (sym (ap fields both ∙ fields-append (map up zs) (up y ∷ [])));
+            short = subst (FewDigits most) (sym both) (short-append most (map up zs) (up y ∷ []) (p .here .short) (a .short, tt));
+            ends = λ l. a .ends;
+          };
+          put = put-more room room′ (set room′ (start + i) x) start i zs (y ∷ []) (p .put) (p .count) (ap (set room′ (start + i)) e);
         };
-        put = put-more room room′ (set room′ (start + i) z) start i (p .zs) (z ∷ []) (p .put) (p .count) refl;
-      };
-    }
+      }
 
-    -- the same, of what the machine stores
-    pub fields-stored : (x z : ℤ) (n : ℕ) → x ≡ z → i < count → FieldAt most (drop k s) z (drop n s) → Fielded (set room′ (start + i) x) n (i + 1)
-    fields-stored x z n e h a = subst (λ (y : ℤ). Fielded (set room′ (start + i) y) n (i + 1)) (sym e) (fields-more z n h a)
+  -- no field is next, so there are not enough
+  pub fields-stop : i < count → ((y : A) (r : List ℕ) → ¬ FieldAt most (drop k s) (up y) r) → (ys : List A) (r : List ℕ) → length ys ≡ count → ¬ FieldsOf up most (drop at s) ys r
+  fields-stop h none ys r n b =
+      let p = so .put in
+      let c = p .count in
+      let zs = map up (p .zs) in
+      let l = length-map (p .zs) up in
+      let m = length-map ys up in
+      let v = cut zs (map up ys) (drop k s) r (λ o. p .here .ends (omega arith)) (λ o. b .ends (omega arith)) (omega arith) (sym (p .here .bytes) ∙ b .bytes) in
+      let is : v .ts ≡ map up (drop i ys) = sym (drop-at zs (v .ts) i (l ∙ c)) ∙ ap (drop i) (sym (v .text)) ∙ sym (map-drop up i ys) in
+      go (drop i ys) (omega (arith, length-drop i ys)) (v .after ∙ ap (λ ts. fields ts ++ r) is) (subst (FewDigits most) is (short-right most zs (v .ts) (subst (FewDigits most) (v .text) (b .short))))
+    where
+      go : (us : List A) → 0 < length us → drop k s ≡ fields (map up us) ++ r → FewDigits most (map up us) → ⊥
+      go [] l f m = omega arith
+      go (u ∷ us) l f m = none u (fields (map up us) ++ r) (record {
+        bytes = f ∙ ap (λ x. tab ∷ x) (append-assoc (signed (up u)) (fields (map up us)) r);
+        short = m .0;
+        ends = after-field (map up us) r (b .ends (omega arith));
+      })
 
-    -- no field is next, so there are not enough
-    pub fields-stop : i < count → ((z : ℤ) (r : List ℕ) → ¬ FieldAt most (drop k s) z r) → (ys : List ℤ) (r : List ℕ) → length ys ≡ count → FieldsAt most (drop at s) ys r → ⊥
-    fields-stop h none ys r n b = let p = so .put in
-        let c = p .count in
-        let v = cut (p .zs) ys (drop k s) r (p .here .ends) (b .ends) (omega arith) (sym (p .here .bytes) ∙ b .bytes) in
-        go (v .ts) (p .zs) (v .text) (v .after) (p .count)
-      where
-        go : (ts : List ℤ) (zs : List ℤ) → ys ≡ zs ++ ts → drop k s ≡ fields ts ++ r → length zs ≡ i → ⊥
-        go [] zs e f c = omega (arith, ap length e, length-append {A = ℤ} zs [])
-        go (t ∷ ts) zs e f c = none t (fields ts ++ r) (record {
-          bytes = f ∙ ap (λ x. tab ∷ x) (append-assoc (signed t) (fields ts) r);
-          short = short-right most zs (t ∷ ts) (subst (FewDigits most) e (b .short)) .0;
-          ends = after-field ts r (b .ends (omega arith));
-        })
-
-    pub fields-end : count ≤ i → PutFrom (FieldsAt most (drop at s)) count room start room′ (drop k s)
-    fields-end h = let w = so .within in let e : i ≡ count = omega arith in subst (λ (n : ℕ). PutFrom (FieldsAt most (drop at s)) n room start room′ (drop k s)) e (so .put)
+  pub fields-end : count ≤ i → PutFrom (FieldsOf up most (drop at s)) count room start room′ (drop k s)
+  fields-end h = let w = so .within in let e : i ≡ count = omega arith in subst (λ (n : ℕ). PutFrom (FieldsOf up most (drop at s)) n room start room′ (drop k s)) e (so .put)
 
 -- ---- a line
 
-module _ (most count : ℕ) (s : List ℕ) (at : ℕ) (w : List ℕ) (room : List ℤ) (start : ℕ) where
-  pub no-word : ((r : List ℕ) → ¬ (drop at s ≡ w ++ r)) → (ys : List ℤ) (r : List ℕ) → length ys ≡ count → LineAt most w (drop at s) ys r → ⊥
-  no-word h ys r n a = h (fields ys ++ (newline ∷ r)) (a .bytes ∙ line-after w ys r)
+module _ {A : Type 0} (up : A → ℤ) (w : List ℕ) {l : List ℕ} where
+  pub no-word : {most count : ℕ} → ((r : List ℕ) → ¬ (l ≡ w ++ r)) → (ys : List A) (r : List ℕ) → length ys ≡ count → ¬ LineAt most w l (map up ys) r
+  no-word h ys r n a = h (fields (map up ys) ++ (newline ∷ r)) (a .bytes ∙ line-after w (map up ys) r)
 
-  module _ (after : ℕ) (e : drop at s ≡ w ++ drop after s) where
-    its-fields : {ys : List ℤ} {r : List ℕ} → LineAt most w (drop at s) ys r → FieldsAt most (drop after s) ys (newline ∷ r)
-    its-fields {ys} {r} a = record { bytes = append-cancel-left w (drop after s) (fields ys ++ (newline ∷ r)) (sym e ∙ a .bytes ∙ line-after w ys r); short = a .short; ends = λ h. newline-no-digit }
+  -- x stands after its word
+  module _ {x : List ℕ} (e : l ≡ w ++ x) {most : ℕ} where
+    its-fields : {ys : List A} {r : List ℕ} → LineAt most w l (map up ys) r → FieldsOf up most x ys (newline ∷ r)
+    its-fields {ys} {r} a = record { bytes = append-cancel-left w x (fields (map up ys) ++ (newline ∷ r)) (sym e ∙ a .bytes ∙ line-after w (map up ys) r); short = a .short; ends = λ h. newline-no-digit }
 
-    pub no-fields : ((zs : List ℤ) (r : List ℕ) → length zs ≡ count → ¬ FieldsAt most (drop after s) zs r) → (ys : List ℤ) (r : List ℕ) → length ys ≡ count → LineAt most w (drop at s) ys r → ⊥
+    pub no-fields : {count : ℕ} → ((zs : List A) (r : List ℕ) → length zs ≡ count → ¬ FieldsOf up most x zs r) → (ys : List A) (r : List ℕ) → length ys ≡ count → ¬ LineAt most w l (map up ys) r
     no-fields h ys r n a = h ys (newline ∷ r) n (its-fields a)
 
-    pub line-end : (room′ : List ℤ) (end : ℕ) → PutFrom (FieldsAt most (drop after s)) count room start room′ (drop end s) → (p : Passed) → Expected (newline ∷ []) s end p → ReadInto (LineAt most w (drop at s)) count s room start room′ p
+    pub line-end : {count : ℕ} {room : List A} {start : ℕ} {room′ : List A} (s : List ℕ) (end : ℕ) → PutFrom (FieldsOf up most x) count room start room′ (drop end s) → (p : Passed) → Expected (newline ∷ []) s end p → ReadInto (λ ns. LineAt most w l (map up ns)) count s room start room′ p
     unfolding Expected ReadInto
-    line-end room′ end p (To c) f = record {
+    line-end s end p (To c) f = let zs = map up (p .zs) in record {
       zs = p .zs;
       count = p .count;
-      here = record { bytes = e ∙ ap (λ x. w ++ x) (p .here .bytes ∙ ap (λ x. fields (p .zs) ++ x) f) ∙ sym (line-after w (p .zs) (drop (c .at) s)); short = p .here .short };
+      here = record { bytes = e ∙ ap (λ x. w ++ x) (p .here .bytes ∙ ap (λ x. fields zs ++ x) f) ∙ sym (line-after w zs (drop (c .at) s)); short = p .here .short };
       put = p .put;
     }
-    line-end room′ end p Bad f = λ ys r n a.
-        let b = its-fields a in
-        f r (fields-unique (p .zs) ys (drop end s) (newline ∷ r) (p .here .ends) (b .ends) (p .count ∙ sym n) (sym (p .here .bytes) ∙ b .bytes) .1)
+    line-end s end p Bad f = λ ys r n a.
+        let b = its-fields {ys = ys} a in
+        let c = p .count in
+        let i = length-map (p .zs) up in
+        let j = length-map ys up in
+        f r (fields-unique (map up (p .zs)) (map up ys) (drop end s) (newline ∷ r) (λ o. p .here .ends (omega arith)) (λ o. b .ends (omega arith)) (omega arith) (sym (p .here .bytes) ∙ b .bytes) .1)
+
+-- numbers that stand in a line as they are
+pub as-they-are : (Stand : List ℤ → List ℕ → Type 0) → (λ zs. Stand (map (λ z. z) zs)) ≡ Stand
+as-they-are Stand = λ i zs. Stand (map-id zs i)

@@ -1,6 +1,6 @@
 -- What inner functions are asked on and give: no public contract names it.
 use mathlib.Core.Path.{_≡_}
-use mathlib.Core.List.{List, _∷_, _++_}
+use mathlib.Core.List.{List, _∷_, _++_, map}
 use Prim.Native.Nat.{ℕ, _≤_, _<_}
 use lib.IntN.{ℤ, natAbs}
 use lib.ListN.{length, drop}
@@ -19,11 +19,11 @@ pub record FieldAt (most : ℕ) (l : List ℕ) (z : ℤ) (r : List ℕ) : Type 0
   pub short : length (decimal (natAbs z)) ≤ most
   pub ends : NoDigit r
 
--- fields stand in front of l, and r follows
-pub record FieldsAt (most : ℕ) (l : List ℕ) (zs : List ℤ) (r : List ℕ) : Type 0 where
-  pub bytes : l ≡ fields zs ++ r
-  pub short : FewDigits most zs
-  pub ends : 0 < length zs → NoDigit r
+-- the numbers ns stand as fields in front of l, and r follows; up says how one of them stands in a line
+pub record FieldsOf {A : Type 0} (up : A → ℤ) (most : ℕ) (l : List ℕ) (ns : List A) (r : List ℕ) : Type 0 where
+  pub bytes : l ≡ fields (map up ns) ++ r
+  pub short : FewDigits most (map up ns)
+  pub ends : 0 < length ns → NoDigit r
 
 -- one field read from a place, and the place after it; or none stands there
 unfoldable pub ReadField : ℕ → List ℕ → ℕ → Signed → Type 0

@@ -1,9 +1,12 @@
 // A line of numbers: a word, fields parted by single tabs, one newline. What is read goes into a lent room.
 ghost use Prim.Native.Nat.{_+_, _≤_, _<_};
+ghost use lib.IntN.{pos};
 ghost use lib.ListN.{length, drop};
+ghost use Rattle.lines.specs.InnerLimits.{most-plain};
 ghost use Rattle.lines.specs.Lines.{LineAt};
-ghost use Rattle.lines.specs.Inner.{FieldsAt, ReadField, ReadInto};
+ghost use Rattle.lines.specs.Inner.{FieldsOf, ReadField, ReadInto};
 use text::Cursor;
+use text::Number;
 use text::Passed;
 use text::Signed;
 
@@ -32,7 +35,7 @@ fn read_fields(
     count: usize,
 ) -> Passed
     requires { ⌜ (0 < most) × (most ≤ 18) × (start + count ≤ length (now room)) ⌝ }
-    ensures { λ r. ⌜ ReadInto (FieldsAt most (drop (from .at) (now (s .entry)))) count (now (s .entry)) (now (room .entry)) start (now (room .exit)) r ⌝ }
+    ensures { λ r. ⌜ ReadInto (FieldsOf (λ z. z) most (drop (from .at) (now (s .entry)))) count (now (s .entry)) (now (room .entry)) start (now (room .exit)) r ⌝ }
 {
     let mut k = from.at;
     let mut i: usize = 0;
@@ -70,4 +73,34 @@ pub fn read_line(
         return Passed::Bad;
     };
     text::expect(s, end, b"\n")
+}
+
+// Inner: so many plain numbers, each after a tab, put into room from its place start on.
+pub fn plain_fields(
+    s: &[u8],
+    from: Cursor,
+    most: usize,
+    room: &mut [u32],
+    start: usize,
+    count: usize,
+) -> Passed
+    requires { ⌜ (0 < most) × (most ≤ most-plain) × (start + count ≤ length (now room)) ⌝ }
+    ensures { λ r. ⌜ ReadInto (FieldsOf pos most (drop (from .at) (now (s .entry)))) count (now (s .entry)) (now (room .entry)) start (now (room .exit)) r ⌝ }
+{
+    let mut k = from.at;
+    let mut i: usize = 0;
+    while i < count {
+        let parted = text::expect(s, Cursor { at: k }, b"\t");
+        let Passed::To(c) = parted else {
+            return Passed::Bad;
+        };
+        let number = text::read_number(s, c, most);
+        let Number::Read(v, next) = number else {
+            return Passed::Bad;
+        };
+        room[start + i] = v as u32;
+        k = next.at;
+        i += 1;
+    }
+    Passed::To(Cursor { at: k })
 }

@@ -1,6 +1,6 @@
 -- What holds between two lines, and why each way out of the readers is right.
 use mathlib.Core.Path.{_≡_, refl, sym, _∙_, ap, subst}
-use mathlib.Core.List.{List, [], _∷_, _++_, append-assoc, map, map-append}
+use mathlib.Core.List.{List, [], _∷_, _++_, append-assoc, map, map-id, map-append}
 use Prim.Native.Nat.{ℕ, suc, _+_, _-_, _*_, _≤_, _<_}
 use native.Mathlib.Nat.{mul-le-mul, le-refl}
 use native.Mathlib.Omega.{arith}
@@ -10,26 +10,22 @@ use lib.Seq.{sets, length-take-le, drop-at}
 use Rattle.lines.specs.InnerLimits.{most-line, most-plain}
 use Rattle.lines.specs.Lines.{line, lines, FewDigits, LineAt}
 use Rattle.lines.specs.Inner.{PutFrom}
-use Rattle.lines.proofs.Cut.{map-take, map-drop, short-append, short-left, short-right, short-more, line-unique, lines-more, cut-lines}
+use Rattle.lines.proofs.Cut.{map-take, map-drop, short-append, short-left, short-right, short-more, lines-more, cut-lines}
 use Rattle.lines.proofs.Turns.{put-more, put-length, front}
-use Rattle.reading.specs.Inner.{same, Naturals, NoNaturals, LineOf, LinesOf, Readable}
-
-map-same : (zs : List ℤ) → map same zs ≡ zs
-map-same [] = refl
-map-same (z ∷ zs) = ap (λ l. z ∷ l) (map-same zs)
+use Rattle.reading.specs.Inner.{same, LineOf, LinesOf, Readable}
 
 -- ---- lines of coordinates are lines of numbers
 
 module _ {most : ℕ} {w : List ℕ} {width k : ℕ} {l : List ℕ} {zs : List ℤ} {r : List ℕ} where
   pub as-coordinates : l ≡ lines w width k zs ++ r → FewDigits most zs → LinesOf same most w width k l zs r
-  as-coordinates e h = record { bytes = rw (map-same zs) e; short = rw (map-same zs) h }
+  as-coordinates e h = record { bytes = rw (map-id zs) e; short = rw (map-id zs) h }
 
   module _ (a : LinesOf same most w width k l zs r) where
     pub their-bytes : l ≡ lines w width k zs ++ r
-    their-bytes = a .bytes ∙ ap (λ ys. lines w width k ys ++ r) (map-same zs)
+    their-bytes = a .bytes ∙ ap (λ ys. lines w width k ys ++ r) (map-id zs)
 
     pub their-short : FewDigits most zs
-    their-short = subst (FewDigits most) (map-same zs) (a .short)
+    their-short = subst (FewDigits most) (map-id zs) (a .short)
 
 -- ---- a line
 
@@ -38,8 +34,8 @@ blank = replicate most-line (pos 0)
 
 module _ {most width : ℕ} {w l : List ℕ} where
   -- no line at all
-  pub no-line : {A : Type 0} (f : A → ℤ) → ((zs : List ℤ) (r : List ℕ) → length zs ≡ width → ¬ LineAt most w l zs r) → (ns : List A) (r : List ℕ) → length ns ≡ width → ¬ LineOf f most w l ns r
-  no-line f none ns r h a = none (map f ns) r (length-map ns f ∙ h) a
+  pub no-line : ((zs : List ℤ) (r : List ℕ) → length zs ≡ width → ¬ LineAt most w l zs r) → (ns : List ℤ) (r : List ℕ) → length ns ≡ width → ¬ LineOf same most w l ns r
+  no-line none ns r h a = none ns r h (rw map-id at a)
 
   module _ {staged : List ℤ} {r : List ℕ} (read : Readable most width) (p : PutFrom (LineAt most w l) width blank 0 staged r) where
     -- its numbers stand in front of the stage
@@ -52,17 +48,8 @@ module _ {most width : ℕ} {w l : List ℕ} where
     pub there-short : FewDigits most-plain (take width staged)
     there-short = rw there (short-more most-plain most (p .zs) (read .few) (p .here .short))
 
-    pub number-read : {room room′ : List ℕ} {start : ℕ} → Naturals (take width staged) room start room′ → PutFrom (LineOf pos most w l) width room start room′ r
-    number-read a =
-        let e : p .zs ≡ map pos (a .ns) = sym there ∙ a .is in
-        record { zs = a .ns; count = sym (length-map (a .ns) pos) ∙ sym (ap length e) ∙ p .count; here = subst (λ zs. LineAt most w l zs r) e (p .here); put = a .put }
-
-    -- one has a minus
-    pub number-none : NoNaturals (take width staged) → (ns : List ℕ) (r : List ℕ) → length ns ≡ width → ¬ LineOf pos most w l ns r
-    number-none none ns r′ h a = none ns (there ∙ line-unique w (p .zs) (map pos ns) r r′ (p .count ∙ sym (length-map ns pos ∙ h)) (sym (p .here .bytes) ∙ a .bytes) .0)
-
     pub coordinate-read : {room room′ : List ℤ} {start : ℕ} → room′ ≡ sets room start (take width staged) → PutFrom (LineOf same most w l) width room start room′ r
-    coordinate-read {room} {room′} {start} e = record { zs = p .zs; count = p .count; here = rw (map-same (p .zs)) (p .here); put = e ∙ ap (sets room start) there }
+    coordinate-read {room} {room′} {start} e = record { zs = p .zs; count = p .count; here = rw (map-id (p .zs)) (p .here); put = e ∙ ap (sets room start) there }
 
 -- ---- lines
 

@@ -2,23 +2,13 @@
 use mathlib.Core.Path.{_≡_}
 use mathlib.Core.List.{List, _++_, map}
 use Prim.Native.Nat.{ℕ, _≤_, _<_}
-use lib.IntN.{ℤ, pos}
-use lib.Seq.{sets}
+use lib.IntN.{ℤ}
 use Rattle.lines.specs.InnerLimits.{most-line, most-plain}
 use Rattle.lines.specs.Lines.{lines, FewDigits, LineAt}
 
 -- coordinates stand as they are
 abbrev pub same : ℤ → ℤ
 same z = z
-
--- numbers of a line with no minus, put into a room from its place start on
-pub record Naturals (zs : List ℤ) (room : List ℕ) (start : ℕ) (room′ : List ℕ) : Type 0 where
-  pub ns : List ℕ
-  pub is : zs ≡ map pos ns
-  pub put : room′ ≡ sets room start ns
-
-abbrev pub NoNaturals : List ℤ → Type 0
-NoNaturals zs = (ns : List ℕ) → ¬ (zs ≡ map pos ns)
 
 -- a line of the word w with the numbers ns stands in front of l, and r follows
 abbrev pub LineOf : {A : Type 0} → (A → ℤ) → ℕ → List ℕ → List ℕ → List A → List ℕ → Type 0

@@ -1,35 +1,17 @@
-// Lines of numbers read into lent rooms: plain numbers, which have no minus, and coordinates. A line is staged at a time.
+// Lines of numbers read into lent rooms: plain numbers, which have no minus, and coordinates, of which a line is staged at a time.
 ghost use mathlib.Core.Path.{_≡_};
 ghost use Prim.Native.Nat.{_+_, _*_, _≤_};
 ghost use lib.IntN.{pos};
 ghost use lib.ListN.{length, drop};
 ghost use lib.Seq.{sets};
-ghost use Rattle.refusal.specs.InnerTells.{Tells};
 ghost use Rattle.lines.specs.InnerLimits.{most-plain};
 ghost use Rattle.lines.specs.Lines.{FewDigits};
 ghost use Rattle.lines.specs.Inner.{ReadInto};
-ghost use Rattle.reading.specs.Inner.{same, Naturals, NoNaturals, LineOf, LinesOf, Readable};
+ghost use Rattle.reading.specs.Inner.{same, LineOf, LinesOf, Readable};
 use text::Cursor;
 use text::Passed;
 
-// Numbers of a line as plain ones, unless one has a minus.
-fn narrow(zs: &[i64], room: &mut [u32], start: usize) -> bool
-    requires { ⌜ FewDigits most-plain (now zs) × (start + length (now zs) ≤ length (now room)) ⌝ }
-    ensures { λ r. ⌜ Tells r (Naturals (now (zs .entry)) (now (room .entry)) start (now (room .exit))) (NoNaturals (now (zs .entry))) ⌝ }
-{
-    let mut i: usize = 0;
-    while i < zs.len() {
-        let z = zs[i];
-        if z < 0 {
-            return false;
-        }
-        room[start + i] = z as u32;
-        i += 1;
-    }
-    true
-}
-
-// The same as coordinates.
+// Numbers of a line as coordinates.
 fn narrow_signed(zs: &[i64], room: &mut [i32], start: usize)
     requires { ⌜ FewDigits most-plain (now zs) × (start + length (now zs) ≤ length (now room)) ⌝ }
     ensures { λ _. ⌜ now (room .exit) ≡ sets (now (room .entry)) start (now (zs .entry)) ⌝ }
@@ -55,15 +37,15 @@ pub fn number_line(
     requires { ⌜ Readable most width × (start + width ≤ length (now room)) ⌝ }
     ensures { λ r. ⌜ ReadInto (LineOf pos most (now (w .entry)) (drop (from .at) (now (s .entry)))) width (now (s .entry)) (now (room .entry)) start (now (room .exit)) r ⌝ }
 {
-    let mut line = [0i64; lines::MOST_LINE];
-    let read = lines::read_line(s, from, w, most, &mut line, 0, width);
-    let Passed::To(next) = read else {
+    let word = text::expect(s, from, w);
+    let Passed::To(after) = word else {
         return Passed::Bad;
     };
-    if !narrow(&line[..width], room, start) {
+    let numbers = lines::plain_fields(s, after, most, room, start, width);
+    let Passed::To(end) = numbers else {
         return Passed::Bad;
-    }
-    Passed::To(next)
+    };
+    text::expect(s, end, b"\n")
 }
 
 // The same with coordinates.

@@ -1,24 +1,23 @@
 -- `read_fields` meets its contract.
-use mathlib.Core.Path.{subst}
 use Prim.Native.Nat.{_-_}
 use mir.Syntax.{w64}
 use mir.Val.{toZ, ofZ}
 use mir.ValLaws.{toZ-ofZ}
 use Rattle.lines.specs.Inner.{ReadField, ReadInto}
-use Rattle.lines.proofs.Turns.{Fielded, fields-start, field-small, fields-stored, fields-stop, fields-end, put-length}
+use Rattle.lines.proofs.Turns.{Fielded, fields-start, field-small, fields-more, fields-stop, fields-end, put-length}
 use native.Mathlib.Omega.{arith}
 use borrow.Author.Needs.{needs}
 use Rattle.lines.proofs.read_fields.Statement.{statement}
 use Rattle.lines.proofs.read_fields.Tie as tie
 
 abbrev Inv-loop : tie.InvT-loop
-Inv-loop s most room₀ start count k₀ i₀ room k i = Fielded most count s k₀ room₀ start room k i
+Inv-loop s most room₀ start count k₀ i₀ room k i = Fielded (λ z. z) most count s k₀ room₀ start room k i
 
 abbrev μ-loop : tie.MeasureT-loop
 μ-loop s most room₀ start count k₀ i₀ room k i = count - i
 
 loop-holds : tie.Need-loop-holds Inv-loop μ-loop
-loop-holds c = fields-start (c .before .args .most) (c .before .args .count) (c .before .args .s .now) (c .before .args .from .at) (c .before .args .room .now) (c .before .args .start)
+loop-holds c = fields-start (λ z. z) (c .before .args .most) (c .before .args .count) (c .before .args .s .now) (c .before .args .from .at) (c .before .args .room .now) (c .before .args .start)
 
 read-field-requires : tie.Need-read-field-requires Inv-loop μ-loop
 read-field-requires c κs = search needs
@@ -35,11 +34,10 @@ same-length c = put-length (c .before .before .before .before .loop .inv .put)
 returns : tie.Need-returns Inv-loop μ-loop
 unfolding ReadField ReadInto
 returns c =
-    let args = c .before .before .before .before .before .before .args in
     let loop = c .before .before .before .before .loop in
     let loop-test = c .before .before .before .loop-test in
     let read-field = c .before .before .read-field in
-    fields-stop (args .most) (args .count) (args .s .now) (args .from .at) (args .room .now) (args .start) (loop .room) (loop .k) (loop .i) (loop .inv) (loop-test .taken) (subst (ReadField (args .most) (args .s .now) (loop .k)) (c .enum-told .given .1) (read-field .ensures))
+    fields-stop (loop .inv) (loop-test .taken) (rw (c .enum-told .given .1) at (read-field .ensures))
 
 add-z : tie.Need-add-z Inv-loop μ-loop
 add-z c = let h = c .before .before .before .before .loop-test .taken in let p = c .before .before .before .before .before .before .before .pre .2 in omega arith
@@ -63,23 +61,20 @@ loop-less c = search needs
 loop-again : tie.Need-loop-again Inv-loop μ-loop
 unfolding ReadField
 loop-again c =
-    let args = c .before .before .before .before .before .before .before .args in
     let pre = c .before .before .before .before .before .before .before .pre in
     let loop = c .before .before .before .before .before .loop in
     let loop-test = c .before .before .before .before .loop-test in
     let read-field = c .before .before .before .read-field in
     let field = c .before .field in
-    fields-stored (args .most) (args .count) (args .s .now) (args .from .at) (args .room .now) (args .start) (loop .room) (loop .k) (loop .i) (loop .inv) (toZ w64 (ofZ w64 (field .given .0 .0))) (field .given .0 .0) (field .given .0 .1 .0 .at) (toZ-ofZ w64 (field .given .0 .0) (field-small (args .most) (args .count) (args .s .now) (args .from .at) (args .room .now) (args .start) (loop .room) (loop .k) (loop .i) (loop .inv) (pre .1) (subst (ReadField (args .most) (args .s .now) (loop .k)) (field .given .1) (read-field .ensures)))) (loop-test .taken) (subst (ReadField (args .most) (args .s .now) (loop .k)) (field .given .1) (read-field .ensures))
+    let a = rw (field .given .1) at (read-field .ensures) in
+    fields-more (loop .inv) (toZ w64 (ofZ w64 (field .given .0 .0))) (field .given .0 .0) (field .given .0 .1 .0 .at) (toZ-ofZ w64 (field .given .0 .0) (field-small (pre .1) a)) (loop-test .taken) a
 
 same-length-2 : tie.Need-same-length-2 Inv-loop μ-loop
 same-length-2 c = put-length (c .before .loop .inv .put)
 
 returns-2 : tie.Need-returns-2 Inv-loop μ-loop
 unfolding ReadInto
-returns-2 c =
-    let args = c .before .before .before .args in
-    let loop = c .before .loop in
-    fields-end (args .most) (args .count) (args .s .now) (args .from .at) (args .room .now) (args .start) (loop .room) (loop .k) (loop .i) (loop .inv) (c .loop-test .left)
+returns-2 c = fields-end (c .before .loop .inv) (c .loop-test .left)
 
 pub read-fields-spec : {M : Type 1} → statement M
 read-fields-spec =

@@ -1,9 +1,13 @@
 -- `read_line` meets its contract.
 use mathlib.Core.Path.{subst}
+use mathlib.Core.List.{List, map-id}
+use Prim.Native.Nat.{ℕ}
+use lib.IntN.{ℤ}
 use lib.ListN.{drop}
 use Rattle.text.specs.InnerReading.{Expected}
-use Rattle.lines.specs.Inner.{FieldsAt, ReadInto}
-use Rattle.lines.proofs.Turns.{no-word, no-fields, line-end}
+use Rattle.lines.specs.Lines.{LineAt}
+use Rattle.lines.specs.Inner.{ReadInto}
+use Rattle.lines.proofs.Turns.{no-word, no-fields, line-end, as-they-are}
 use borrow.Author.Needs.{needs}
 use Rattle.lines.proofs.read_line.Statement.{statement}
 use Rattle.lines.proofs.read_line.Tie as tie
@@ -22,7 +26,7 @@ unfolding Expected ReadInto
 returns c =
     let args = c .before .before .before .before .before .args in
     let expect = c .before .before .expect in
-    no-word (args .most) (args .count) (args .s .now) (args .from .at) (args .w .now) (args .room .now) (args .start) (subst (Expected (args .w .now) (args .s .now) (args .from .at)) (c .enum-told .given .1) (expect .ensures))
+    λ ys r n a. no-word (λ z. z) (args .w .now) {most = args .most} (rw (c .enum-told .given .1) at (expect .ensures)) ys r n (rw (map-id ys) a)
 
 read-fields-requires : tie.Need-read-fields-requires
 read-fields-requires c κs = search needs
@@ -43,7 +47,7 @@ returns-2 c =
     let expect = c .before .before .before .before .before .before .before .before .expect in
     let word = c .before .before .before .before .before .before .word in
     let read-fields = c .before .before .before .read-fields in
-    no-fields (args .most) (args .count) (args .s .now) (args .from .at) (args .w .now) (args .room .now) (args .start) (word .given .0 .0 .at) (subst (Expected (args .w .now) (args .s .now) (args .from .at)) (word .given .1) (expect .ensures)) (subst (ReadInto (FieldsAt (args .most) (drop (word .given .0 .0 .at) (args .s .now))) (args .count) (args .s .now) (args .room .now) (args .start) (read-fields .last .1 .1 .1 .0)) (c .enum-told2 .given .1) (read-fields .ensures))
+    λ ys r n a. no-fields (λ z. z) (args .w .now) (rw (word .given .1) at (expect .ensures)) (rw (c .enum-told2 .given .1) at (read-fields .ensures)) ys r n (rw (map-id ys) a)
 
 slice-aggregate-expect : tie.Need-slice-aggregate-expect
 slice-aggregate-expect c = search needs
@@ -62,7 +66,7 @@ returns-3 c =
     let word = c .before .before .before .before .before .before .before .before .before .word in
     let read-fields = c .before .before .before .before .before .before .read-fields in
     let numbers = c .before .before .before .numbers in
-    line-end (args .most) (args .count) (args .s .now) (args .from .at) (args .w .now) (args .room .now) (args .start) (word .given .0 .0 .at) (subst (Expected (args .w .now) (args .s .now) (args .from .at)) (word .given .1) (expect .ensures)) (read-fields .last .1 .1 .1 .0) (numbers .given .0 .0 .at) (subst (ReadInto (FieldsAt (args .most) (drop (word .given .0 .0 .at) (args .s .now))) (args .count) (args .s .now) (args .room .now) (args .start) (read-fields .last .1 .1 .1 .0)) (numbers .given .1) (read-fields .ensures)) (c .expect2 .result) (c .expect2 .ensures)
+    subst (λ (S : List ℤ → List ℕ → Type 0). ReadInto S (args .count) (args .s .now) (args .room .now) (args .start) (read-fields .last .1 .1 .1 .0) (c .expect2 .result)) (as-they-are (LineAt (args .most) (args .w .now) (drop (args .from .at) (args .s .now)))) (line-end (λ z. z) (args .w .now) (rw (word .given .1) at (expect .ensures)) (args .s .now) (numbers .given .0 .0 .at) (rw (numbers .given .1) at (read-fields .ensures)) (c .expect2 .result) (c .expect2 .ensures))
 
 pub read-line-spec : {M : Type 1} → statement M
 read-line-spec =

@@ -1,6 +1,5 @@
 -- `coordinate_line` meets its contract: a line is staged, and its numbers are put.
 use Rattle.lines.specs.Inner.{ReadInto}
-use Rattle.reading.specs.Inner.{same}
 use Rattle.reading.proofs.Lining.{no-line, there-length, there-short, coordinate-read}
 use native.Mathlib.Omega.{arith}
 use borrow.Author.Needs.{needs}
@@ -25,7 +24,7 @@ returns : tie.Need-returns
 unfolding ReadInto
 returns c =
     let read-line = c .before .before .before .read-line in
-    no-line same (rw (c .enum-told .given .1) at (read-line .ensures))
+    no-line (rw (c .enum-told .given .1) at (read-line .ensures))
 
 array-share-prefix-line : tie.Need-array-share-prefix-line
 array-share-prefix-line c =

@@ -1,94 +1,82 @@
--- `number_line` meets its contract: a line is staged, and its numbers are put unless one has a minus.
-use borrow.Author.Tests.{not-true, not-false}
-use Rattle.lines.specs.Inner.{ReadInto}
+-- `number_line` meets its contract.
 use lib.IntN.{pos}
-use Rattle.reading.proofs.Lining.{no-line, there-length, there-short, number-read, number-none}
-use native.Mathlib.Omega.{arith}
+use Rattle.text.specs.InnerReading.{Expected}
+use Rattle.lines.specs.Inner.{ReadInto}
+use Rattle.lines.proofs.Turns.{no-word, no-fields, line-end}
 use borrow.Author.Needs.{needs}
 use Rattle.reading.proofs.number_line.Statement.{statement}
 use Rattle.reading.proofs.number_line.Tie as tie
 
-slice-aggregate-read-line : tie.Need-slice-aggregate-read-line
-slice-aggregate-read-line c = search needs
+expect-requires : tie.Need-expect-requires
+expect-requires c κs = search needs
 
-read-line-requires : tie.Need-read-line-requires
-read-line-requires c κs =
-    let pre = c .before .before .before .before .pre in
-    let r = pre .0 in let f = r .few in let l = r .line in (r .some, omega arith, omega arith)
-
-enum-known-read : tie.Need-enum-known-read
-enum-known-read c = search needs
+enum-known-word : tie.Need-enum-known-word
+enum-known-word c = search needs
 
 enum-told : tie.Need-enum-told
 enum-told c = search needs
 
 returns : tie.Need-returns
-unfolding ReadInto
+unfolding Expected ReadInto
 returns c =
-    let read-line = c .before .before .before .read-line in
-    no-line pos (rw (c .enum-told .given .1) at (read-line .ensures))
+    let args = c .before .before .before .before .before .before .args in
+    let expect = c .before .before .expect in
+    no-word pos (args .w .now) (rw (c .enum-told .given .1) at (expect .ensures))
 
-array-share-prefix-line : tie.Need-array-share-prefix-line
-array-share-prefix-line c =
-    let pre = c .before .before .before .before .before .before .before .before .before .pre in
-    let line2 = c .before .before .before .line2 in
-    let l = pre .0 .line in omega (arith, line2 .given)
+plain-fields-requires : tie.Need-plain-fields-requires
+plain-fields-requires c κs = search needs
 
-slice-aggregate-narrow : tie.Need-slice-aggregate-narrow
-unfolding ReadInto
-slice-aggregate-narrow c =
-    let pre = c .before .before .before .before .before .before .before .before .before .before .pre in
-    let read = c .before .before .read in
-    let read-line = c .before .before .before .before .before .read-line in
-    there-length (pre .0) (rw (read .given .1) at (read-line .ensures))
+enum-known-numbers : tie.Need-enum-known-numbers
+enum-known-numbers c = search needs
 
-narrow-requires : tie.Need-narrow-requires
-unfolding ReadInto
-narrow-requires c κs =
-    let read = c .before .before .before .read in
-    let read-line = c .before .before .before .before .before .before .read-line in
-    let pre = c .before .before .before .before .before .before .before .before .before .before .before .pre in
-    let p = rw (read .given .1) at (read-line .ensures) in
-    let h = pre .1 in
-    (there-short (pre .0) p, omega (arith, there-length (pre .0) p))
+enum-told-2 : tie.Need-enum-told-2
+enum-told-2 c = search needs
 
 same-length : tie.Need-same-length
 same-length c = search needs
 
 returns-2 : tie.Need-returns-2
-unfolding ReadInto
+unfolding Expected ReadInto
 returns-2 c =
-    let pre = c .before .before .before .before .before .before .before .before .before .before .before .before .before .before .before .pre in
-    let read = c .before .before .before .before .before .before .before .read in
-    let read-line = c .before .before .before .before .before .before .before .before .before .before .read-line in
-    let narrow = c .before .before .before .narrow in
-    number-none (pre .0) (rw (read .given .1) at (read-line .ensures)) (narrow .ensures .when-false (not-true _ (c .if1 .taken)))
+    let args = c .before .before .before .before .before .before .before .before .before .before .before .before .before .args in
+    let expect = c .before .before .before .before .before .before .before .before .before .expect in
+    let word = c .before .before .before .before .before .before .before .word in
+    let plain-fields = c .before .before .before .before .plain-fields in
+    no-fields pos (args .w .now) (rw (word .given .1) at (expect .ensures)) (rw (c .enum-told2 .given .1) at (plain-fields .ensures))
+
+slice-aggregate-expect : tie.Need-slice-aggregate-expect
+slice-aggregate-expect c = search needs
+
+expect-requires-2 : tie.Need-expect-requires-2
+expect-requires-2 c κs = search needs
 
 same-length-2 : tie.Need-same-length-2
 same-length-2 c = search needs
 
 returns-3 : tie.Need-returns-3
-unfolding ReadInto
+unfolding Expected ReadInto
 returns-3 c =
-    let pre = c .before .before .before .before .before .before .before .before .before .before .before .before .before .before .before .pre in
-    let read = c .before .before .before .before .before .before .before .read in
-    let read-line = c .before .before .before .before .before .before .before .before .before .before .read-line in
-    let narrow = c .before .before .before .narrow in
-    number-read (pre .0) (rw (read .given .1) at (read-line .ensures)) (narrow .ensures .when-true (not-false _ (c .if1 .left)))
+    let args = c .before .before .before .before .before .before .before .before .before .before .before .before .before .before .before .before .args in
+    let expect = c .before .before .before .before .before .before .before .before .before .before .before .before .expect in
+    let word = c .before .before .before .before .before .before .before .before .before .before .word in
+    let plain-fields = c .before .before .before .before .before .before .before .plain-fields in
+    let numbers = c .before .before .before .numbers in
+    line-end pos (args .w .now) (rw (word .given .1) at (expect .ensures)) (args .s .now) (numbers .given .0 .0 .at) (rw (numbers .given .1) at (plain-fields .ensures)) (c .expect2 .result) (c .expect2 .ensures)
 
 pub number-line-spec : {M : Type 1} → statement M
 number-line-spec =
     tie.close
     (tie.spec
-    slice-aggregate-read-line
-    read-line-requires
-    enum-known-read
+    expect-requires
+    enum-known-word
     enum-told
     returns
-    array-share-prefix-line
-    slice-aggregate-narrow
-    narrow-requires
+    plain-fields-requires
+    enum-known-numbers
+    enum-told-2
     same-length
     returns-2
+    slice-aggregate-expect
+    expect-requires-2
     same-length-2
     returns-3)
