@@ -1,7 +1,7 @@
 //! Damaged logs and log sheets: every side writes and reads them alike, or refuses them by the same number.
 
 use crate::logs::MOST_BYTES;
-use crate::mailed::Mailed;
+use crate::mailed::{Mailed, ONE_BY_ONE};
 use crate::Input;
 use apart::chance::Chance;
 use apart::make;
@@ -123,7 +123,7 @@ pub fn compare(inputs: &[Input]) -> usize {
     }
     // Whatever each refuses with, and what it accepts.
     let wanted: [(&str, &[u64]); 3] =
-        [("write log sheet", &[0, 2, 3]), ("read log sheet", &[0, 2, 3, 12]), ("records one by one", &[0, 2, 12])];
+        [("write log sheet", &[0, 2, 3]), ("read log sheet", &[0, 2, 3, 12]), (ONE_BY_ONE, &[0, 2, 12])];
     let wanted = wanted.map(|(call, refusals)| (call, refusals.iter().copied().collect()));
     assert_eq!(met, wanted.into(), "the refusals that damage has met");
     compared

@@ -1,9 +1,8 @@
 //! Log sheets in ordinary Rust, in the same loops: a log written as one, and read whole or a record at a time. Nothing is allocated, and nothing is
 //! written where it is refused: a text is measured first, a sheet's lines are passed over first.
 
-use crate::sheet::Reader;
 use crate::work::Work;
-use apart::sheet::GREATEST;
+use apart::sheet::{GREATEST, MOST_DIGITS};
 use apart::skin::{CORNERS, FEWEST, ROWS};
 use apart::step::WIDTH;
 use flaxglimmer::Refusal::{self, CountsOutside, RoomShort, SheetForm};
@@ -11,27 +10,49 @@ use flaxglimmer::{LogCounts, Opened, Record};
 
 pub const MOST_BYTES: usize = 65_536;
 
-/// No line has more numbers.
-const MOST_LINE: usize = 16;
-
-/// The plain numbers of the next line, which has this word and as many of them as the room: staged with their signs, then narrowed.
-fn number_line(lines: &mut Reader, word: &[u8], room: &mut [u32]) -> Result<(), Refusal> {
-    let mut staged = [0; MOST_LINE];
-    let staged = &mut staged[..room.len()];
-    lines.line(word, staged)?;
-    for (number, &mut z) in room.iter_mut().zip(staged) {
-        if z < 0 {
-            return Err(SheetForm);
-        }
-        *number = z as u32;
-    }
-    Ok(())
+/// The bytes of a log sheet that are left to read.
+#[derive(Clone)]
+struct Lines<'a> {
+    left: &'a [u8],
 }
 
-fn record(lines: &mut Reader) -> Result<Record, Refusal> {
-    let mut numbers = [0; WIDTH];
-    number_line(lines, b"K", &mut numbers)?;
-    Ok(numbers)
+impl Lines<'_> {
+    fn expect(&mut self, word: &[u8]) -> Result<(), Refusal> {
+        self.left = self.left.strip_prefix(word).ok_or(SheetForm)?;
+        Ok(())
+    }
+
+    fn number(&mut self) -> Result<u32, Refusal> {
+        let (mut digits, mut value) = (0, 0);
+        while let Some(digit @ b'0'..=b'9') = self.left.get(digits) {
+            if (digits > 0 && value == 0) || digits == MOST_DIGITS {
+                return Err(SheetForm);
+            }
+            value = 10 * value + u32::from(digit - b'0');
+            digits += 1;
+        }
+        if digits == 0 {
+            return Err(SheetForm);
+        }
+        self.left = &self.left[digits..];
+        Ok(value)
+    }
+
+    /// The numbers of the next line, which has this word and so many of them.
+    fn line<const N: usize>(&mut self, word: &[u8]) -> Result<[u32; N], Refusal> {
+        let mut numbers = [0; N];
+        self.expect(word)?;
+        for number in &mut numbers {
+            self.expect(b"\t")?;
+            *number = self.number()?;
+        }
+        self.expect(b"\n")?;
+        Ok(numbers)
+    }
+
+    fn record(&mut self) -> Result<Record, Refusal> {
+        self.line(b"K")
+    }
 }
 
 /// Whether the counts are inside their limits, and the records no more than the corners allow.
@@ -40,14 +61,12 @@ pub fn counts_fit(corners: usize, rows: usize, records: usize) -> bool {
 }
 
 /// The counts of the first line and the lines after it.
-fn first_line(bytes: &[u8]) -> Result<(usize, usize, Reader<'_>), Refusal> {
+fn first_line(bytes: &[u8]) -> Result<(usize, usize, Lines<'_>), Refusal> {
     if bytes.len() > MOST_BYTES {
         return Err(SheetForm);
     }
-    let mut lines = Reader { left: bytes };
-    let mut counts = [0; 2];
-    number_line(&mut lines, b"LOG", &mut counts)?;
-    let [corners, rows] = counts;
+    let mut lines = Lines { left: bytes };
+    let [corners, rows] = lines.line(b"LOG")?;
     Ok((corners as usize, rows as usize, lines))
 }
 
@@ -57,15 +76,15 @@ pub fn read(bytes: &[u8], log: &mut [u32], work: &mut impl Work) -> Result<LogCo
     work.bytes(bytes.len() + lines.left.len());
     let (mut passed, mut records) = (lines.clone(), 0);
     while !passed.left.is_empty() {
-        record(&mut passed)?;
+        passed.record()?;
         records += 1;
     }
     if !counts_fit(corners, rows, records) {
         return Err(CountsOutside);
     }
     let room = log.get_mut(..WIDTH * records).ok_or(RoomShort)?;
-    for numbers in room.chunks_exact_mut(WIDTH) {
-        number_line(&mut lines, b"K", numbers)?;
+    for record in room.chunks_exact_mut(WIDTH) {
+        record.copy_from_slice(&lines.record()?);
     }
     Ok(LogCounts { corners, rows, records })
 }
@@ -84,10 +103,10 @@ pub fn open(bytes: &[u8], work: &mut impl Work) -> Result<Opened, Refusal> {
 /// The call: the record at a place and the place after its line, or that no byte follows.
 pub fn next(bytes: &[u8], place: usize, work: &mut impl Work) -> Result<Option<(Record, usize)>, Refusal> {
     let Some(left @ [_, ..]) = bytes.get(place..) else { return Ok(None) };
-    let mut lines = Reader { left };
-    let numbers = record(&mut lines)?;
+    let mut lines = Lines { left };
+    let record = lines.record()?;
     work.bytes(left.len() - lines.left.len());
-    Ok(Some((numbers, bytes.len() - lines.left.len())))
+    Ok(Some((record, bytes.len() - lines.left.len())))
 }
 
 /// How many bytes a number takes.

@@ -31,6 +31,8 @@ fn sheet_of(corners: usize, rows: usize, log: &[u32]) -> Vec<u8> {
     text.into_bytes()
 }
 
+pub const ONE_BY_ONE: &str = "records one by one";
+
 /// Opens a sheet and hands on its records one by one, up to the first that is none.
 fn plain_records(bytes: &[u8], mut each: impl FnMut(Record), work: &mut impl Work) -> Result<(), Refusal> {
     let mut place = logs::open(bytes, work)?.place;
@@ -109,14 +111,14 @@ impl Mailed {
     fn one_by_one(&self) -> Call<'_> {
         let (mut records, mut theirs, mut work) = (vec![], vec![], Counted::default());
         let answer = plain_records(&self.sheet, |record| records.push(record), &mut work);
-        assert_eq!(proved_records(&self.sheet, |record| theirs.push(record)), answer, "records one by one");
-        assert!(theirs == records, "records one by one: the two sides differ");
+        assert_eq!(proved_records(&self.sheet, |record| theirs.push(record)), answer, "{ONE_BY_ONE}");
+        assert!(theirs == records, "{ONE_BY_ONE}: the two sides differ");
         let proved = || {
             black_box(proved_records(black_box(&self.sheet), seen)).ok();
         };
         let plain = || {
             black_box(plain_records(black_box(&self.sheet), seen, &mut Uncounted)).ok();
         };
-        Call::new("records one by one", answer.err(), work, proved, plain)
+        Call::new(ONE_BY_ONE, answer.err(), work, proved, plain)
     }
 }

@@ -22,7 +22,7 @@ use apart::skin::FEWEST;
 use apart::step::WIDTH;
 use flaxglimmer as proved;
 use flaxglimmer::{Length, Refusal, Unfinished};
-use mailed::Mailed;
+use mailed::{Mailed, ONE_BY_ONE};
 use std::hint::black_box;
 use std::process::ExitCode;
 use std::time::{Duration, Instant};
@@ -41,7 +41,7 @@ const GROWTH: [(&str, f64); 8] = [
     ("thin", 5.0),
     ("write log sheet", 2.5),
     ("read log sheet", 2.5),
-    ("records one by one", 2.5),
+    (ONE_BY_ONE, 2.5),
 ];
 /// A sample repeats its call until it takes about so long.
 const SAMPLE: Duration = Duration::from_millis(2);
@@ -403,12 +403,14 @@ fn greatest<'a>(figures: impl Iterator<Item = (f64, &'a Measured)>) -> String {
 }
 
 /// The targets against what was measured: the greatest ratio of all, and the greatest growth of each call on shafts. No target stands for quick
-/// Rust, which does other work.
+/// Rust, which does other work, nor for records one by one, each of which crosses the boundary by itself.
 fn close(shafts: &[Measured], others: &[Measured]) {
     let all = || shafts.iter().chain(others);
     println!("\n### Targets\n\n| What | Target | Greatest |\n|---|--:|--:|");
-    let ratio = greatest(all().map(|one| (one.ratio(), one)));
-    println!("| ratio to the same loops in Rust | {RATIO} | {ratio} |");
+    for (calls, target, apart) in [("", RATIO.to_string(), false), (", records one by one", "none".into(), true)] {
+        let ratio = greatest(all().filter(|one| (one.call == ONE_BY_ONE) == apart).map(|one| (one.ratio(), one)));
+        println!("| ratio to the same loops in Rust{calls} | {target} | {ratio} |");
+    }
     let log_sheets = |one: &&Measured| one.call.ends_with("log sheet");
     for (calls, of) in [("check and volume", false), ("log sheets", true)] {
         let of_calls = all().filter(|one| log_sheets(one) == of);

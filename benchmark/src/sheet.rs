@@ -7,10 +7,8 @@ use apart::skin::FEWEST;
 use flaxglimmer::Counts;
 use flaxglimmer::Refusal::{self, CountsOutside, RoomShort, SheetForm};
 
-/// The bytes of a sheet that are left to read.
-#[derive(Clone)]
-pub struct Reader<'a> {
-    pub left: &'a [u8],
+struct Reader<'a> {
+    left: &'a [u8],
 }
 
 impl Reader<'_> {
@@ -37,7 +35,7 @@ impl Reader<'_> {
         Ok(if minus { -value } else { value })
     }
 
-    pub fn line(&mut self, word: &[u8], fields: &mut [i64]) -> Result<(), Refusal> {
+    fn line(&mut self, word: &[u8], fields: &mut [i64]) -> Result<(), Refusal> {
         self.expect(word)?;
         for field in fields {
             self.expect(b"\t")?;
