@@ -215,9 +215,9 @@ log-sheets = record {
       let g = has-read q t in
       only-log-sheet (h .sheet) (subst (λ log. LogSheetOf c n m log) (sym (g .stands) ∙ sym e ∙ h .stands) (g .sheet));
   only-each = λ {n} {m} {k} {b} {c} p q s t e.
-    let h = has-each p s in
-    let g = has-each q t in
-    only-log-sheet (h .sheet) (subst (λ log. LogSheetOf c n m log) (sym (g .stands) ∙ sym e ∙ h .stands) (g .sheet));
+      let h = has-each p s in
+      let g = has-each q t in
+      only-log-sheet (h .sheet) (subst (λ log. LogSheetOf c n m log) (sym (g .stands) ∙ sym e ∙ h .stands) (g .sheet));
   writes = λ o w p q e h g. can-write (front-writable w p q e) h g;
   writes-from = λ o w p q e h g. can-write (rest-writable w p q e) h g;
   one-by-one = λ r t o. walks r t o;
