@@ -7,6 +7,7 @@ use flaxglimmer::Refusal;
 pub const SLOTS: usize = 3 * MOST_ROWS;
 
 /// For each corner one more than its last slot, and for each slot the same of the one before it with the same corner; 0 is none.
+#[derive(Clone)]
 pub struct Chains {
     pub last: [usize; MOST_CORNERS],
     pub prev: [usize; SLOTS],

@@ -7,6 +7,7 @@ mod check;
 mod damage;
 mod damaged_logs;
 mod figures;
+mod hubs;
 mod logs;
 mod mailed;
 mod quick;
@@ -439,7 +440,8 @@ fn compare() {
     let skins: Vec<Skin> = skins::KINDS.iter().flat_map(|&(kind, make)| skins_of(kind, make)).collect();
     let inputs: Vec<Input> = skins.iter().map(Input::of).collect();
     let honest: usize = inputs.iter().map(|input| input.calls().len()).sum();
-    println!("{} passed, 0 failed", honest + damage::compare(&skins) + damaged_logs::compare(&inputs));
+    let more = damage::compare(&skins) + damaged_logs::compare(&inputs) + hubs::compare(&skins);
+    println!("{} passed, 0 failed", honest + more);
 }
 
 fn time() {
@@ -456,6 +458,7 @@ fn time() {
         print(kind, &all);
         all
     });
+    hubs::time();
     let shafts = std::mem::take(&mut measured[0]);
     close(&shafts, &measured.concat());
 }

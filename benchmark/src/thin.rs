@@ -6,12 +6,12 @@ use apart::skin::{FEWEST, MOST_CORNERS};
 use apart::step::WIDTH;
 use flaxglimmer::Refusal;
 
-const FOUR_ROWS: usize = 3 * FEWEST;
+pub const FOUR_ROWS: usize = 3 * FEWEST;
 /// How many rows leave in a step.
 pub const LEAVE: usize = 2;
 
 /// The neighbours of a corner, put in front of a room.
-fn gather<'a>(
+pub fn gather<'a>(
     table: &[u32],
     chains: &Chains,
     corner: u32,
@@ -28,15 +28,15 @@ fn gather<'a>(
 }
 
 /// Room for the rings of an edge's two corners, and marks for each that are blank before and after an edge or a corner is asked.
-struct Scratch {
-    first: [u32; MOST_CORNERS],
-    near: [bool; MOST_CORNERS],
-    second: [u32; MOST_CORNERS],
-    far: [bool; MOST_CORNERS],
+pub struct Scratch {
+    pub first: [u32; MOST_CORNERS],
+    pub near: [bool; MOST_CORNERS],
+    pub second: [u32; MOST_CORNERS],
+    pub far: [bool; MOST_CORNERS],
 }
 
 impl Scratch {
-    const EMPTY: Scratch = Scratch {
+    pub const EMPTY: Scratch = Scratch {
         first: [0; MOST_CORNERS],
         near: [false; MOST_CORNERS],
         second: [0; MOST_CORNERS],
@@ -45,7 +45,7 @@ impl Scratch {
 }
 
 /// Marks the numbers of a ring.
-fn mark(ring: &[u32], marks: &mut [bool; MOST_CORNERS], work: &mut impl Work) {
+pub fn mark(ring: &[u32], marks: &mut [bool; MOST_CORNERS], work: &mut impl Work) {
     for &corner in ring {
         marks[corner as usize] = true;
     }
@@ -53,14 +53,38 @@ fn mark(ring: &[u32], marks: &mut [bool; MOST_CORNERS], work: &mut impl Work) {
 }
 
 /// Takes the marks of a ring away again.
-fn unmark(ring: &[u32], marks: &mut [bool; MOST_CORNERS]) {
+fn unmark(ring: &[u32], marks: &mut [bool; MOST_CORNERS], work: &mut impl Work) {
     for &corner in ring {
         marks[corner as usize] = false;
     }
+    work.ring_entries(ring.len());
+}
+
+/// How many numbers of a ring are marked.
+fn marked_of(ring: &[u32], marks: &[bool; MOST_CORNERS], work: &mut impl Work) -> usize {
+    work.ring_entries(ring.len());
+    ring.iter().filter(|&&corner| marks[corner as usize]).count()
+}
+
+/// How many numbers stand in both rings: the shorter one is walked, and its numbers are looked up in the marks of the other.
+fn common(
+    first: &[u32],
+    second: &[u32],
+    near: &[bool; MOST_CORNERS],
+    far: &mut [bool; MOST_CORNERS],
+    work: &mut impl Work,
+) -> usize {
+    if second.len() < first.len() {
+        return marked_of(second, near, work);
+    }
+    mark(second, far, work);
+    let shared = marked_of(first, far, work);
+    unmark(second, far, work);
+    shared
 }
 
 /// The link condition of an edge to one of the neighbours that a ring lists: more than four rows, and two common neighbours.
-fn meets_round(
+pub fn meets_round(
     table: &[u32],
     chains: &Chains,
     first: &[u32],
@@ -75,12 +99,7 @@ fn meets_round(
         return false;
     }
     let second = gather(table, chains, removed, room, work);
-    mark(second, far, work);
-    let shorter = if second.len() < first.len() { second } else { first };
-    work.ring_entries(shorter.len());
-    let shared = shorter.iter().filter(|&&corner| near[corner as usize] && far[corner as usize]).count();
-    unmark(second, far);
-    shared == 2
+    common(first, second, near, far, work) == 2
 }
 
 /// The link condition of an edge.
@@ -88,12 +107,10 @@ pub fn may_contract(table: &[u32], chains: &Chains, kept: u32, removed: u32, wor
     let mut scratch = Scratch::EMPTY;
     let Scratch { first, near, second, far } = &mut scratch;
     let ring = gather(table, chains, kept, first, work);
-    if !ring.contains(&removed) {
-        return false;
-    }
     mark(ring, near, work);
-    let meets = meets_round(table, chains, ring, near, removed, second, far, work);
-    unmark(ring, near);
+    let meets =
+        near[removed as usize] && meets_round(table, chains, ring, near, removed, second, far, work);
+    unmark(ring, near, work);
     meets
 }
 
@@ -157,7 +174,7 @@ fn least_edge(
         let ring = gather(table, &chains, kept, first, work);
         mark(ring, near, work);
         let found = least_marked(table, &chains, corners, most, kept, ring, near, second, far, work);
-        unmark(ring, near);
+        unmark(ring, near, work);
         if found.is_some() {
             return found;
         }

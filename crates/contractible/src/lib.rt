@@ -3,29 +3,42 @@ use record::Corner;
 ghost use Prim.Native.Nat.{_≤_, _<_};
 ghost use lib.ListN.{length};
 ghost use Rattle.surface.specs.Limits.{most-corners};
-ghost use Rattle.surface.specs.Lists.{_∈_};
+ghost use Rattle.surface.specs.Lists.{Distinct};
 ghost use Rattle.surface.specs.Rows.{rows};
 ghost use Rattle.surface.specs.InnerStageTable.{StageTable};
 ghost use Rattle.surface.specs.Link.{Meets};
 ghost use Rattle.refusal.specs.InnerTells.{Tells};
-ghost use Rattle.neighbours.specs.Around.{Charted, Unmarked};
+ghost use Rattle.neighbours.specs.Around.{Charted, Marked, Unmarked};
+ghost use Rattle.link.specs.InnerBoth.{TellsEdge};
 
-// Whether a number stands in a list.
-fn contains(l: &[u32], w: u32) -> bool
-    ensures { λ r. ⌜ Tells r (w ∈ now (l .entry)) (¬ (w ∈ now (l .entry))) ⌝ }
+// Whether the edge from b to a corner whose neighbours first lists may be contracted: near, which marks them, has b, and the link condition is met.
+// second and far are the link test's scratch.
+fn linked_round(
+    t: &[u32],
+    last: &[usize],
+    prev: &[usize],
+    first: &[u32],
+    near: &[u8],
+    b: Corner,
+    second: &mut [u32],
+    far: &mut [u8],
+) -> bool
+    requires { ⌜ Charted (now t) (now last) (now prev) × (most-corners ≤ length (now last)) ⌝ }
+    requires { ⌜ Distinct (now first) × Marked (now first) (now near) ⌝ }
+    requires { ⌜ b .0 < most-corners ⌝ }
+    requires { ⌜ most-corners ≤ length (now second) ⌝ }
+    requires { ⌜ Unmarked (now far) ⌝ }
+    ensures { λ r. ⌜ TellsEdge (rows (now (t .entry))) (now (first .entry)) (b .0) r ⌝ }
+    ensures { λ _. ⌜ Unmarked (now (far .exit)) ⌝ }
 {
-    let mut i: usize = 0;
-    while i < l.len() {
-        if l[i] == w {
-            return true;
-        }
-        i += 1;
+    let i = b.0 as usize;
+    if near[i] == 0 {
+        return false;
     }
-    false
+    link::meets_round(t, last, prev, first, near, b, second, far)
 }
 
-// Whether the edge ab may be contracted: b is a neighbour of a, and the link condition is met. The rest is scratch: room for the rings of a and
-// b, and marks for each, blank again when it is told.
+// Whether the edge ab may be contracted. The rest is scratch: room for the rings of a and b, and marks for each, blank again when it is told.
 fn linked(
     t: &[u32],
     last: &[usize],
@@ -37,20 +50,17 @@ fn linked(
     second: &mut [u32],
     far: &mut [u8],
 ) -> bool
-    requires { ⌜ Charted (now t) (now last) (now prev) ⌝ }
-    requires { ⌜ (a .0 < length (now last)) × (b .0 < length (now last)) ⌝ }
+    requires { ⌜ Charted (now t) (now last) (now prev) × (most-corners ≤ length (now last)) ⌝ }
+    requires { ⌜ (a .0 < most-corners) × (b .0 < most-corners) ⌝ }
     requires { ⌜ (most-corners ≤ length (now first)) × (most-corners ≤ length (now second)) ⌝ }
     requires { ⌜ Unmarked (now near) × Unmarked (now far) ⌝ }
     ensures { λ r. ⌜ Tells r (Meets (rows (now (t .entry))) (a .0) (b .0)) (¬ Meets (rows (now (t .entry))) (a .0) (b .0)) ⌝ }
     ensures { λ _. ⌜ Unmarked (now (near .exit)) × Unmarked (now (far .exit)) ⌝ }
 {
-    let j = neighbours::gather(t, last, prev, a, first);
-    if !contains(&first[..j], b.0) {
-        return false;
-    }
-    neighbours::mark(&first[..j], near);
-    let r = link::meets_round(t, last, prev, &first[..j], near, b, second, far);
-    neighbours::unmark(&first[..j], near);
+    let k = neighbours::gather(t, last, prev, a, first);
+    neighbours::mark(&first[..k], near);
+    let r = linked_round(t, last, prev, &first[..k], near, b, second, far);
+    neighbours::unmark(&first[..k], near);
     r
 }
 

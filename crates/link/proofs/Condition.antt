@@ -8,6 +8,7 @@ use native.Mathlib.Omega.{arith}
 use borrow.Author.Tests.{eqb-true, eqb-false}
 use lib.Dec.{eqb}
 use lib.ListN.{length}
+use denote.Ref.{RefT}
 use Rattle.surface.specs.Lists.{_∈_, Exactly}
 use Rattle.surface.specs.Rows.{rows}
 use Rattle.surface.specs.Table.{Edge}
@@ -15,9 +16,23 @@ use Rattle.surface.specs.InnerStageTable.{StageTable}
 use Rattle.surface.proofs.Main.{link-counts, counts-one}
 use Rattle.surface.specs.Link.{Meets, Common}
 use Rattle.refusal.specs.InnerTells.{Tells}
-use Rattle.neighbours.specs.Around.{Neighbours}
-use Rattle.link.specs.InnerBoth.{Both}
+use Rattle.neighbours.specs.Around.{Neighbours, Marked}
+use Rattle.link.specs.Chosen.{Chosen}
+use Rattle.link.specs.InnerBoth.{Both, MarkedOf}
+use Rattle.link.proofs.Laws.{second-chosen, first-chosen}
 use Rattle.link.proofs.Tally.{exactly-same}
+
+-- where marks m are looked up for each number of l, the count is of what stands in both
+abbrev Counts : List ℕ → List ℕ → List ℕ → ℕ → List ℕ → Type 0
+Counts first second m n l = Exactly (MarkedOf l m) n → Exactly (Both first second) n
+
+-- and so it is where l is the ring that is walked, and m has the marks of the other
+module _ {a b r : RefT (List ℕ)} {m : List ℕ} {n : ℕ} (h : Chosen a b r) where
+  pub second-walked : length (r .now) < length (a .now) → Marked (a .now) m → Exactly (MarkedOf (r .now) m) n → Exactly (Both (a .now) (b .now)) n
+  second-walked k g = second-chosen (Counts (a .now) (b .now) m n) h k (exactly-same (λ w z. (g .only (z .1), z .0)) (λ w z. (z .1, g .all (z .0))))
+
+  pub first-walked : length (a .now) ≤ length (r .now) → Marked (b .now) m → Exactly (MarkedOf (r .now) m) n → Exactly (Both (a .now) (b .now)) n
+  first-walked k g = first-chosen (Counts (a .now) (b .now) m n) h k (exactly-same (λ w z. (z .0, g .only (z .1))) (λ w z. (z .0, g .all (z .1))))
 
 module _ {n : ℕ} (t : List ℕ) (s : StageTable n t) {a b : ℕ} where
   pub four-rows : length t ≤ 12 → ¬ Meets (rows t) a b

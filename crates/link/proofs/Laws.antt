@@ -1,13 +1,12 @@
 -- The ring chooser's words: they leave nothing to choose, and what they tell of the ring chosen.
-use mathlib.Core.Path.{_≡_, sym, _∙_}
+use mathlib.Core.Path.{_≡_, sym, _∙_, ap}
 use mathlib.Core.Logic.{inl, inr}
 use mathlib.Core.List.{List}
-use Prim.Native.Nat.{ℕ}
+use Prim.Native.Nat.{ℕ, _≤_, _<_}
 use native.Mathlib.Omega.{arith}
+use lib.ListN.{length}
 use denote.Ref.{RefT}
-use Rattle.surface.specs.Lists.{_∈_}
 use Rattle.link.specs.Chosen.{Chosen}
-use Rattle.link.specs.InnerBoth.{Both}
 
 -- no second answer satisfies them
 pub chosen-one : {a b r s : RefT (List ℕ)} → Chosen a b r → Chosen a b s → r ≡ s
@@ -16,12 +15,12 @@ chosen-one (inl h) (inr k) = absurd (omega (arith, h .0, k .0))
 chosen-one (inr h) (inl k) = absurd (omega (arith, h .0, k .0))
 chosen-one (inr h) (inr k) = h .1 ∙ sym (k .1)
 
--- the chosen ring is one of the two
-module _ {a b r : RefT (List ℕ)} where
-  pub chosen-has : (P : List ℕ → Type 0) → Chosen a b r → P (a .now) → P (b .now) → P (r .now)
-  chosen-has P (inl h) p q = rw (h .1) p
-  chosen-has P (inr h) p q = rw (h .1) q
+-- its length tells which of the two it is, so that it has what that one has
+module _ {a b r : RefT (List ℕ)} (P : List ℕ → Type 0) where
+  pub second-chosen : Chosen a b r → length (r .now) < length (a .now) → P (b .now) → P (r .now)
+  second-chosen (inl h) k p = absurd (omega (arith, ap (λ (x : RefT (List ℕ)). length (x .now)) (h .1)))
+  second-chosen (inr h) k p = rw (h .1) p
 
-  pub chosen-both : Chosen a b r → (w : ℕ) → Both (a .now) (b .now) w → w ∈ r .now
-  chosen-both (inl h) w z = rw (h .1) (z .0)
-  chosen-both (inr h) w z = rw (h .1) (z .1)
+  pub first-chosen : Chosen a b r → length (a .now) ≤ length (r .now) → P (a .now) → P (r .now)
+  first-chosen (inl h) k p = rw (h .1) p
+  first-chosen (inr h) k p = absurd (omega (arith, h .0, ap (λ (x : RefT (List ℕ)). length (x .now)) (h .1)))

@@ -1,21 +1,15 @@
--- Lists searched and counted through, number by number.
+-- Lists counted through, number by number.
 use mathlib.Core.Path.{_≡_, refl, sym, _∙_}
 use mathlib.Core.Logic.{_⊎_, inl, inr}
-use mathlib.Core.List.{List, [], _∷_, _++_, List·Memᴰ·head, List·Memᴰ·not-nil, List·Memᴰ·eq-of-singleton, List·Memᴰ·append-cases, Memᴰ·append-left, Memᴰ·append-right, Memᴰ·cast}
+use mathlib.Core.List.{List, [], _∷_, _++_, List·Memᴰ·head, List·Memᴰ·not-nil, List·Memᴰ·eq-of-singleton, List·Memᴰ·append-cases, Memᴰ·append-left, Memᴰ·append-right}
 use Prim.Native.Nat.{ℕ, _+_, _≤_, _<_}
 use native.Mathlib.Omega.{arith}
 use lib.ListN.{length, getD, take, length-append}
 use lib.Seq.{take-all, getD-take, length-take-le}
 use Rattle.surface.specs.Lists.{_∈_, Distinct, none, more, Exactly}
 use Rattle.surface.proofs.Counted.{distinct-append}
-use Rattle.surface.proofs.Flat.{at-place, place-of, places-differ}
+use Rattle.surface.proofs.Flat.{place-of, places-differ}
 use Rattle.neighbours.proofs.Firsts.{first-split, first-old, first-new}
-
-pub stands-at : (l : List ℕ) (i w : ℕ) → i < length l → getD l i 0 ≡ w → w ∈ l
-stands-at l i w h e = Memᴰ·cast (sym e) (at-place l i 0 h)
-
-pub stands-nowhere : (l : List ℕ) (w : ℕ) → ((i : ℕ) → i < length l → getD l i 0 ≡ w → ⊥) → ¬ (w ∈ l)
-stands-nowhere l w h m = let r = place-of 0 m in h (r .0) (r .1) (r .2)
 
 -- what holds of the same things is counted alike
 pub exactly-same : {P Q : ℕ → Type 0} {k : ℕ} → ((w : ℕ) → P w → Q w) → ((w : ℕ) → Q w → P w) → Exactly P k → Exactly Q k
@@ -64,6 +58,6 @@ module _ (P : ℕ → Type 0) (l : List ℕ) where
         only w (inl m) = let z = c .only m in (first-old l i h (z .0), z .1)
         only w (inr m) = let e = List·Memᴰ·eq-of-singleton m in (first-new l i h e, rw e p)
 
-  -- at the end, if l has all with the property
-  pub count-end : (i : ℕ) {k : ℕ} → length l ≤ i → ((w : ℕ) → P w → w ∈ l) → Exactly (Among P l i) k → Exactly P k
-  count-end i h a c = exactly-same (λ w z. z .1) (λ w p. (rw (take-all i l h) (a w p), p)) c
+  -- at the end those of all of l are counted
+  pub count-end : (i : ℕ) {k : ℕ} → length l ≤ i → Exactly (Among P l i) k → Exactly (λ w. (w ∈ l) × P w) k
+  count-end i h c = exactly-same (λ w z. (rw (take-all i l h) at (z .0), z .1)) (λ w z. (rw (take-all i l h) (z .0), z .1)) c

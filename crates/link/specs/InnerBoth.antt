@@ -14,9 +14,9 @@ use Rattle.neighbours.specs.Around.{Neighbours}
 abbrev pub Both : List ℕ → List ℕ → ℕ → Type 0
 Both l m w = (w ∈ l) × (w ∈ m)
 
--- w is marked in both
-abbrev pub MarkedTwice : List ℕ → List ℕ → ℕ → Type 0
-MarkedTwice m n w = (getD m w 0 ≢ 0) × (getD n w 0 ≢ 0)
+-- w stands in l and is marked
+abbrev pub MarkedOf : List ℕ → List ℕ → ℕ → Type 0
+MarkedOf l m w = (w ∈ l) × (getD m w 0 ≢ 0)
 
 -- r tells whether the edge from b to a corner whose neighbours l lists may be contracted
 abbrev pub TellsEdge : List Row → List ℕ → ℕ → Bool → Type 0

@@ -5,11 +5,9 @@ ghost use lib.ListN.{length};
 ghost use Rattle.surface.specs.Limits.{most-corners};
 ghost use Rattle.surface.specs.Lists.{_∈_, Distinct, Exactly};
 ghost use Rattle.surface.specs.Rows.{rows};
-ghost use Rattle.surface.specs.Link.{Meets};
-ghost use Rattle.refusal.specs.InnerTells.{Tells};
 ghost use Rattle.link.specs.Chosen.{Chosen};
-ghost use Rattle.neighbours.specs.Around.{Charted, Marked, Unmarked};
-ghost use Rattle.link.specs.InnerBoth.{MarkedTwice, Both, TellsEdge};
+ghost use Rattle.neighbours.specs.Around.{Charted, CornerNumbers, Marked, Unmarked};
+ghost use Rattle.link.specs.InnerBoth.{Both, MarkedOf, TellsEdge};
 
 // The numbers of four rows: the tetrahedron.
 const FOUR_ROWS: usize = 12;
@@ -25,33 +23,40 @@ pub fn shorter_ring<'a>(first: &'a [u32], second: &'a [u32]) -> &'a [u32]
     }
 }
 
-// Whether a number is marked both times.
-fn in_both(near: &[u8], far: &[u8], w: u32) -> bool
-    requires { ⌜ (w < length (now near)) × (w < length (now far)) ⌝ }
-    ensures { λ r. ⌜ Tells r (MarkedTwice (now (near .entry)) (now (far .entry)) w) (¬ MarkedTwice (now (near .entry)) (now (far .entry)) w) ⌝ }
+// How many numbers of a ring are marked.
+fn marked_of(ring: &[u32], marks: &[u8]) -> usize
+    requires { ⌜ Distinct (now ring) × CornerNumbers (now ring) ⌝ }
+    requires { ⌜ most-corners ≤ length (now marks) ⌝ }
+    ensures { λ r. ⌜ Exactly (MarkedOf (now (ring .entry)) (now (marks .entry))) r ⌝ }
 {
-    let i = w as usize;
-    if near[i] == 0 {
-        return false;
-    }
-    far[i] != 0
-}
-
-// How many numbers stand in both rings, which near and far mark. The shorter one has them all.
-fn common<'a>(first: &'a [u32], second: &'a [u32], near: &[u8], far: &[u8]) -> usize
-    requires { ⌜ Distinct (now first) × Distinct (now second) ⌝ }
-    requires { ⌜ Marked (now first) (now near) × Marked (now second) (now far) ⌝ }
-    ensures { λ r. ⌜ Exactly (Both (now (first .entry)) (now (second .entry))) r ⌝ }
-{
-    let ring = shorter_ring(first, second);
     let mut k: usize = 0;
     let mut i: usize = 0;
     while i < ring.len() {
-        if in_both(near, far, ring[i]) {
+        let w = ring[i] as usize;
+        if marks[w] != 0 {
             k += 1;
         }
         i += 1;
     }
+    k
+}
+
+// How many numbers stand in both rings, of which near marks the first. The shorter one has them all, so it is walked, and each of its numbers looked
+// up in the marks of the other. Where that is the second ring, far marks it for the walk and is blank again after it.
+fn common<'a>(first: &'a [u32], second: &'a [u32], near: &[u8], far: &mut [u8]) -> usize
+    requires { ⌜ Distinct (now first) × Distinct (now second) ⌝ }
+    requires { ⌜ Marked (now first) (now near) × CornerNumbers (now second) ⌝ }
+    requires { ⌜ Unmarked (now far) ⌝ }
+    ensures { λ r. ⌜ Exactly (Both (now (first .entry)) (now (second .entry))) r ⌝ }
+    ensures { λ _. ⌜ Unmarked (now (far .exit)) ⌝ }
+{
+    let ring = shorter_ring(first, second);
+    if ring.len() < first.len() {
+        return marked_of(ring, near);
+    }
+    neighbours::mark(second, far);
+    let k = marked_of(ring, far);
+    neighbours::unmark(second, far);
     k
 }
 
@@ -81,8 +86,5 @@ pub fn meets_round(
         return false;
     }
     let k = neighbours::gather(t, last, prev, b, second);
-    neighbours::mark(&second[..k], far);
-    let shared = common(first, &second[..k], near, far);
-    neighbours::unmark(&second[..k], far);
-    shared == 2
+    common(first, &second[..k], near, far) == 2
 }

@@ -32,7 +32,7 @@ linked-requires c κs =
     let chains = c .before .before .before .before .before .before .before .before .chains in
     let last2 = c .before .before .before .before .before .before .before .last2 in
     let m = pre .0 .stage .many in
-    (record { corners = args .n; table = pre .0; chained = chains .ensures }, ((omega (arith, pre .1 .0 .0, last2 .given), omega (arith, pre .1 .0 .1, last2 .given)), pre .1 .1))
+    ((record { corners = args .n; table = pre .0; chained = chains .ensures }, omega (arith, last2 .given)), ((omega (arith, pre .1 .0 .0), omega (arith, pre .1 .0 .1)), pre .1 .1))
 
 same-length : tie.Need-same-length
 same-length c = search needs

@@ -1,100 +1,68 @@
 -- `common` meets its contract.
-use mathlib.Core.Logic.{⊎-elim}
-use Prim.Native.Nat.{_-_, _≤_}
-use lib.ListN.{length}
-use Rattle.surface.specs.Lists.{Distinct, Exactly}
-use Rattle.surface.proofs.Flat.{at-place}
-use Rattle.neighbours.specs.Around.{CornerNumbers}
-use Rattle.link.specs.InnerBoth.{Both}
-use Rattle.link.proofs.Laws.{chosen-has, chosen-both}
-use Rattle.link.proofs.Tally.{Among, count-none, count-past, count-more, count-end}
+use mathlib.Core.List.{List}
+use Prim.Native.Nat.{ℕ}
 use native.Mathlib.Omega.{arith}
 use borrow.Author.Needs.{needs}
+use Rattle.surface.specs.Lists.{Distinct}
+use Rattle.neighbours.specs.Around.{CornerNumbers}
+use Rattle.link.proofs.Laws.{second-chosen, first-chosen}
+use Rattle.link.proofs.Condition.{second-walked, first-walked}
 use Rattle.link.proofs.common.Statement.{statement}
 use Rattle.link.proofs.common.Tie as tie
 
-abbrev Inv-loop : tie.InvT-loop
-Inv-loop first second near far ring k₀ i₀ k i = (i ≤ length ring) × (k ≤ i) × Exactly (Among (Both first second) ring i) k
+-- what is asked of the ring that is walked
+abbrev Walked : List ℕ → Type 0
+Walked l = Distinct l × CornerNumbers l
 
-abbrev μ-loop : tie.MeasureT-loop
-μ-loop first second near far ring k₀ i₀ k i = length ring - i
-
-shorter-ring-requires : tie.Need-shorter-ring-requires Inv-loop μ-loop
+shorter-ring-requires : tie.Need-shorter-ring-requires
 shorter-ring-requires c κs = search needs
 
-loop-holds : tie.Need-loop-holds Inv-loop μ-loop
-loop-holds c =
-    let args = c .before .before .before .before .before .args in
-    let shorter-ring = c .shorter-ring in
-    (omega arith, omega arith, count-none (Both (args .first .now) (args .second .now)) (shorter-ring .result .now))
+marked-of-requires : tie.Need-marked-of-requires
+marked-of-requires c κs =
+    let pre = c .before .before .before .before .before .before .pre in
+    (second-chosen Walked (c .before .shorter-ring .ensures) (c .if1 .taken) (pre .0 .1, pre .1 .0 .1), pre .1 .0 .0 .room)
 
-mul-in-both : tie.Need-mul-in-both Inv-loop μ-loop
-mul-in-both c = search needs
-
-shared-slice-read-in-both : tie.Need-shared-slice-read-in-both Inv-loop μ-loop
-shared-slice-read-in-both c = search needs
-
-in-both-requires : tie.Need-in-both-requires Inv-loop μ-loop
-in-both-requires c κs =
-    let pre = c .before .before .before .before .before .before .before .before .pre in
-    let shorter-ring = c .before .before .before .shorter-ring in
-    let loop = c .before .before .loop in
-    let loop-test = c .before .loop-test in
-    let near = pre .1 .0 in
-    let far = pre .1 .1 in
-    let corners = chosen-has CornerNumbers (shorter-ring .ensures) (near .corners) (far .corners) in
-    let below = corners _ (at-place (shorter-ring .result .now) (loop .i) 0 (loop-test .taken)) in
-    (omega (arith, near .room, below), omega (arith, far .room, below))
-
-add-k : tie.Need-add-k Inv-loop μ-loop
-add-k c = search needs
-
-add-i : tie.Need-add-i Inv-loop μ-loop
-add-i c = search needs
-
-loop-less : tie.Need-loop-less Inv-loop μ-loop
-loop-less c = search needs
-
-loop-again : tie.Need-loop-again Inv-loop μ-loop
-loop-again c =
-    let loop = c .before .before .before .before .loop in
-    let loop-test = c .before .before .before .loop-test in
-    let pre = c .before .before .before .before .before .before .before .before .before .before .pre in
-    let shorter-ring = c .before .before .before .before .before .shorter-ring in
-    let args = c .before .before .before .before .before .before .before .before .before .before .args in
-    let in-both = c .before .in-both in
-    let inv = loop .inv in
-    let h = loop-test .taken in
-    let near = pre .1 .0 in
-    let far = pre .1 .1 in
-    let d = chosen-has Distinct (shorter-ring .ensures) (pre .0 .0) (pre .0 .1) in
-    let both = Both (args .first .now) (args .second .now) in
-    ⊎-elim
-    (λ w. rw (w .1) (omega arith, omega arith, count-more both (shorter-ring .result .now) (loop .i) h d (let z = in-both .ensures .when-true (w .0 .taken) in (near .only (z .0), far .only (z .1))) (inv .2)))
-    (λ w. rw (w .1) (omega arith, omega arith, count-past both (shorter-ring .result .now) (loop .i) h (λ z. in-both .ensures .when-false (w .0 .left) (near .all (z .0), far .all (z .1))) (inv .2)))
-    (c .if1 .came)
-
-returns : tie.Need-returns Inv-loop μ-loop
+returns : tie.Need-returns
 returns c =
-    let args = c .before .before .before .before .before .before .before .args in
-    let shorter-ring = c .before .before .shorter-ring in
-    let loop = c .before .loop in
-    let loop-test = c .loop-test in
-    count-end (Both (args .first .now) (args .second .now)) (shorter-ring .result .now) (loop .i) (loop-test .left) (chosen-both (shorter-ring .ensures)) (loop .inv .2)
+    let pre = c .before .before .before .before .before .before .before .pre in
+    (second-walked (c .before .before .shorter-ring .ensures) (c .before .if1 .taken) (pre .1 .0 .0) (c .marked-of .ensures), pre .1 .1)
+
+mark-requires : tie.Need-mark-requires
+mark-requires c κs =
+    let pre = c .before .before .before .before .before .before .before .pre in
+    (pre .1 .0 .1, pre .1 .1)
+
+marked-of-requires-2 : tie.Need-marked-of-requires-2
+marked-of-requires-2 c κs =
+    let pre = c .before .before .before .before .before .before .before .before .before .before .before .pre in
+    let shorter = c .before .before .before .before .before .before .shorter-ring .ensures in
+    let mark = c .before .before .before .mark in
+    let h = c .before .before .before .before .before .if1 .left in
+    (first-chosen Walked shorter (omega arith) (pre .0 .0, pre .1 .0 .0 .corners), mark .ensures .room)
+
+unmark-requires : tie.Need-unmark-requires
+unmark-requires c κs = c .before .before .before .before .before .mark .ensures
+
+same-length : tie.Need-same-length
+same-length c = search needs
+
+returns-2 : tie.Need-returns-2
+returns-2 c =
+    let shorter = c .before .before .before .before .before .before .before .before .before .before .before .shorter-ring .ensures in
+    let h = c .before .before .before .before .before .before .before .before .before .before .if1 .left in
+    let mark = c .before .before .before .before .before .before .before .before .mark in
+    let counted = c .before .before .before .before .marked-of2 in
+    (first-walked shorter (omega arith) (mark .ensures) (counted .ensures), c .before .before .unmark .ensures)
 
 pub common-spec : {M : Type 1} → statement M
 common-spec =
     tie.close
     (tie.spec
-    Inv-loop
-    μ-loop
     shorter-ring-requires
-    loop-holds
-    mul-in-both
-    shared-slice-read-in-both
-    in-both-requires
-    add-k
-    add-i
-    loop-less
-    loop-again
-    returns)
+    marked-of-requires
+    returns
+    mark-requires
+    marked-of-requires-2
+    unmark-requires
+    same-length
+    returns-2)

@@ -19,48 +19,20 @@ returns c =
 gather-requires : tie.Need-gather-requires
 gather-requires c κs = search needs
 
-slice-reshare-prefix-mark : tie.Need-slice-reshare-prefix-mark
-slice-reshare-prefix-mark c = search needs
-
-slice-aggregate-mark : tie.Need-slice-aggregate-mark
-slice-aggregate-mark c =
-    let gather = c .before .before .before .gather in
-    sym (length-take-le _ _ (gather .ensures .fits))
-
-mark-requires : tie.Need-mark-requires
-mark-requires c κs =
-    let args = c .before .before .before .before .before .before .before .before .before .before .before .before .before .before .args in
-    let pre = c .before .before .before .before .before .before .before .before .before .before .before .before .before .before .pre in
-    let gather = c .before .before .before .before .gather in
-    (neighbours-corners (args .t .now) (pre .0 .table) (gather .ensures .lists), pre .1 .1 .1 .1 .1)
-
 slice-reshare-prefix-common : tie.Need-slice-reshare-prefix-common
 slice-reshare-prefix-common c = search needs
 
 slice-aggregate-common : tie.Need-slice-aggregate-common
 slice-aggregate-common c =
-    let gather = c .before .before .before .before .before .before .before .before .gather in
+    let gather = c .before .before .before .gather in
     sym (length-take-le _ _ (gather .ensures .fits))
 
 common-requires : tie.Need-common-requires
 common-requires c κs =
-    let pre = c .before .before .before .before .before .before .before .before .before .before .before .before .before .before .before .before .before .before .before .pre in
-    let gather = c .before .before .before .before .before .before .before .before .before .gather in
-    let mark = c .before .before .before .before .mark in
-    ((pre .1 .0 .0, gather .ensures .lists .distinct), (pre .1 .1 .0, mark .ensures))
-
-slice-reshare-prefix-unmark : tie.Need-slice-reshare-prefix-unmark
-slice-reshare-prefix-unmark c = search needs
-
-slice-aggregate-unmark : tie.Need-slice-aggregate-unmark
-slice-aggregate-unmark c =
-    let gather = c .before .before .before .before .before .before .before .before .before .before .before .gather in
-    sym (length-take-le _ _ (gather .ensures .fits))
-
-unmark-requires : tie.Need-unmark-requires
-unmark-requires c κs =
-    let mark = c .before .before .before .before .before .before .before .mark in
-    mark .ensures
+    let args = c .before .before .before .before .before .before .before .before .before .before .before .before .before .before .args in
+    let pre = c .before .before .before .before .before .before .before .before .before .before .before .before .before .before .pre in
+    let lists = c .before .before .before .before .gather .ensures .lists in
+    ((pre .1 .0 .0, lists .distinct), ((pre .1 .1 .0, neighbours-corners (args .t .now) (pre .0 .table) lists), pre .1 .1 .1 .1 .1))
 
 same-length : tie.Need-same-length
 same-length c = search needs
@@ -70,13 +42,12 @@ same-length-2 c = search needs
 
 returns-2 : tie.Need-returns-2
 returns-2 c =
-    let if1 = c .before .before .before .before .before .before .before .before .before .before .before .before .before .before .before .before .before .if1 in
-    let args = c .before .before .before .before .before .before .before .before .before .before .before .before .before .before .before .before .before .before .before .before .before .before .before .before .before .args in
-    let pre = c .before .before .before .before .before .before .before .before .before .before .before .before .before .before .before .before .before .before .before .before .before .before .before .before .before .pre in
-    let gather = c .before .before .before .before .before .before .before .before .before .before .before .before .before .before .before .gather in
-    let common = c .before .before .before .before .before .common in
-    let unmark = c .before .before .unmark in
-    ((λ a f. let h = if1 .left in two-common (args .t .now) (pre .0 .table) f (gather .ensures .lists) (omega arith) (pre .1 .0 .1) (common .ensures)), unmark .ensures)
+    let if1 = c .before .before .before .before .before .before .before .before .before .if1 in
+    let args = c .before .before .before .before .before .before .before .before .before .before .before .before .before .before .before .before .before .args in
+    let pre = c .before .before .before .before .before .before .before .before .before .before .before .before .before .before .before .before .before .pre in
+    let gather = c .before .before .before .before .before .before .before .gather in
+    let common = c .before .before .common in
+    ((λ a f. let h = if1 .left in two-common (args .t .now) (pre .0 .table) f (gather .ensures .lists) (omega arith) (pre .1 .0 .1) (common .ensures .0)), common .ensures .1)
 
 pub meets-round-spec : {M : Type 1} → statement M
 meets-round-spec =
@@ -84,15 +55,9 @@ meets-round-spec =
     (tie.spec
     returns
     gather-requires
-    slice-reshare-prefix-mark
-    slice-aggregate-mark
-    mark-requires
     slice-reshare-prefix-common
     slice-aggregate-common
     common-requires
-    slice-reshare-prefix-unmark
-    slice-aggregate-unmark
-    unmark-requires
     same-length
     same-length-2
     returns-2)
