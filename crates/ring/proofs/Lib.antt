@@ -1,3 +1,1 @@
 pub mod Rule
-pub mod Closed
-pub mod Torus

@@ -1,4 +1,3 @@
 pub mod Ring
 pub mod Answer
-pub mod Torus
 pub mod Inner

@@ -15,9 +15,9 @@ use Rattle.surface.proofs.Counted.{two-rows}
 use Rattle.surface.proofs.Stepped.{counted, upto-distinct, upto-below, upto-length}
 use Rattle.computed.proofs.Passing.{passes-stage}
 use Rattle.computed.proofs.Using.{uses-all, uses-sound}
 use Rattle.ring.specs.Ring.{number-at}
 use Rattle.ring.specs.Inner.{numbers-from, ring}
-use Rattle.ring.proofs.Rule.{ring-length}
+use Rattle.torus.proofs.Rows.{ring-length}
 
 -- one test over the whole table
 pub ring-stage : Stage 64 (rows ring)

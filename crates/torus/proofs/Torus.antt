@@ -8,14 +8,15 @@ use lib.ListN.{length, getD}
 use Rattle.surface.specs.Lists.{_∈_}
 use Rattle.surface.specs.Rows.{Row, row, rows}
 use Rattle.surface.proofs.Flat.{place-of}
 use Rattle.ring.specs.declared.Trial.{Trial}
 use Rattle.ring.specs.declared.Trial.the-variants.{Number, Nothing}
 use Rattle.ring.specs.Ring.{corner, size, AnswerAt}
 use Rattle.ring.specs.Inner.{ring}
 use Rattle.ring.specs.Answer.{told}
-use Rattle.ring.specs.Torus.{first-row, second-row, OnGrid, Torus, TrialRing}
-use Rattle.ring.proofs.Rule.{ring-at, ring-length, ring-numbers, row-first, row-second, trial-one}
-use Rattle.ring.proofs.Closed.{ring-stage, ring-used, ring-euler}
+use Rattle.torus.specs.Torus.{first-row, second-row, OnGrid, Torus, TrialRing}
+use Rattle.ring.proofs.Rule.{ring-at, ring-numbers, trial-one}
+use Rattle.torus.proofs.Rows.{ring-length, row-first, row-second}
+use Rattle.torus.proofs.Closed.{ring-stage, ring-used, ring-euler}
 
 -- a corner's number and its place on the grid
 module _ (r c : ℕ) (g : OnGrid r c) where

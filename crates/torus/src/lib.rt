@@ -1,0 +1,1 @@
+// The trial ring is a torus: definitions and proofs, no code.
