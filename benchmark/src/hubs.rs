@@ -165,7 +165,8 @@ impl Hub {
         let corners = rows.iter().flatten().max().map_or(0, |&most| most as usize + 1);
         let table = rows.concat();
         check::stage(&table, corners, &mut Uncounted).expect("a hub is a stage");
-        let (mut asked, mut marks, mut all) = (Asked::new(&table, EDGE.0, EDGE.1), Counted::default(), Counted::default());
+        let (mut asked, mut marks, mut all) =
+            (Asked::new(&table, EDGE.0, EDGE.1), Counted::default(), Counted::default());
         let neighbours = |corner| asked.chains.slots(corner as usize).count();
         assert_eq!((neighbours(EDGE.0), neighbours(EDGE.1)), (kept, removed));
         assert!(asked.alike(), "the sides differ on a hub of {kept} and {removed}");
@@ -177,9 +178,15 @@ impl Hub {
     fn call(&self) -> Call<'_> {
         let sides = || self.asked.clone();
         let (mut here, mut there, mut beside) = (sides(), sides(), sides());
-        let proved = move || drop(black_box(black_box(&mut here).proved()));
-        let marks = move || drop(black_box(black_box(&mut there).marks(&mut Uncounted)));
-        let all = move || drop(black_box(black_box(&mut beside).all_with_all(&mut Uncounted)));
+        let proved = move || {
+            black_box(black_box(&mut here).proved());
+        };
+        let marks = move || {
+            black_box(black_box(&mut there).marks(&mut Uncounted));
+        };
+        let all = move || {
+            black_box(black_box(&mut beside).all_with_all(&mut Uncounted));
+        };
         Call::new("link test", None, self.marks, proved, marks).with_quick(self.all, all)
     }
 
@@ -213,7 +220,11 @@ pub fn compare(skins: &[Skin]) -> usize {
         let table = skin.table();
         for &[a, b, c] in &skin.rows {
             for (kept, removed) in [(a, b), (b, c), (c, a)] {
-                assert!(Asked::new(&table, kept, removed).alike(), "{}: the sides differ at {kept}, {removed}", skin.name);
+                assert!(
+                    Asked::new(&table, kept, removed).alike(),
+                    "{}: the sides differ at {kept}, {removed}",
+                    skin.name
+                );
                 compared += 1;
             }
         }

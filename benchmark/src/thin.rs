@@ -108,8 +108,7 @@ pub fn may_contract(table: &[u32], chains: &Chains, kept: u32, removed: u32, wor
     let Scratch { first, near, second, far } = &mut scratch;
     let ring = gather(table, chains, kept, first, work);
     mark(ring, near, work);
-    let meets =
-        near[removed as usize] && meets_round(table, chains, ring, near, removed, second, far, work);
+    let meets = near[removed as usize] && meets_round(table, chains, ring, near, removed, second, far, work);
     unmark(ring, near, work);
     meets
 }
