@@ -41,8 +41,8 @@ fn marked_of(ring: &[u32], marks: &[u8]) -> usize
     k
 }
 
-// How many numbers stand in both rings, of which near marks the first. The shorter one has them all, so it is walked, and each of its numbers looked
-// up in the marks of the other. Where that is the second ring, far marks it for the walk and is blank again after it.
+// How many numbers stand in both rings, of which near marks the first. The shorter one has them all: it is walked, and each of its numbers is looked
+// up in the marks of the other. The second is marked only where the first is walked; far is blank again when the count is told.
 fn common<'a>(first: &'a [u32], second: &'a [u32], near: &[u8], far: &mut [u8]) -> usize
     requires { ⌜ Distinct (now first) × Distinct (now second) ⌝ }
     requires { ⌜ Marked (now first) (now near) × CornerNumbers (now second) ⌝ }
