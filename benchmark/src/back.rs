@@ -1,7 +1,7 @@
 //! Growing back and replay in ordinary Rust.
 
 use crate::check::{self, next, Chains};
-use crate::thin::{contract, may_contract, record, LEAVE};
+use crate::thin::{contract, may_contract, record, Scratch, LEAVE};
 use crate::work::Work;
 use apart::skin::{CORNERS, FEWEST, MOST_CORNERS, MOST_ROWS, ROWS};
 use apart::step::{EARLIER, LATER, WIDTH};
@@ -85,14 +85,14 @@ pub fn grow_back(
 }
 
 /// Whether a record's step may be done on a stage, and writes this record.
-fn accepts(table: &[u32], corners: usize, wanted: &[u32], work: &mut impl Work) -> bool {
+fn accepts(table: &[u32], corners: usize, wanted: &[u32], scratch: &mut Scratch, work: &mut impl Work) -> bool {
     let (kept, removed) = (wanted[0], wanted[1]);
     if removed <= kept || corners <= removed as usize {
         return false;
     }
     let mut chains = Chains::EMPTY;
     chains.link(table, work);
-    may_contract(table, &chains, kept, removed, work) && record(table, kept, removed, work) == wanted
+    may_contract(table, &chains, kept, removed, scratch, work) && record(table, kept, removed, work) == wanted
 }
 
 /// The call: the log's records done again, the first first.
@@ -105,9 +105,9 @@ pub fn replay(table: &mut [u32], corners: usize, log: &[u32], work: &mut impl Wo
         return Err(Refused(CountsOutside));
     }
     check::stage(table, corners, work).map_err(Refused)?;
-    let mut end = table.len();
+    let (mut end, mut scratch) = (table.len(), Scratch::EMPTY);
     for (done, wanted) in log.chunks_exact(WIDTH).enumerate() {
-        if !accepts(&table[..end], corners, wanted, work) {
+        if !accepts(&table[..end], corners, wanted, &mut scratch, work) {
             return Err(Stopped(done));
         }
         // The step tells its record once more, as the proved one does.

@@ -1,5 +1,5 @@
 //! The benchmark: each proved call beside the same loops in ordinary Rust, in one process, on the same input; check, volume and log sheets also
-//! beside quick Rust. The samples of the sides take turns, and a median stands for each. The sides' answers are compared before anything is timed;
+//! beside quick Rust, and the link test by itself also beside Rust that compares all with all. The samples of the sides take turns, and a median stands for each. The sides' answers are compared before anything is timed;
 //! with `compare` nothing else is done, and it goes on to damaged tables and logs.
 
 mod back;
@@ -316,21 +316,37 @@ fn timed(run: &mut dyn FnMut(), times: u32) -> Duration {
     start.elapsed()
 }
 
+/// How often a run is repeated to take about a sample's time.
+fn repeats(run: &mut dyn FnMut()) -> u32 {
+    let mut times = 1;
+    loop {
+        let took = timed(run, times);
+        if took >= SAMPLE / 4 {
+            return (u128::from(times) * SAMPLE.as_nanos() / took.as_nanos()).max(1) as u32;
+        }
+        times *= 2;
+    }
+}
+
+/// What is sampled of one side: how often a sample repeats its run, and the samples, in microseconds a run.
+struct Samples {
+    times: u32,
+    each: Vec<f64>,
+}
+
 /// Samples of a call at one size, while they are taken.
 struct Sampled<'a> {
     rows: usize,
     call: Call<'a>,
-    times: u32,
-    samples: Sides<Vec<Duration>>,
+    samples: Sides<Samples>,
 }
 
 impl<'a> Sampled<'a> {
     fn new(rows: usize, mut call: Call<'a>) -> Sampled<'a> {
-        let once = timed(&mut call.runs.plain, 3) / 3;
-        let times = (SAMPLE.as_nanos() / once.as_nanos().max(1)).clamp(1, 10_000) as u32;
-        timed(&mut call.runs.proved, times);
-        let samples = Sides { proved: vec![], plain: vec![], quick: call.runs.quick.as_ref().map(|_| vec![]) };
-        Sampled { rows, call, times, samples }
+        let fresh = |run: &mut Run| Samples { times: repeats(run), each: vec![] };
+        let Sides { proved, plain, quick } = &mut call.runs;
+        let samples = Sides { proved: fresh(proved), plain: fresh(plain), quick: quick.as_mut().map(fresh) };
+        Sampled { rows, call, samples }
     }
 
     /// One sample of each side; no side is always the first.
@@ -339,20 +355,19 @@ impl<'a> Sampled<'a> {
         let first = turn % sides.len();
         sides.rotate_left(first);
         for (run, samples) in sides {
-            samples.push(timed(run, self.times));
+            samples.each.push(timed(run, samples.times).as_secs_f64() * 1e6 / f64::from(samples.times));
         }
     }
 
     fn measured(self) -> Measured {
-        let Sampled { rows, call: Call { name, work, quick_slots, .. }, times, samples } = self;
-        Measured { call: name, rows, times: samples.map(|samples| median(samples, times)), work, quick_slots }
+        let Sampled { rows, call: Call { name, work, quick_slots, .. }, samples } = self;
+        Measured { call: name, rows, times: samples.map(|samples| median(samples.each)), work, quick_slots }
     }
 }
 
-/// The median of samples in microseconds a call.
-fn median(mut samples: Vec<Duration>, times: u32) -> f64 {
-    samples.sort_unstable();
-    samples[samples.len() / 2].as_secs_f64() * 1e6 / f64::from(times)
+fn median(mut samples: Vec<f64>) -> f64 {
+    samples.sort_unstable_by(f64::total_cmp);
+    samples[samples.len() / 2]
 }
 
 /// Every call at every size: calls and sizes take turns too, so that a slow spell of the machine falls on all of them.
@@ -403,15 +418,17 @@ fn greatest<'a>(figures: impl Iterator<Item = (f64, &'a Measured)>) -> String {
     format!("{figure:.2} ({}, {} rows)", of.call, of.rows)
 }
 
-/// The targets against what was measured: the greatest ratio of all, and the greatest growth of each call on shafts. No target stands for quick
+/// The targets against what was measured: the greatest ratio of all and of the link test at hubs, and the greatest growth of each call on shafts. No target stands for quick
 /// Rust, which does other work, nor for records one by one, each of which crosses the boundary by itself.
-fn close(shafts: &[Measured], others: &[Measured]) {
+fn close(shafts: &[Measured], others: &[Measured], hubs: &[Measured]) {
     let all = || shafts.iter().chain(others);
     println!("\n### Targets\n\n| What | Target | Greatest |\n|---|--:|--:|");
     for (calls, target, apart) in [("", RATIO.to_string(), false), (", records one by one", "none".into(), true)] {
         let ratio = greatest(all().filter(|one| (one.call == ONE_BY_ONE) == apart).map(|one| (one.ratio(), one)));
         println!("| ratio to the same loops in Rust{calls} | {target} | {ratio} |");
     }
+    let ratio = greatest(hubs.iter().map(|one| (one.ratio(), one)));
+    println!("| ratio of the link test to Rust that marks, 30 neighbours removed and more | {RATIO} | {ratio} |");
     let log_sheets = |one: &&Measured| one.call.ends_with("log sheet");
     for (calls, of) in [("check and volume", false), ("log sheets", true)] {
         let of_calls = all().filter(|one| log_sheets(one) == of);
@@ -458,9 +475,9 @@ fn time() {
         print(kind, &all);
         all
     });
-    hubs::time();
+    let hubs = hubs::time();
     let shafts = std::mem::take(&mut measured[0]);
-    close(&shafts, &measured.concat());
+    close(&shafts, &measured.concat(), &hubs);
 }
 
 fn main() -> ExitCode {

@@ -103,9 +103,15 @@ pub fn meets_round(
 }
 
 /// The link condition of an edge.
-pub fn may_contract(table: &[u32], chains: &Chains, kept: u32, removed: u32, work: &mut impl Work) -> bool {
-    let mut scratch = Scratch::EMPTY;
-    let Scratch { first, near, second, far } = &mut scratch;
+pub fn may_contract(
+    table: &[u32],
+    chains: &Chains,
+    kept: u32,
+    removed: u32,
+    scratch: &mut Scratch,
+    work: &mut impl Work,
+) -> bool {
+    let Scratch { first, near, second, far } = scratch;
     let ring = gather(table, chains, kept, first, work);
     mark(ring, near, work);
     let meets = near[removed as usize] && meets_round(table, chains, ring, near, removed, second, far, work);

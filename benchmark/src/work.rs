@@ -5,7 +5,7 @@ pub trait Work {
     fn slots(&mut self, count: usize);
     /// Edges of which the link condition is asked.
     fn link_test(&mut self);
-    /// Entries of rings gathered or compared.
+    /// Entries of rings and marks that are gathered, set, looked at or taken away again.
     fn ring_entries(&mut self, count: usize);
     /// Rows that a step or a record passes over.
     fn rows(&mut self, count: usize);

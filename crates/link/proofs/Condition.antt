@@ -22,11 +22,11 @@ use Rattle.link.specs.InnerBoth.{Both, MarkedOf}
 use Rattle.link.proofs.Laws.{second-chosen, first-chosen}
 use Rattle.link.proofs.Tally.{exactly-same}
 
--- where marks m are looked up for each number of l, the count is of what stands in both
+-- that there are n marked numbers of l says that n stand in both
 abbrev Counts : List ℕ → List ℕ → List ℕ → ℕ → List ℕ → Type 0
 Counts first second m n l = Exactly (MarkedOf l m) n → Exactly (Both first second) n
 
--- and so it is where l is the ring that is walked, and m has the marks of the other
+-- so it does where l is the ring that is walked, and m marks the other
 module _ {a b r : RefT (List ℕ)} {m : List ℕ} {n : ℕ} (h : Chosen a b r) where
   pub second-walked : length (r .now) < length (a .now) → Marked (a .now) m → Exactly (MarkedOf (r .now) m) n → Exactly (Both (a .now) (b .now)) n
   second-walked k g = second-chosen (Counts (a .now) (b .now) m n) h k (exactly-same (λ w z. (g .only (z .1), z .0)) (λ w z. (z .1, g .all (z .0))))

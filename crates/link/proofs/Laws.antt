@@ -15,6 +15,11 @@ chosen-one (inl h) (inr k) = absurd (omega (arith, h .0, k .0))
 chosen-one (inr h) (inl k) = absurd (omega (arith, h .0, k .0))
 chosen-one (inr h) (inr k) = h .1 ∙ sym (k .1)
 
+-- what both rings have the chosen one has
+pub chosen-has : {a b r : RefT (List ℕ)} (P : List ℕ → Type 0) → Chosen a b r → P (a .now) → P (b .now) → P (r .now)
+chosen-has P (inl h) p q = rw (h .1) p
+chosen-has P (inr h) p q = rw (h .1) q
+
 -- its length tells which of the two it is, so that it has what that one has
 module _ {a b r : RefT (List ℕ)} (P : List ℕ → Type 0) where
   pub second-chosen : Chosen a b r → length (r .now) < length (a .now) → P (b .now) → P (r .now)

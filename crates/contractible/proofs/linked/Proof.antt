@@ -2,7 +2,6 @@
 use mathlib.Core.Path.{sym}
 use lib.Seq.{length-take-le}
 use Rattle.neighbours.proofs.Marking.{neighbours-corners}
-use native.Mathlib.Omega.{arith}
 use borrow.Author.Needs.{needs}
 use Rattle.contractible.proofs.linked.Statement.{statement}
 use Rattle.contractible.proofs.linked.Tie as tie

@@ -5,12 +5,12 @@ use native.Mathlib.Omega.{arith}
 use borrow.Author.Needs.{needs}
 use Rattle.surface.specs.Lists.{Distinct}
 use Rattle.neighbours.specs.Around.{CornerNumbers}
-use Rattle.link.proofs.Laws.{second-chosen, first-chosen}
+use Rattle.link.proofs.Laws.{chosen-has}
 use Rattle.link.proofs.Condition.{second-walked, first-walked}
 use Rattle.link.proofs.common.Statement.{statement}
 use Rattle.link.proofs.common.Tie as tie
 
--- what is asked of the ring that is walked
+-- what is asked of the ring that is walked, whichever it is
 abbrev Walked : List ℕ → Type 0
 Walked l = Distinct l × CornerNumbers l
 
@@ -20,7 +20,9 @@ shorter-ring-requires c κs = search needs
 marked-of-requires : tie.Need-marked-of-requires
 marked-of-requires c κs =
     let pre = c .before .before .before .before .before .before .pre in
-    (second-chosen Walked (c .before .shorter-ring .ensures) (c .if1 .taken) (pre .0 .1, pre .1 .0 .1), pre .1 .0 .0 .room)
+    let shorter = c .before .shorter-ring .ensures in
+    let marked = pre .1 .0 .0 in
+    (chosen-has Walked shorter (pre .0 .0, marked .corners) (pre .0 .1, pre .1 .0 .1), marked .room)
 
 returns : tie.Need-returns
 returns c =
@@ -37,8 +39,7 @@ marked-of-requires-2 c κs =
     let pre = c .before .before .before .before .before .before .before .before .before .before .before .pre in
     let shorter = c .before .before .before .before .before .before .shorter-ring .ensures in
     let mark = c .before .before .before .mark in
-    let h = c .before .before .before .before .before .if1 .left in
-    (first-chosen Walked shorter (omega arith) (pre .0 .0, pre .1 .0 .0 .corners), mark .ensures .room)
+    (chosen-has Walked shorter (pre .0 .0, pre .1 .0 .0 .corners) (pre .0 .1, mark .ensures .corners), mark .ensures .room)
 
 unmark-requires : tie.Need-unmark-requires
 unmark-requires c κs = c .before .before .before .before .before .mark .ensures

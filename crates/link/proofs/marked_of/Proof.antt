@@ -1,6 +1,6 @@
 -- `marked_of` meets its contract.
 use mathlib.Core.Logic.{_≢_, ⊎-elim}
-use Prim.Native.Nat.{ℕ, _-_, _≤_}
+use Prim.Native.Nat.{_-_, _≤_}
 use lib.ListN.{length, getD}
 use Rattle.surface.specs.Lists.{Exactly}
 use Rattle.surface.proofs.Flat.{at-place}
