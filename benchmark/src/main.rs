@@ -1,6 +1,7 @@
 //! The benchmark: each proved call beside the same loops in ordinary Rust, in one process, on the same input; check, volume and log sheets also
-//! beside quick Rust, and the link test by itself also beside Rust that compares all with all. The samples of the sides take turns, and a median stands for each. The sides' answers are compared before anything is timed;
-//! with `compare` nothing else is done, and it goes on to damaged tables and logs.
+//! beside quick Rust, and the link test by itself also beside Rust that compares all with all. The samples of the sides take turns, and a median
+//! stands for each. The sides' answers are compared before anything is timed; with `compare` nothing else is done, and it goes on to damaged tables
+//! and logs, and to the link test of every edge.
 
 mod back;
 mod check;
@@ -418,8 +419,8 @@ fn greatest<'a>(figures: impl Iterator<Item = (f64, &'a Measured)>) -> String {
     format!("{figure:.2} ({}, {} rows)", of.call, of.rows)
 }
 
-/// The targets against what was measured: the greatest ratio of all and of the link test at hubs, and the greatest growth of each call on shafts. No target stands for quick
-/// Rust, which does other work, nor for records one by one, each of which crosses the boundary by itself.
+/// The targets against what was measured: the greatest ratio of all and of the link test at hubs, and the greatest growth of each call on shafts. No
+/// target stands for quick Rust, which does other work, nor for records one by one, each of which crosses the boundary by itself.
 fn close(shafts: &[Measured], others: &[Measured], hubs: &[Measured]) {
     let all = || shafts.iter().chain(others);
     println!("\n### Targets\n\n| What | Target | Greatest |\n|---|--:|--:|");
@@ -428,7 +429,9 @@ fn close(shafts: &[Measured], others: &[Measured], hubs: &[Measured]) {
         println!("| ratio to the same loops in Rust{calls} | {target} | {ratio} |");
     }
     let ratio = greatest(hubs.iter().map(|one| (one.ratio(), one)));
-    println!("| ratio of the link test to Rust that marks, 30 neighbours removed and more | {RATIO} | {ratio} |");
+    println!(
+        "| ratio of the link test to Rust that marks, removed corner of 30 neighbours or more | {RATIO} | {ratio} |"
+    );
     let log_sheets = |one: &&Measured| one.call.ends_with("log sheet");
     for (calls, of) in [("check and volume", false), ("log sheets", true)] {
         let of_calls = all().filter(|one| log_sheets(one) == of);
@@ -452,7 +455,7 @@ fn skins_of(kind: &str, make: fn(usize) -> Skin) -> [Skin; skins::SIZES.len()] {
     })
 }
 
-/// Compares the sides' answers on every input, on damaged tables and on damaged logs, and times nothing.
+/// Compares the sides' answers on every input, on damaged tables and logs, and of the link test on every edge, and times nothing.
 fn compare() {
     let skins: Vec<Skin> = skins::KINDS.iter().flat_map(|&(kind, make)| skins_of(kind, make)).collect();
     let inputs: Vec<Input> = skins.iter().map(Input::of).collect();
