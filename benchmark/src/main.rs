@@ -429,9 +429,7 @@ fn close(shafts: &[Measured], others: &[Measured], hubs: &[Measured]) {
         println!("| ratio to the same loops in Rust{calls} | {target} | {ratio} |");
     }
     let ratio = greatest(hubs.iter().map(|one| (one.ratio(), one)));
-    println!(
-        "| ratio of the link test to Rust that marks, removed corner of 30 neighbours or more | {RATIO} | {ratio} |"
-    );
+    println!("| ratio of the link test at hubs to Rust that marks | {RATIO} | {ratio} |");
     let log_sheets = |one: &&Measured| one.call.ends_with("log sheet");
     for (calls, of) in [("check and volume", false), ("log sheets", true)] {
         let of_calls = all().filter(|one| log_sheets(one) == of);
