@@ -8,8 +8,8 @@ ghost use Rattle.follow.specs.Inner.{FollowedIn};
 ghost use Rattle.replay.specs.Outcome.{ReplayFits, replaying, ReplayedAs};
 ghost use Rattle.replay.specs.Inner.{JudgedReplay};
 
-// Does a log's records on a stage's table, from the first on. The link test's scratch is made once for all records.
-fn replay_log(table: &mut [u32], n: usize, log: &[u32]) -> Regrown
+// Inner: does a log's records on a stage's table, from the first on. The link test's scratch is made once for all records.
+pub fn replay_log(table: &mut [u32], n: usize, log: &[u32]) -> Regrown
     requires { ⌜ StageTable n (now table) ⌝ }
     ensures { λ a. ⌜ FollowedIn (replaying n (now (table .entry)) (now (log .entry))) a (now (table .exit)) ⌝ }
 {

@@ -24,8 +24,8 @@ pub enum Thinning {
     Refused(Refusal),
 }
 
-// What a reading asks.
-fn asked_of(r: Reading) -> Asked
+// Inner: what a reading asks.
+pub fn asked_of(r: Reading) -> Asked
     ensures { λ a. ⌜ a ≡ asked-by r ⌝ }
 {
     match r {

@@ -1,0 +1,3 @@
+pub mod Answer
+pub mod Outcome
+pub mod Inner
