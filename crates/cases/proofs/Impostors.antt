@@ -57,7 +57,7 @@ unfolding rows flat log-of
 contracts-nothing-near = (
   log-volume O-skin (no-step refl),
   log-change O-skin (no-step refl) (no-step refl),
-  λ L v h. log-shift-bound L O-skin (λ x y s. s) [] [] (none-yet refl) h,
+  λ L v h. log-shift-bound L (O-skin .stage) (O-skin .corners) (O-skin .in-range) (λ x y s. s) [] [] (none-yet refl) h,
 )
 
 -- one that does all steps under the first record: the log's second record does not remove corner 2

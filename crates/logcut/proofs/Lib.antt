@@ -1,3 +1,4 @@
 pub mod Newlines
 pub mod Ending
 pub mod Reading
+pub mod Cutting

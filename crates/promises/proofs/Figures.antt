@@ -41,7 +41,7 @@ use Rattle.reply.proofs.Main.{skin-tells}
 use Rattle.promises.specs.Thinning.{PrintedNear}
 use Rattle.promises.proofs.Logged.{front-log}
 
-within : {L : ℕ} {b : Bound} (xs : List ℤ) → Under (Within L) ≡ Under b → (x y : ℕ) → Allowed b xs x y → Short xs L x y
+pub within : {L : ℕ} {b : Bound} (xs : List ℤ) → Under (Within L) ≡ Under b → (x y : ℕ) → Allowed b xs x y → Short xs L x y
 within {L} {b} xs e x y h = let k : b ≡ Within L = cc in rw k at h
 
 -- for a log that thinning wrote under a limit of L, or a beginning of one, read with the corners it was written over, the squared distance
@@ -49,7 +49,7 @@ within {L} {b} xs e x y h = let k : b ≡ Within L = cc in rw k at h
 pub shift-promised : (d : Length) {L : ℕ} → limit-of d ≡ Whole L → {xs : List ℤ} {t l : List ℕ} {k : ℕ} {t′ l′ : List ℕ} (w : RunOf (asked (Limit d)) xs t l k t′ l′) →
     (p q : List Record) → w .log ≡ p ++ q → (v : ℕ) → v < corners xs → (a : Shifted) → ShiftReport xs (take (room-for (length p)) l′) v (shifts.told a) → Bounded L a
 shift-promised d {L} read {xs} w p q e v b a r =
-    log-shift-bound L (w .skin) (within xs (sym (ap asked-by read) ∙ w .under)) p q (rw e at (w .run .taken)) b a (rw (front-log w p q e) at r)
+    log-shift-bound L (w .skin .stage) (w .skin .corners) (w .skin .in-range) (within xs (sym (ap asked-by read) ∙ w .under)) p q (rw e at (w .run .taken)) b a (rw (front-log w p q e) at r)
 
 -- the volume of each stage of its log is within half a cubic metre of exact, and each change too
 pub volume-promised : {d : Asked} {xs : List ℤ} {t l : List ℕ} {k : ℕ} {t′ l′ : List ℕ} (w : RunOf d xs t l k t′ l′) (p : List Record) {T₁ : List Row} →

@@ -4,3 +4,4 @@ pub mod Back
 pub mod Refusing
 pub mod Whole
 pub mod Mailing
+pub mod Recovering

@@ -22,7 +22,7 @@ use Rattle.record.specs.Layout.{width, count, records, log-of, room-for, first-
 use Rattle.record.proofs.Log.{log-length}
 use Rattle.thin.specs.declared.Asked.{Asked}
 use Rattle.thin.specs.Run.{RunOf}
-use Rattle.thin.proofs.Main.{thinned-kept}
+use Rattle.thin.proofs.Main.{thinned-kept, replayed-kept}
 use Rattle.tell.specs.declared.Answer.{Answer}
 use Rattle.tell.specs.declared.Answer.the-variants as text
 use Rattle.tell.specs.Answer as texts
@@ -46,10 +46,9 @@ use Rattle.logreader.specs.Outcome as asking
 use Rattle.logreader.specs.Outcome.{each-refusals, EachRecord}
 use Rattle.logreader.proofs.Main.{open-passes, each-as-read, reader-through, reader-breaks}
 use Rattle.promises.specs.Mailing.{Mailed, LogSheets}
-use Rattle.promises.proofs.Back.{restored, restored-from, replayed, leads-rest}
+use Rattle.promises.proofs.Back.{Led, restored, restored-from, replayed, run-led, leads-rest, as-done}
 use Rattle.promises.proofs.Figures.{shift-promised}
 use Rattle.promises.proofs.Logged.{front-log, rest-log}
-use Rattle.promises.proofs.Whole.{as-done}
 
 -- ---- what is told, and what was written or read
 
@@ -57,7 +56,7 @@ use Rattle.promises.proofs.Whole.{as-done}
 abbrev told-at : ℕ → answers.Told → ℕ
 told-at i v = natAbs (getD (v .values) i (pos 0))
 
-wrote-told : (a : Answer) {j : ℕ} → texts.told a ≡ answers.done (pos j ∷ []) → a ≡ text.Written j
+pub wrote-told : (a : Answer) {j : ℕ} → texts.told a ≡ answers.done (pos j ∷ []) → a ≡ text.Written j
 wrote-told (text.Written k) e = ap text.Written (ap (told-at 0) e)
 wrote-told (text.Refused r) e = absurd (refused-done r e)
 
@@ -66,7 +65,7 @@ read-told (sheet.Read x y z) e = λ i. sheet.Read (told-at 0 (e i)) (told-at 1 (
 read-told (sheet.Refused r) e = absurd (refused-done r e)
 
 -- the bytes that were written are the log sheet of the counts and the log
-written-sheet : {n m j : ℕ} {log txt txt′ : List ℕ} → WroteLogSheet n m log txt txt′ (text.Written j) → LogSheetOf (take j txt′) n m log
+pub written-sheet : {n m j : ℕ} {log txt txt′ : List ℕ} → WroteLogSheet n m log txt txt′ (text.Written j) → LogSheetOf (take j txt′) n m log
 written-sheet (unwritten f e p) = let z : _≡_ {A = ℕ} 0 1 = cc in absurd (omega arith)
 written-sheet {n} {m} {j} {log} {txt} {txt′} (wrote f w e p) = rw same (its-log-sheet w)
   where
@@ -75,6 +74,12 @@ written-sheet {n} {m} {j} {log} {txt} {txt′} (wrote f w e p) = rw same (its-lo
 
     same : take j txt′ ≡ log-text n m log
     same = ap (take j) p ∙ take-at (log-text n m log) (drop (length (log-text n m log)) txt) j (sym long)
+
+-- and have the size of one
+pub written-size : {n m j : ℕ} {log txt txt′ : List ℕ} → WroteLogSheet n m log txt txt′ (text.Written j) → length (take j txt′) ≤ most-log-bytes
+written-size (unwritten f e p) = let z : _≡_ {A = ℕ} 0 1 = cc in absurd (omega arith)
+written-size {n} {m} {j} {log} {txt} {txt′} (wrote f w e p) =
+    let same : take j txt′ ≡ log-text n m log = written-sheet {txt = txt} (wrote f w e p) .text in rw same (log-size w)
 
 -- a sheet that was read has the counts told, and its log stands in the room
 record HasRead (b room′ : List ℕ) (n m k : ℕ) : Type 0 where
@@ -125,43 +130,43 @@ written-back {n} {m} {log = log} {txt} {txt′} {a} w tells fits r =
 -- ---- the log of a thinning can be mailed
 
 -- what can be written is written where as many bytes are lent as a log sheet may have
-can-write : {n m : ℕ} {log txt txt′ : List ℕ} {a : Answer} → Writable n m log → most-log-bytes ≤ length txt → WroteLogSheet n m log txt txt′ a → (j : ℕ) × (texts.told a ≡ answers.done (pos j ∷ []))
+pub can-write : {n m : ℕ} {log txt txt′ : List ℕ} {a : Answer} → Writable n m log → most-log-bytes ≤ length txt → WroteLogSheet n m log txt txt′ a → (j : ℕ) × (texts.told a ≡ answers.done (pos j ∷ []))
 unfolding write-refusals
 can-write w h (unwritten f g same) = refused-passes (first-one verdicts _ f (passes-none verdicts _ .1 ((λ no. no w) nor (λ short. omega (arith, log-size w, short, h)) nor none-yet)))
 can-write {n} {m} {log} w h (wrote f v g same) = (length (log-text n m log), ap texts.told g)
 
-module _ {d : Asked} {xs : List ℤ} {t l : List ℕ} {k : ℕ} {t′ l′ : List ℕ} (w : RunOf d xs t l k t′ l′) where
-  -- no more records than the corners but four: a stage uses four
-  fewer : length (w .log) ≤ corners xs - 4
+-- records that lead from a skin on
+module _ {n : ℕ} {t : List ℕ} {m : List Record} {last : List Row} {t′ : List ℕ} (w : Led n t m last t′) where
+  -- no more than the corners but four: a stage uses four
+  pub fewer : length m ≤ n - 4
   fewer =
-      let a = thinned-kept w (w .log) [] (sym (append-nil (w .log))) in
-      let kept = a .2 in
-      let f = four-used (corners xs) (a .0) (kept .stage) (kept .used-after) in
-      let h = used-most (w .skin .stage) (kept .used-before) in
+      let kept = replayed-kept (w .first) (w .leads) in
+      let f = four-used n last (kept .stage) (kept .used-after) in
+      let h = used-most (w .first) (kept .used-before) in
       omega (arith, f, h)
 
-  -- a part of its records, from one of its stages to another
-  part-writable : {T T′ : List Row} (m : List Record) → Stage (corners xs) T → Replayed T m T′ → length m ≤ length (w .log) → Writable (corners xs) (length (rows t)) (log-of m)
-  part-writable m stage leads few =
-      let s = w .skin .stage in
-      let a = log-length m in
+  -- a part of them, from one of their stages to another
+  pub part-writable : {T T′ : List Row} (p : List Record) → Stage n T → Replayed T p T′ → length p ≤ length m → Writable n (length (rows t)) (log-of p)
+  part-writable p stage leads few =
+      let s = w .first in
+      let a = log-length p in
       record {
         whole = omega arith;
         counts = record { few = s .few; many = s .many; least = s .least; most = s .most; fewer = omega (arith, fewer, few, a) };
         short = log-few stage leads;
       }
 
-  module _ (p q : List Record) (e : w .log ≡ p ++ q) where
-    both : length (w .log) ≡ length p + length q
-    both = ap length e ∙ length-append p q
+module _ {d : Asked} {xs : List ℤ} {t l : List ℕ} {k : ℕ} {t′ l′ : List ℕ} (w : RunOf d xs t l k t′ l′) (p q : List Record) (e : w .log ≡ p ++ q) where
+  both : length (w .log) ≡ length p + length q
+  both = ap length e ∙ length-append p q
 
-    front-writable : Writable (corners xs) (length (rows t)) (take (room-for (length p)) l′)
-    front-writable = rw (front-log w p q e) (part-writable p (w .skin .stage) (taken-replayed (thinned-kept w p q e .1)) (omega (arith, both)))
+  front-writable : Writable (corners xs) (length (rows t)) (take (room-for (length p)) l′)
+  front-writable = rw (front-log w p q e) (part-writable (run-led w) p (w .skin .stage) (taken-replayed (thinned-kept w p q e .1)) (omega (arith, both)))
 
-    rest-writable : Writable (corners xs) (length (rows t)) (drop (room-for (length p)) (take (room-for k) l′))
-    rest-writable =
-        let h = thinned-kept w p q e in
-        rw (rest-log w p q e) (part-writable q (h .2 .stage) (leads-rest w p q e (h .1)) (omega (arith, both)))
+  rest-writable : Writable (corners xs) (length (rows t)) (drop (room-for (length p)) (take (room-for k) l′))
+  rest-writable =
+      let h = thinned-kept w p q e in
+      rw (rest-log w p q e) (part-writable (run-led w) q (h .2 .stage) (leads-rest (run-led w) p q e (taken-replayed (h .1))) (omega (arith, both)))
 
 -- ---- one by one
 

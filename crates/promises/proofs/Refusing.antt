@@ -1,14 +1,15 @@
 -- Demand 1: a refusal is answered exactly when the list has it, call by call.
 use mathlib.Core.Path.{_≡_, refl, sym, _∙_, ap, subst}
 use mathlib.Core.Logic.{_⊎_, inl, inr}
-use mathlib.Core.List.{List}
+use mathlib.Core.List.{List, _++_}
 use Prim.Native.Nat.{ℕ, _<_}
 use native.Mathlib.Omega.{arith}
 use lib.IntN.{ℤ}
-use lib.ListN.{length}
+use lib.ListN.{length, take, drop}
 use Rattle.follow.specs.Follow.{Followed, followed}
 use Rattle.follow.proofs.Following.{Did, all-done, some-done, outcome-did, outcome-passes, outcome-stopped}
-use Rattle.surface.specs.Rows.{Row}
+use Rattle.surface.specs.Rows.{Row, rows}
+use Rattle.corners.specs.Skin.{Skin}
 use Rattle.refusal.specs.declared.Refusal.{Refusal}
 use Rattle.refusal.specs.declared.Refusal.the-variants.{RecordFails}
 use Rattle.refusal.specs.declared.Verdict.the-variants.{Passes}
@@ -22,6 +23,8 @@ use Rattle.refusal.specs.Outcome.{outcome}
 use Rattle.refusal.proofs.Outcome.{tells-refusal, refused-done}
 use Rattle.length.proofs.Laws.{limit-told}
 use Rattle.length.specs.declared.Order.{Order}
+use Rattle.faults.specs.Counts.{corners}
+use Rattle.thin.specs.declared.Asked.{Asked}
 use Rattle.thin.specs.declared.Thinning.{Thinning}
 use Rattle.thin.specs.declared.Thinning.the-variants as thinning
 use Rattle.thin.specs.Answer as thinnings
@@ -30,6 +33,7 @@ use Rattle.thin.proofs.Main as thins
 use Rattle.regrow.specs.declared.Regrown.{Regrown}
 use Rattle.regrow.specs.declared.Regrown.the-variants as regrown
 use Rattle.regrow.specs.Answer as regrowths
+use Rattle.record.specs.Layout.{room-for}
 use Rattle.record.specs.Front.{filled, zeroed}
 use Rattle.growable.specs.Refusals.{grow-refusals}
 use Rattle.regrow.specs.Outcome.{growing, GrownAs, regrown as regrown-answers}
@@ -55,6 +59,13 @@ use Rattle.logrecords.specs.declared.Next.{Next}
 use Rattle.logrecords.specs.Answer.{told-opened, told-next}
 use Rattle.logrecords.specs.Outcome.{open-refusals, OpenedLog, unopened, opened, LineStands, NextRecord, found, ended, other}
 use Rattle.logreader.specs.Outcome as asking
+use Rattle.logcut.specs.Cut.{CutOf}
+use Rattle.logcut.proofs.Ending.{one-cut}
+use Rattle.recover.specs.declared.Recovered.{Recovered}
+use Rattle.recover.specs.declared.Recovered.the-variants as recovered
+use Rattle.recover.specs.Answer as recoveries
+use Rattle.recover.specs.Outcome as recovering
+use Rattle.recover.proofs.Main as recovers
 use Rattle.promises.specs.Refusing.{DemandOne}
 
 thin-same : (o : Order) {xs : List ℤ} {t l : List ℕ} {a : Thinning} {t′ l′ : List ℕ} → Thinned o xs t l a t′ l′ → (r : Refusal) → thinnings.told a ≡ refused r → (t′ ≡ t) × (l′ ≡ l)
@@ -148,6 +159,27 @@ module _ {b room room′ : List ℕ} where
   each-same (asking.unread f e p) r g = p
   each-same (asking.each f s e p) r g = absurd (not-refused (ap logs.told e) r g)
 
+-- recovery
+recover-same : (o : Order) {xs : List ℤ} {t l b : List ℕ} {a : Recovered} {t′ l′ : List ℕ} → recovering.RecoveredBy o xs t l b a t′ l′ → (r : Refusal) → recoveries.told a ≡ refused r → (t′ ≡ t) × (l′ ≡ l)
+recover-same o {a = recovered.Done k j} w r p = absurd (refused-done r (sym p))
+recover-same o {a = recovered.Stopped k} w r p = absurd (recovers.failing-other k r p)
+recover-same o {a = recovered.Refused e} w r p = recovers.refused-same w
+
+-- what recovery passes is a skin
+recover-skin : {d : Asked} {xs : List ℤ} {t l b : List ℕ} {a : Recovered} {t′ l′ : List ℕ} → recovering.RecoveredAs d xs t l b a t′ l′ → First (recovering.recover-refusals d xs t (length l) b) Passes → Skin (corners xs) (rows t) xs
+recover-skin (recovering.refused f er et el) g = refused-passes (first-one verdicts _ f g)
+recover-skin (recovering.stopped f s c w er et el) g = s
+recover-skin (recovering.done f s c w eb q er et el) g = s
+
+recover-stopped : {d : Asked} {xs : List ℤ} {t l b : List ℕ} (k : ℕ) {t′ l′ : List ℕ} → recovering.RecoveredAs d xs t l b (recovered.Stopped k) t′ l′ → {kept : List ℕ} → CutOf b (corners xs) (length (rows t)) kept →
+    First (recovering.recover-refusals d xs t (length l) b) Passes × (T : List Row) × Followed (replaying (corners xs) t kept) (regrown.Stopped k) T × (t′ ≡ zeroed T t) × (l′ ≡ take (room-for k) kept ++ drop (room-for k) l)
+recover-stopped k (recovering.refused f er et el) cut = recovers.stopped-refused er
+recover-stopped k (recovering.done f s c w eb q er et el) cut = recovers.done-stopped (sym er)
+recover-stopped {xs = xs} {t} {l} k (recovering.stopped {k = k₁} {reached = T} f s c w er et el) {kept} cut =
+    let e : k₁ ≡ k = cc in
+    let n = one-cut c cut .numbers in
+    (f, T, rw (n, e) at w, et, el ∙ (λ i. take (room-for (e i)) (n i) ++ drop (room-for (e i)) l))
+
 open-refuses : {b : List ℕ} {a : Opened} → OpenedLog b a → Refuses (open-refusals b) (told-opened a)
 open-refuses (unopened {r = r} f e) = exactly (inl (r, f, ap told-opened e))
 open-refuses (opened f s e) = exactly (inr (f, not-refused (ap told-opened e)))
@@ -189,6 +221,12 @@ demand-one = record {
   read-log-same = λ w r p. read-same w r p;
   each-record = λ w. each-refuses w;
   each-record-same = λ w r p. each-same w r p;
+  recover = λ o w. exactly (recovers.recover-told w);
+  recover-same = λ o w r p. recover-same o w r p;
+  recover-fails = λ o {a = a} w cut. (
+      (λ k T f x. ap recoveries.told (recovers.recovered-one w (recovering.stopped f (recover-skin w f) cut x refl refl refl) .0)),
+      λ k p. recover-stopped k (rw (recovers.told-stopped a p) at w) cut,
+  );
   open-log = λ w. open-refuses w;
   next-record = λ w. next-refuses w;
   reader = λ w. next-refuses (w .answer);

@@ -19,13 +19,15 @@ use Rattle.sheet.proofs.Promises.{one-outcome}
 use Rattle.ring.proofs.Rule.{trial-one}
 use Rattle.reply.proofs.Main.{replied-one}
 use Rattle.logsheet.proofs.Main.{read-log-one, wrote-log-one}
+use Rattle.recover.proofs.Main.{recovered-one}
 use Rattle.logrecords.proofs.Main.{opened-one, next-one}
 use Rattle.logreader.proofs.Main.{each-one}
 use Rattle.logreader.proofs.Again.{asked-one, answered-one}
 use Rattle.promises.specs.Choice.{NothingLeft}
 use Rattle.promises.specs.Thinning.{DoneWith, DemandTwo, DemandThree}
 use Rattle.promises.specs.Stages.{StagesLeft}
-use Rattle.promises.proofs.Back.{restored, restored-from, replayed, thinned-leaves}
+use Rattle.promises.proofs.Back.{led-leaves, as-done, restored, restored-from, replayed, thinned-leaves}
+use Rattle.promises.proofs.Recovering.{as-recovery, as-stopped, whole-led, whole-many, front-led}
 use Rattle.promises.proofs.Figures.{volume-promised, change-promised, shift-promised, printed-promised}
 
 pub nothing-left : NothingLeft
@@ -45,6 +47,7 @@ nothing-left = record {
   write-log = λ p q. wrote-log-one p q;
   read-log = λ p q. read-log-one p q;
   each-record = λ p q. each-one p q;
+  recover = λ o p q. recovered-one p q;
   open-log = λ p q. opened-one p q;
   next-record = λ p q. next-one p q;
   reader-at = λ p q. (p .0 ∙ sym (q .0), p .1 ∙ sym (q .1));
@@ -52,15 +55,13 @@ nothing-left = record {
   ask = λ p q. answered-one p q;
 }
 
--- what tells 0 and k records is done with k
-pub as-done : {o : Order} {xs : List ℤ} {t l : List ℕ} {k : ℕ} {t′ l′ : List ℕ} → DoneWith o xs t l k t′ l′ → Thinned o xs t l (Done k) t′ l′
-as-done w = rw (told-done (w .answer) (w .tells)) at (w .thinned)
-
 pub stages-left : StagesLeft
 stages-left = record {
   thin = λ o w. thinned-leaves o (as-done w);
   replay = λ w d. let s = replay-leaves w d in record { many = s .0; stage = s .1 };
   grow-back = λ w d. let s = grown-leaves w d in record { many = s .0; stage = s .1 };
+  recover = λ o w. let r = as-recovery w in led-leaves (whole-led r) (whole-many r);
+  recover-stopped = λ o w. let s = as-stopped w in led-leaves (front-led s) (s .many);
 }
 
 pub demand-two : DemandTwo

@@ -3,3 +3,4 @@ pub mod Refusing
 pub mod Thinning
 pub mod Stages
 pub mod Mailing
+pub mod Recovery

@@ -3,13 +3,13 @@
 use mathlib.Core.Path.{_≡_}
 use mathlib.Core.Logic.{_⊎_}
 use mathlib.Core.Bool.{false}
-use mathlib.Core.List.{List}
+use mathlib.Core.List.{List, _++_}
 use Prim.Native.Nat.{ℕ, _<_}
 use lib.IntN.{ℤ}
-use lib.ListN.{length}
+use lib.ListN.{length, take, drop}
 use denote.Ref.{now}
 use Rattle.follow.specs.Follow.{Followed}
-use Rattle.surface.specs.Rows.{Row}
+use Rattle.surface.specs.Rows.{Row, rows}
 use Rattle.refusal.specs.declared.Refusal.{Refusal}
 use Rattle.refusal.specs.declared.Verdict.the-variants.{Passes}
 use Rattle.refusal.specs.declared.Verdict.the-variants as verdict
@@ -17,6 +17,7 @@ use Rattle.refusal.specs.First.{Refusals, First}
 use Rattle.refusal.specs.Told.{Told, refused-as, refused, stopped-as}
 use Rattle.refusal.specs.Refuses.{Refuses}
 use Rattle.refusal.specs.Lesser.{either}
+use Rattle.faults.specs.Counts.{corners}
 use Rattle.faults.specs.Order.{refusals-at}
 use Rattle.length.specs.declared.Order.{Order}
 use Rattle.length.specs.declared.Length.{Length}
@@ -26,6 +27,7 @@ use Rattle.thin.specs.declared.Thinning.{Thinning}
 use Rattle.thin.specs.Answer as thinnings
 use Rattle.thin.specs.Order.{asked}
 use Rattle.thin.specs.Thin.{thin-refusals, Thinned}
+use Rattle.record.specs.Layout.{room-for}
 use Rattle.record.specs.Front.{filled, zeroed}
 use Rattle.regrow.specs.declared.Regrown.{Regrown}
 use Rattle.regrow.specs.declared.Regrown.the-variants.{Stopped}
@@ -50,6 +52,10 @@ use Rattle.reply.specs.Outcome.{Replied}
 use Rattle.logsheet.specs.declared.LogSheet.{LogSheet}
 use Rattle.logsheet.specs.Answer as logs
 use Rattle.logsheet.specs.Outcome.{read-refusals, ReadLogSheet, write-refusals, WroteLogSheet}
+use Rattle.logcut.specs.Cut.{CutOf}
+use Rattle.recover.specs.declared.Recovered.{Recovered}
+use Rattle.recover.specs.Answer as recoveries
+use Rattle.recover.specs.Outcome.{recover-refusals, RecoveredBy}
 use Rattle.logrecords.specs.declared.Opened.{Opened}
 use Rattle.logrecords.specs.declared.Next.{Next}
 use Rattle.logrecords.specs.Answer.{told-opened, told-next}
@@ -96,6 +102,14 @@ pub record DemandOne : Type 0 where
   pub read-log-same : {b room : List ℕ} {a : LogSheet} {room′ : List ℕ} → ReadLogSheet b room room′ a → (r : Refusal) → logs.told a ≡ refused r → room′ ≡ room
   pub each-record : {b room : List ℕ} {a : LogSheet} {room′ : List ℕ} → EachRecord b room room′ a → Refuses (each-refusals b (length room)) (logs.told a)
   pub each-record-same : {b room : List ℕ} {a : LogSheet} {room′ : List ℕ} → EachRecord b room room′ a → (r : Refusal) → logs.told a ≡ refused r → room′ ≡ room
+  -- recovery: 13 is told with the records done, twice, and is no refusal of the list
+  pub recover : (o : Order) {xs : List ℤ} {t l b : List ℕ} {a : Recovered} {t′ l′ : List ℕ} → RecoveredBy o xs t l b a t′ l′ → Refuses (recover-refusals (asked o) xs t (length l) b) (recoveries.told a)
+  pub recover-same : (o : Order) {xs : List ℤ} {t l b : List ℕ} {a : Recovered} {t′ l′ : List ℕ} → RecoveredBy o xs t l b a t′ l′ → (r : Refusal) → recoveries.told a ≡ refused r → (t′ ≡ t) × (l′ ≡ l)
+  -- exactly when no refusal of the list holds and the records of the whole lines stop after so many; the stage reached and its records are left
+  pub recover-fails : (o : Order) {xs : List ℤ} {t l b : List ℕ} {a : Recovered} {t′ l′ : List ℕ} → RecoveredBy o xs t l b a t′ l′ → {kept : List ℕ} → CutOf b (corners xs) (length (rows t)) kept →
+      ((k : ℕ) (T : List Row) → First (recover-refusals (asked o) xs t (length l) b) Passes → Followed (replaying (corners xs) t kept) (Stopped k) T → recoveries.told a ≡ recoveries.fails-after k)
+      × ((k : ℕ) → recoveries.told a ≡ recoveries.fails-after k → First (recover-refusals (asked o) xs t (length l) b) Passes × (T : List Row) × Followed (replaying (corners xs) t kept) (Stopped k) T
+      × (t′ ≡ zeroed T t) × (l′ ≡ take (room-for k) kept ++ drop (room-for k) l))
   pub open-log : {b : List ℕ} {a : Opened} → OpenedLog b a → Refuses (open-refusals b) (told-opened a)
   -- 12 exactly where a byte follows the place and no record's line stands there; by a reader too, at its own place
   pub next-record : {b : List ℕ} {at : ℕ} {a : Next} → NextRecord b at a → (at < length b → ((ns : List ℕ) → ¬ LineStands b at ns) → told-next a ≡ refused-as 12)

@@ -38,13 +38,17 @@ no-kept = replicate ((most-corners - least-corners) * width) 0
 pub thin-refused : {a : Asked} {xs : List ℤ} {t : List ℕ} (l b : List ℕ) {r : Refusal} → JudgedThinning a xs t (length l) (verdict.Refused r) → RecoveredAs a xs t l b (Refused r) t l
 thin-refused {a} {xs} {t} l b {r} j = refused {e = r} (refused-before verdicts (thin-refusals a xs t (length l)) (cut-refusals b (corners xs) (length (rows t))) r (j .holds)) refl refl refl
 
+-- what thinning passes, the cut sheet decides
+pub cut-decides : (a : Asked) (xs : List ℤ) (t l b : List ℕ) → First (thin-refusals a xs t (length l)) Passes → (v : Verdict) → First (cut-refusals b (corners xs) (length (rows t))) v →
+    First (recover-refusals a xs t (length l) b) v
+cut-decides a xs t l b f v c = rest-decides verdicts (all-nor (passes-none verdicts (thin-refusals a xs t (length l)) .0 f) none-yet) v c
+
 module _ {a : Asked} {xs : List ℤ} {t : List ℕ} (l b : List ℕ) (j : JudgedThinning a xs t (length l) Passes) where
   row-count : length t / 3 ≡ length (rows t)
   row-count = let h = whole-rows t (j .fits refl .table .threes) in omega arith
 
-  -- the cut sheet decides
-  cut-decides : (v : Verdict) → First (cut-refusals b (corners xs) (length t / 3)) v → First (recover-refusals a xs t (length l) b) v
-  cut-decides v f = rest-decides verdicts (all-nor (passes-none verdicts (thin-refusals a xs t (length l)) .0 (j .holds)) none-yet) v (rw (sym row-count) f)
+  decides : (v : Verdict) → First (cut-refusals b (corners xs) (length t / 3)) v → First (recover-refusals a xs t (length l) b) v
+  decides v f = cut-decides a xs t l b (j .holds) v (rw (sym row-count) f)
 
   pub can-keep : CanKeep (corners xs) (length t / 3) no-kept
   can-keep =
@@ -56,7 +60,7 @@ module _ {a : Asked} {xs : List ℤ} {t : List ℕ} (l b : List ℕ) (j : Judged
       }
 
   pub cut-refused : {r : Refusal} → First (cut-refusals b (corners xs) (length t / 3)) (verdict.Refused r) → RecoveredAs a xs t l b (Refused r) t l
-  cut-refused {r} f = refused {e = r} (cut-decides (verdict.Refused r) f) refl refl refl
+  cut-refused {r} f = refused {e = r} (decides (verdict.Refused r) f) refl refl refl
 
   module _ {k : ℕ} {room room′ : List ℕ} (c : KeptIn b (corners xs) (length t / 3) room k room′) where
     numbers : length (c .log) ≡ k * width
@@ -85,5 +89,5 @@ module _ {a : Asked} {xs : List ℤ} {t : List ℕ} (l b : List ℕ) (j : Judged
         cut = rw row-count at (c .cut)
 
         go : WentOnFrom bound xs t (c .log) l r t′ l′ → RecoveredAs a xs t l b r t′ l′
-        go (fails f er et el) = stopped (cut-decides Passes (c .passes)) (j .skin refl) cut f er et el
-        go (goes-on f q er et el) = done (cut-decides Passes (c .passes)) (j .skin refl) cut f e q er et el
+        go (fails f er et el) = stopped (decides Passes (c .passes)) (j .skin refl) cut f er et el
+        go (goes-on f q er et el) = done (decides Passes (c .passes)) (j .skin refl) cut f e q er et el

@@ -1,3 +1,4 @@
 pub mod Handing
 pub mod Going
 pub mod Judging
+pub mod Main

@@ -1,3 +1,4 @@
 pub mod Answer
 pub mod Outcome
+pub mod Run
 pub mod Inner

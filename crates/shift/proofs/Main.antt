@@ -5,12 +5,13 @@ use mathlib.Core.List.{List, [], _∷_, _++_, List·Memᴰ·head, List·Memᴰ·
 use Prim.Native.Nat.{ℕ, suc, _+_, _*_, _≤_, _<_}
 use native.Mathlib.Decide.{ℕ-discrete}
 use native.Mathlib.Omega.{arith}
+use lib.ListN.{length}
 use lib.IntN.{ℤ}
 use Rattle.surface.specs.Lists.{_∈_}
 use Rattle.surface.specs.Rows.{Row}
 use Rattle.surface.specs.Table.{Used}
 use Rattle.surface.specs.Stage.{Stage}
-use Rattle.corners.specs.Skin.{Skin}
+use Rattle.corners.specs.Skin.{InRange}
 use Rattle.follow.specs.Leads.{no-step, one-step}
 use Rattle.surface.specs.Record.{Record, Replayed}
 use Rattle.surface.proofs.Counted.{used-new}
@@ -21,7 +22,7 @@ use Rattle.refusal.proofs.Outcome.{tells-refusal, refused-done, outcome-one}
 use Rattle.record.specs.Layout.{log-of}
 use Rattle.record.proofs.Log.{log-length, records-log}
 use Rattle.faults.specs.Counts.{corners}
-use Rattle.faults.proofs.Opposites.{skin-corners, stage-corners}
+use Rattle.faults.proofs.Opposites.{stage-corners}
 use Rattle.distance.specs.Corners.{Short, squared-distance}
 use Rattle.distance.specs.InnerChain.{Chain, chain-none, chain-more}
 use Rattle.distance.proofs.Shift.{chain-bound, distance-back}
@@ -94,9 +95,9 @@ stand-in-used {n} {T} {T′} (k ∷ l) s (one-step {u = T₁} r t) v u = go (ℕ
     go (yes e) rest = let lt = r .lower in rw (moved-on k l e .0) (rest (k .kept) (still (k .removed, r .meets .edge) (λ z. omega arith)))
     go (no ne) rest = rw (stayed k l ne .0) (rest v (still u ne))
 
--- ---- a log over a skin
+-- ---- a log over the coordinates of a stage
 
--- kept and removed of each record are corners of the skin
+-- kept and removed of each record are corners of the stage
 replayed-below : {n : ℕ} {T T′ : List Row} (l : List Record) → Stage n T → Replayed T l T′ → BelowIn n l
 replayed-below [] s t = record { kept = λ m. absurd (List·Memᴰ·not-nil m); removed = λ m. absurd (List·Memᴰ·not-nil m) }
 replayed-below {n} {T} (k ∷ l) s (one-step r t) = go (replayed-below l (step-stage s r) t)
@@ -113,34 +114,34 @@ replayed-below {n} {T} (k ∷ l) s (one-step r t) = go (replayed-below l (step-s
       removed = λ m. elim (List·Memᴰ·cases-cons m) [ inl e ↦ subst (λ (q : Record). q .removed < n) (sym e) higher | inr i ↦ b .removed i ];
     }
 
-module _ {n : ℕ} {T : List Row} {xs : List ℤ} (s : Skin n T xs) {l : List Record} {T′ : List Row} (t : Replayed T l T′) (v : ℕ) (h : v < n) where
+module _ {n : ℕ} {T : List Row} {xs : List ℤ} (s : Stage n T) (three : length xs ≡ 3 * n) (range : InRange xs) {l : List Record} {T′ : List Row} (t : Replayed T l T′) (v : ℕ) (h : v < n) where
+  many : corners xs ≡ n
+  many = omega arith
+
   fit : ShiftFits xs (log-of l)
-  fit =
-      let e = s .corners in
-      let c : corners xs ≡ n = skin-corners s in
-      let k = log-length l in
-      record { coordinates = record { threes = omega arith; count = rw c (stage-corners (s .stage)) }; whole = omega arith }
+  fit = let k = log-length l in record { coordinates = record { threes = omega arith; count = rw many (stage-corners s) }; whole = omega arith }
 
   -- no shift is refused there, and the answer is stand-in, count and squared distance
   pub shift-there : ShiftReport xs (log-of l) v (told (StandIn (record { 0 = stand-in v l }) (moves v l) (squared-distance xs v (stand-in v l))))
   shift-there =
-      let c : corners xs ≡ n = skin-corners s in
+      let c = many in
       let r = records-log l in
-      let k = all-clear xs (log-of l) v fit (s .in-range) (omega arith) (rw (c, r) (replayed-below l (s .stage) t)) in
+      let k = all-clear xs (log-of l) v fit range (omega arith) (rw (c, r) (replayed-below l s t)) in
       shift-done k refl (ap (stand-in v) (sym r)) (ap (moves v) (sym r)) refl
 
   pub log-shift : (a : Shifted) → ShiftReport xs (log-of l) v (told a) → a ≡ StandIn (record { 0 = stand-in v l }) (moves v l) (squared-distance xs v (stand-in v l))
   log-shift a p = shift-one a _ p shift-there
 
--- so for a log that thinning wrote under a limit of L, or a beginning of one, read with the corners it was written over, the bound holds of what is told
-pub log-shift-bound : {P : ℕ → ℕ → Type 0} {n : ℕ} {T T′ : List Row} {xs : List ℤ} (L : ℕ) → Skin n T xs → ((a b : ℕ) → P a b → Short xs L a b) → (l m : List Record) → Taken P T (l ++ m) T′ →
+-- so for a log that thinning wrote from a stage on under a limit of L, or a beginning of one, read with the corners it was written over, the bound holds of
+-- what is told
+pub log-shift-bound : {P : ℕ → ℕ → Type 0} {n : ℕ} {T T′ : List Row} {xs : List ℤ} (L : ℕ) → Stage n T → length xs ≡ 3 * n → InRange xs → ((a b : ℕ) → P a b → Short xs L a b) → (l m : List Record) → Taken P T (l ++ m) T′ →
     {v : ℕ} → v < n → (a : Shifted) → ShiftReport xs (log-of l) v (told a) → Bounded L a
-log-shift-bound {xs = xs} L s within l m t {v} h a p =
+log-shift-bound {xs = xs} L s three range within l m t {v} h a p =
     let c = taken-cut l t in
     record {
       corner = stand-in v l;
       k = moves v l;
       squared = squared-distance xs v (stand-in v l);
-      tells = ap told (log-shift s (taken-replayed (c .1)) v h a p);
+      tells = ap told (log-shift s three range (taken-replayed (c .1)) v h a p);
       bound = shift-bound xs L within (c .1) v;
     }

@@ -36,7 +36,7 @@ use Rattle.thin.specs.Answer.{told}
 use Rattle.thin.specs.Thin.{log-need, thin-refusals, ThinnedAs, refused, done}
 use Rattle.thin.specs.Run.{RunOf, KeptAfter}
 
-under-one : {b c : Bound} → Under b ≡ Under c → b ≡ c
+pub under-one : {b c : Bound} → Under b ≡ Under c → b ≡ c
 under-one e = cc
 
 -- no second outcome satisfies the same words
@@ -76,7 +76,7 @@ accepted u threes s room (refused f er et el) = refused-passes (first-one verdic
 accepted u threes s room (done {log = log} f z eb r er et el) = (length log, er)
 
 -- what passes is made of whole rows
-passes-whole : (a : Asked) (xs : List ℤ) (t : List ℕ) (room : ℕ) → First (thin-refusals a xs t room) Passes → length t % 3 ≡ 0
+pub passes-whole : (a : Asked) (xs : List ℤ) (t : List ℕ) (room : ℕ) → First (thin-refusals a xs t room) Passes → length t % 3 ≡ 0
 unfolding thin-refusals
 passes-whole a xs t room f = go (passed verdicts _ _ (passed verdicts _ _ f .1) .0) (ℕ-discrete (length t % 3) 0)
   where
@@ -96,7 +96,8 @@ thinned-run {a} {xs} {t} {l} (done {b = b} {log = log} {last = last} f s eb r er
 pub last-stage : {a : Asked} {xs : List ℤ} {t l : List ℕ} {k : ℕ} {t′ l′ : List ℕ} (w : RunOf a xs t l k t′ l′) → Stage (corners xs) (w .last)
 last-stage w = replayed-stage (w .skin .stage) (taken-replayed (w .run .taken))
 
-replayed-kept : {n : ℕ} {T T₁ : List Row} {l : List Record} → Stage n T → Replayed T l T₁ → KeptAfter n T l T₁
+-- what steps keep, whoever took them
+pub replayed-kept : {n : ℕ} {T T₁ : List Row} {l : List Record} → Stage n T → Replayed T l T₁ → KeptAfter n T l T₁
 replayed-kept {n} {T} {T₁} s r =
     let z = replayed-stage s r in
     let x = euler-there n T s in
