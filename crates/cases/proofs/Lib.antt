@@ -4,3 +4,4 @@ pub mod Impostors
 pub mod Returns
 pub mod Backward
 pub mod Mailed
+pub mod Recovered

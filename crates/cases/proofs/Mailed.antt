@@ -45,10 +45,10 @@ use Rattle.follow.specs.Leads.{Leads, one-step}
 use Rattle.cases.specs.Cases.{O-log}
 
 -- a number of one digit has few
-one-digit : (v : ℕ) → v < 10 → length (decimal v) ≤ most-digits
+pub one-digit : (v : ℕ) → v < 10 → length (decimal v) ≤ most-digits
 one-digit v h = below-digits v most-digits (omega arith) (omega (arith, h))
 
-O-short : FewDigits most-digits (map pos O-log)
+pub O-short : FewDigits most-digits (map pos O-log)
 O-short =
     let a = one-digit 0 (omega arith) in
     let b = one-digit 1 (omega arith) in

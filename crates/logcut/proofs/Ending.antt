@@ -2,18 +2,22 @@
 use mathlib.Core.Path.{_≡_, refl, sym, _∙_, ap}
 use mathlib.Core.Logic.{_⊎_, inl, inr}
 use mathlib.Core.List.{List, [], _∷_, _++_, append-assoc, append-nil, map, head-eq-of-cons-eq, tail-eq-of-cons-eq}
-use Prim.Native.Nat.{ℕ, zero, suc, _+_, _-_, _≤_, _<_}
+use Prim.Native.Nat.{ℕ, zero, suc, _-_, _≤_, _<_}
 use native.Mathlib.Omega.{arith}
 use lib.IntN.{ℤ, pos}
-use lib.ListN.{length, length-append, take, drop, getD, take-append-drop}
-use lib.Seq.{take-suc, take-all, drop-cons, drop-length, length-take-le}
+use lib.ListN.{length, take, drop, getD, take-append-drop}
+use lib.Seq.{take-suc, drop-cons, drop-length}
+use Rattle.surface.specs.Limits.{least-corners}
+use Rattle.refusal.specs.First.{First}
+use Rattle.refusal.specs.declared.Verdict.the-variants.{Passes}
+use Rattle.refusal.proofs.Laws.{verdicts, passes-none, none-yet, _nor_}
 use Rattle.record.specs.Layout.{width, count}
 use Rattle.lines.specs.Lines.{newline, fields, line, lines}
 use Rattle.lines.specs.Kinds.{K, record-lines}
 use Rattle.heading.specs.Heading.{first-line}
-use Rattle.logform.specs.LogSheet.{LOG, LogSheetOf}
+use Rattle.logform.specs.LogSheet.{LOG, most-log-bytes, LogSheetOf}
 use Rattle.logform.proofs.Forming.{SameLog, one-log}
-use Rattle.logcut.specs.Cut.{newlines, CutOf, NoCut}
+use Rattle.logcut.specs.Cut.{newlines, CutOf, cut-refusals}
 use Rattle.logcut.specs.Inner.{Ended, Closed, NoneAfter, WholeEnd}
 use Rattle.logcut.proofs.Newlines.{newlines-append, newlines-other}
 
@@ -78,6 +82,12 @@ pub one-cut : {b : List ℕ} {n m n′ m′ : ℕ} {log log′ : List ℕ} → C
 one-cut {b} c d =
     let e = parted (c .whole) (c .tail) (d .whole) (d .tail) (sym (c .bytes) ∙ d .bytes) (c .unfinished) (d .unfinished) (inr (sheet-ended (c .sheet))) (inr (sheet-ended (d .sheet))) in
     one-log (rw e at (c .sheet)) (d .sheet)
+
+-- a cut log sheet of a skin's counts, within its size, passes
+pub cut-passes : {b : List ℕ} {n m : ℕ} {log : List ℕ} → CutOf b n m log → length b ≤ most-log-bytes → count log ≤ n - least-corners → First (cut-refusals b n m) Passes
+unfolding cut-refusals
+cut-passes {n = n} {m} {log} c size few =
+    passes-none verdicts _ .1 ((λ h. omega arith) nor (λ none. none n m log c) nor (λ o. let e = one-cut c (o .cut) in o .other (sym (e .corners), sym (e .rows), rw (e .numbers) at few)) nor none-yet)
 
 -- ---- looked for from the end
 

@@ -19,7 +19,7 @@ use Rattle.logsheet.specs.declared.LogSheet.the-variants as sheet
 use Rattle.logsheet.specs.Outcome.{CountsOut, NoRoom, read-refusals, ReadLogSheet, refused, read}
 use Rattle.logcut.specs.Cut.{NoCut, OtherCounts, cut-refusals}
 use Rattle.logcut.specs.Inner.{WholeEnd, CanKeep, KeptIn}
-use Rattle.logcut.proofs.Ending.{cut-there, cut-back, one-cut}
+use Rattle.logcut.proofs.Ending.{cut-there, cut-back, cut-passes}
 
 pub cut-long : (b : List ℕ) (n m : ℕ) → most-log-bytes < length b → First (cut-refusals b n m) (verdict.Refused SheetForm)
 unfolding cut-refusals
@@ -44,10 +44,6 @@ module _ {b : List ℕ} {n m k : ℕ} {room : List ℕ} (size : length b ≤ mos
     pub cut-other : ¬ ((n′ ≡ n) × (m′ ≡ m) × (count log ≤ n - least-corners)) → First (cut-refusals b n m) (verdict.Refused CountsOutside)
     unfolding cut-refusals
     cut-other h = given-first verdicts (fits nor there nor none-yet) (record { n′ = n′; m′ = m′; log = log; cut = cut-there w s; other = h })
-
-    pub cut-same : n′ ≡ n → m′ ≡ m → count log ≤ n - least-corners → First (cut-refusals b n m) Passes
-    unfolding cut-refusals
-    cut-same en em few = passes-none verdicts _ .1 (fits nor there nor (λ o. let e = one-cut (cut-there w s) (o .cut) in o .other (sym (e .corners) ∙ en, sym (e .rows) ∙ em, rw (e .numbers) at few)) nor none-yet)
 
   -- what a log sheet's reader refuses the whole lines for, the skin refuses
   counts-other : CountsOut (take k b) → First (cut-refusals b n m) (verdict.Refused CountsOutside)
@@ -99,4 +95,5 @@ module _ {b : List ℕ} {n m k : ℕ} {room : List ℕ} (size : length b ≤ mos
       let e2 : m″ ≡ m = (let h : m′ ≡ m″ = cc in sym h ∙ em) in
       let e3 : j ≡ count log = cc in
       let few : count log ≤ n - least-corners = rw e1 at (few-kept f s) in
-      record { passes = cut-same s e1 e2 few; log = log; cut = rw (e1, e2) at (cut-there w s); counted = e3; few = rw e3 few; put = er }
+      let cut = rw (e1, e2) at (cut-there w s) in
+      record { passes = cut-passes cut size few; log = log; cut = cut; counted = e3; few = rw e3 few; put = er }

@@ -19,7 +19,7 @@ use Rattle.refusal.specs.First.{First}
 use Rattle.refusal.specs.declared.Refusal.the-variants.{RecordFails, SheetForm}
 use Rattle.refusal.specs.declared.Verdict.the-variants.{Passes}
 use Rattle.refusal.specs.declared.Verdict.the-variants as verdict
-use Rattle.refusal.proofs.Laws.{verdicts, given-first, first-one, passes-none, refused-passes, none-yet, _nor_}
+use Rattle.refusal.proofs.Laws.{verdicts, given-first, first-one, refused-passes, none-yet, _nor_}
 use Rattle.faults.specs.Counts.{corners}
 use Rattle.run.specs.Run.{Taken, Run}
 use Rattle.run.proofs.Main.{run-one, taken-on, taken-cut, taken-replayed, replayed-stage}
@@ -53,7 +53,7 @@ use Rattle.tell.specs.declared.Answer.the-variants as text
 use Rattle.logform.specs.LogSheet.{most-log-bytes, LogSheetOf}
 use Rattle.logsheet.specs.Outcome.{WroteLogSheet}
 use Rattle.logcut.specs.Cut.{newlines, CutOf, NoCut, OtherCounts, cut-refusals}
-use Rattle.logcut.proofs.Ending.{one-cut}
+use Rattle.logcut.proofs.Ending.{one-cut, cut-passes}
 use Rattle.logcut.proofs.Cutting.{cut-newlines, none-whole, CutAfter, inside-first, after, sheet-cut}
 use Rattle.recover.specs.declared.Recovered.{Recovered}
 use Rattle.recover.specs.declared.Recovered.the-variants.{Done, Stopped, Refused}
@@ -210,12 +210,7 @@ module _ {d : Asked} {xs : List ℤ} {t l : List ℕ} {k : ℕ} {t′ l′ : Lis
 
     -- nothing stands against the sheet
     sheet-passes : First (cut-refusals b (corners xs) (length (rows t))) Passes
-    unfolding cut-refusals
-    sheet-passes = passes-none verdicts _ .1 (
-        (λ z. omega (arith, s .size, z))
-        nor (λ z. z (corners xs) (length (rows t)) (log-of (s .front)) (s .cut))
-        nor (λ o. let e = one-cut (s .cut) (o .cut) in o .other (sym (e .corners), sym (e .rows), rw (e .numbers) at few))
-        nor none-yet)
+    sheet-passes = cut-passes (s .cut) (s .size) few
 
     -- its records are all followed
     kept-led : {kept : List ℕ} → CutOf b (corners xs) (length (rows t)) kept → Replayed (rows t) (records kept) to × (records kept ≡ s .front)
@@ -243,21 +238,26 @@ module _ {d : Asked} {xs : List ℤ} {t l : List ℕ} {k : ℕ} {t′ l′ : Lis
         let e : to ≡ w .handed = leads-one (λ T T₁ T₂ k r q. left r q) (m .0) (w .led) in
         record { rest = s .rest; parts = rw (m .1) (s .parts); many = rw (m .1) (s .many); taken = rw (sym e, m .1) taken }
 
--- the order that wrote the log goes on as the unbroken run did
-unbroken : {d : Asked} {xs : List ℤ} {t r : List ℕ} {n : ℕ} {t₁ r₁ : List ℕ} (u : RunOf d xs t r n t₁ r₁) {b : List ℕ} → CutShort xs t (take (room-for n) r₁) b →
-    {l : List ℕ} {k j : ℕ} {t′ l′ : List ℕ} (w : RecoveryOf d xs t l b k j t′ l′) → (u .log ≡ records (w .kept) ++ w .added) × (u .last ≡ w .last)
-unbroken u c w =
-    let h = cut-newlines (w .cut) in
-    let a = honest-stage u c h w in
+-- an order whose run begins with the records kept goes on as the unbroken run did
+pub unbroken : {d : Asked} {xs : List ℤ} {t r : List ℕ} {n : ℕ} {t₁ r₁ : List ℕ} (u : RunOf d xs t r n t₁ r₁) {l b : List ℕ} {k j : ℕ} {t′ l′ : List ℕ} (w : RecoveryOf d xs t l b k j t′ l′) (rest : List Record) →
+    u .log ≡ records (w .kept) ++ rest → (u .log ≡ records (w .kept) ++ w .added) × (u .last ≡ w .last)
+unbroken u w rest h =
+    let c = thinned-kept u (records (w .kept)) rest h in
     let e = under-one (sym (u .under) ∙ w .under) in
-    run-one (u .run) (record { taken = taken-on (a .taken) (rw (sym e) at (w .run .taken)); ended = rw (sym e) at (w .run .ended) })
+    let z : c .0 ≡ w .handed = leads-one (λ T T₁ T₂ k r q. left r q) (taken-replayed (c .1)) (w .led) in
+    run-one (u .run) (record { taken = taken-on (rw z at (c .1)) (rw (sym e) at (w .run .taken)); ended = rw (sym e) at (w .run .ended) })
 
-in-room : {d : Asked} {xs : List ℤ} {t r : List ℕ} {n : ℕ} {t₁ r₁ : List ℕ} (u : RunOf d xs t r n t₁ r₁) {b : List ℕ} → CutShort xs t (take (room-for n) r₁) b →
-    {l : List ℕ} {k j : ℕ} {t′ l′ : List ℕ} → RecoveryOf d xs t l b k j t′ l′ → (j ≡ n) × (t′ ≡ t₁) × (l′ ≡ log-of (u .log) ++ drop (room-for n) l)
-in-room {t = t} u c {l} w =
-    let e = unbroken u c w in
+pub in-room : {d : Asked} {xs : List ℤ} {t r : List ℕ} {n : ℕ} {t₁ r₁ : List ℕ} (u : RunOf d xs t r n t₁ r₁) {l b : List ℕ} {k j : ℕ} {t′ l′ : List ℕ} (w : RecoveryOf d xs t l b k j t′ l′) (rest : List Record) →
+    u .log ≡ records (w .kept) ++ rest → (j ≡ n) × (t′ ≡ t₁) × (l′ ≡ take (room-for n) r₁ ++ drop (room-for n) l)
+in-room {t = t} u {l} w rest h =
+    let e = unbroken u w rest h in
     let m = sym (whole-many w) ∙ ap length (sym (e .0)) ∙ sym (u .count) in
-    (m, w .table ∙ ap (λ T. zeroed T t) (sym (e .1)) ∙ sym (u .table), whole-logged w ∙ (λ i. log-of (sym (e .0) i) ++ drop (room-for (m i)) l))
+    (m, w .table ∙ ap (λ T. zeroed T t) (sym (e .1)) ∙ sym (u .table), whole-logged w ∙ (λ i. (ap log-of (sym (e .0)) ∙ sym (whole-log u)) i ++ drop (room-for (m i)) l))
+
+-- the order that wrote the log
+as-written : {d : Asked} {xs : List ℤ} {t r : List ℕ} {n : ℕ} {t₁ r₁ : List ℕ} (u : RunOf d xs t r n t₁ r₁) {b : List ℕ} → CutShort xs t (take (room-for n) r₁) b →
+    {l : List ℕ} {k j : ℕ} {t′ l′ : List ℕ} → RecoveryOf d xs t l b k j t′ l′ → (j ≡ n) × (t′ ≡ t₁) × (l′ ≡ take (room-for n) r₁ ++ drop (room-for n) l)
+as-written u c w = let a = honest-stage u c (cut-newlines (w .cut)) w in in-room u w (a .rest) (a .parts)
 
 pub recovery : Recovery
 recovery = record {
@@ -269,14 +269,12 @@ recovery = record {
   first-line-cut = λ o h f w. first-cut o h f w;
   honest = λ o u c h o₂ f w. honest-done u c h o₂ f w;
   survives = λ o u c h o₂ w. honest-stage u c h w;
-  same-order = λ o {l = l} d c w.
+  same-order = λ o {l = l} {n = n} d c w.
       let u = thinned-run (as-done d) in
-      let r = in-room u c (as-recovery w) in
-      (r .0, r .1, r .2 ∙ ap (λ i. log-of (u .log) ++ drop (room-for i) l) (u .count) ∙ sym (u .logged));
-  any-room = λ o {n = n} d c {l = l} w.
-      let u = thinned-run (as-done d) in
-      let r = in-room u c (as-recovery w) in
-      (r .0, r .1, r .2 ∙ ap (λ q. q ++ drop (room-for n) l) (sym (whole-log u)));
+      let r = as-written u c (as-recovery w) in
+      (r .0, r .1, r .2 ∙ (λ i. whole-log u i ++ drop (room-for (u .count i)) l) ∙ sym (u .logged));
+  any-room = λ o d c w. as-written (thinned-run (as-done d)) c (as-recovery w);
+  begun-alike = λ o u w rest h. in-room u w rest h;
   keeps = λ o w p q e. keeps w p q e;
   shifts-within = λ d read w p q e v h a r. added-shifts d read w p q e v h a r;
   volumes-near = λ o w h a r. log-volume (w .skin) h a r;

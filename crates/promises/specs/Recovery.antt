@@ -106,6 +106,9 @@ pub record Recovery : Type 0 where
   -- in another room, in front of it
   pub any-room : (o : Order) {xs : List ℤ} {t r : List ℕ} {n : ℕ} {t₁ r₁ : List ℕ} → DoneWith o xs t r n t₁ r₁ → {b : List ℕ} → CutShort xs t (take (room-for n) r₁) b →
       {l : List ℕ} {k j : ℕ} {t′ l′ : List ℕ} → RecoveredWith o xs t l b k j t′ l′ → (j ≡ n) × (t′ ≡ t₁) × (l′ ≡ take (room-for n) r₁ ++ drop (room-for n) l)
+  -- and so ends any log whose records are the first of that order's own run, whoever wrote it
+  pub begun-alike : (o : Order) {xs : List ℤ} {t r : List ℕ} {n : ℕ} {t₁ r₁ : List ℕ} (u : RunOf (asked o) xs t r n t₁ r₁) {l b : List ℕ} {k j : ℕ} {t′ l′ : List ℕ} (w : RecoveryOf (asked o) xs t l b k j t′ l′) (rest : List Record) →
+      u .log ≡ records (w .kept) ++ rest → (j ≡ n) × (t′ ≡ t₁) × (l′ ≡ take (room-for n) r₁ ++ drop (room-for n) l)
   -- after each beginning p of the records added a closed oriented stage stands, of the first table's Euler number, with two rows and one used corner fewer for
   -- each record, whoever wrote it
   pub keeps : (o : Order) {xs : List ℤ} {t l b : List ℕ} {k j : ℕ} {t′ l′ : List ℕ} (w : RecoveryOf (asked o) xs t l b k j t′ l′) (p q : List Record) → w .added ≡ p ++ q →

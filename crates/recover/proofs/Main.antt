@@ -72,7 +72,7 @@ recovered-one {xs = xs} {t = t} {l = l} (done f s c w eb q er et el) (done f₂ 
 
 -- ---- answers apart, and what they tell
 
-done-refused : {X : Type 0} {k j : ℕ} {r : Refusal} → Done k j ≡ Refused r → X
+pub done-refused : {X : Type 0} {k j : ℕ} {r : Refusal} → Done k j ≡ Refused r → X
 done-refused e = let z : _≡_ {A = ℕ} 0 1 = cc in absurd (omega arith)
 
 pub done-stopped : {X : Type 0} {k j i : ℕ} → Done k j ≡ Stopped i → X
