@@ -4,10 +4,19 @@ use mathlib.Core.List.{List, [], _∷_, _++_, reverse, reverse-cons}
 use Rattle.follow.specs.Leads.{Leads, no-step, one-step}
 
 module _ {S I : Type 0} {Does : S → I → S → Type 0} where
+  -- steps after steps
+  pub leads-on : {s t u : S} {l m : List I} → Leads Does s l t → Leads Does t m u → Leads Does s (l ++ m) u
+  leads-on (no-step e) v = rw (sym e) at v
+  leads-on (one-step d w) v = one-step d (leads-on w v)
+
   -- one step more at the end
   pub leads-more : {s t u : S} {l : List I} {i : I} → Leads Does s l t → Does t i u → Leads Does s (l ++ (i ∷ [])) u
-  leads-more (no-step e) d = one-step (rw (sym e) at d) (no-step refl)
-  leads-more (one-step c w) d = one-step c (leads-more w d)
+  leads-more w d = leads-on w (one-step d (no-step refl))
+
+  -- a beginning of items leads to a state, from which the rest leads on
+  pub leads-cut : {s u : S} (l : List I) {m : List I} → Leads Does s (l ++ m) u → (t : S) × Leads Does s l t × Leads Does t m u
+  leads-cut {s} [] w = (s, no-step refl, w)
+  leads-cut (i ∷ l) (one-step d w) = let c = leads-cut l w in (c .0, one-step d (c .1), c .2)
 
   -- what every step keeps is kept
   pub leads-keep : (P : S → Type 0) → ((s t : S) (i : I) → P s → Does s i t → P t) → {s t : S} {l : List I} → P s → Leads Does s l t → P t

@@ -36,28 +36,18 @@ use Rattle.growable.specs.Refusals.{GrowFits, room-need}
 use Rattle.regrow.specs.Outcome.{GrownAs}
 use Rattle.regrow.proofs.Main.{restores}
 use Rattle.replay.specs.Outcome.{ReplayFits, ReplayedAs}
-use Rattle.follow.specs.Leads.{no-step, one-step}
-use Rattle.follow.proofs.Leading.{leads-one}
+use Rattle.follow.specs.Leads.{no-step}
+use Rattle.follow.proofs.Leading.{leads-one, leads-cut}
 use Rattle.surface.proofs.Main.{left}
 use Rattle.replay.proofs.Main.{replays-whole}
 use Rattle.promises.specs.Thinning.{DoneWith}
 use Rattle.promises.specs.Stages.{StageOf}
-use Rattle.promises.proofs.Logged.{whole-log, rest-log}
+use Rattle.promises.proofs.Logged.{whole-log, front-log, rest-log}
 
 drop-zeros : (m n : ℕ) → drop m (replicate {A = ℕ} n 0) ≡ replicate (n - m) 0
 drop-zeros zero n = let e : n ≡ n - 0 = omega arith in ap (λ k. replicate k 0) e
 drop-zeros (suc m) zero = let e : 0 ≡ 0 - suc m = omega arith in ap (λ k. replicate k 0) e
 drop-zeros (suc m) (suc n) = let e : n - m ≡ suc n - suc m = omega arith in drop-zeros m n ∙ ap (λ k. replicate k 0) e
-
--- a beginning of records leads to a stage, from which the rest leads on
-replayed-cut : {T T′ : List Row} (p : List Record) {q : List Record} → Replayed T (p ++ q) T′ → (T₁ : List Row) × Replayed T p T₁ × Replayed T₁ q T′
-replayed-cut {T} [] w = (T, no-step refl, w)
-replayed-cut (k ∷ p) (one-step d w) = let c = replayed-cut p w in (c .0, one-step d (c .1), c .2)
-
--- and steps go on after steps
-pub replayed-on : {T T₁ T′ : List Row} {p q : List Record} → Replayed T p T₁ → Replayed T₁ q T′ → Replayed T (p ++ q) T′
-replayed-on (no-step e) v = rw (sym e) at v
-replayed-on (one-step d w) v = one-step d (replayed-on w v)
 
 -- records m lead from the table t, a stage of whole rows, to the rows `last`, which t′ holds; whoever wrote them
 pub record Led (n : ℕ) (t : List ℕ) (m : List Record) (last : List Row) (t′ : List ℕ) : Type 0 where
@@ -92,7 +82,7 @@ module _ {n : ℕ} {t : List ℕ} {m : List Record} {last : List Row} {t′ : Li
 
     -- the rest of the log leads on to the last stage
     pub leads-rest : Replayed T₁ q last
-    leads-rest = let c = replayed-cut p (rw e at (w .leads)) in rw (leads-one (λ T T₁ T₂ k r q. left r q) (c .1) begun) at (c .2)
+    leads-rest = let c = leads-cut p (rw e at (w .leads)) in rw (leads-one (λ T T₁ T₂ k r q. left r q) (c .1) begun) at (c .2)
 
     fits : GrowFits n (length last) (log-of q)
     fits = record {
@@ -127,12 +117,18 @@ module _ {n : ℕ} {t : List ℕ} {m : List Record} {last : List Row} {t′ : Li
         ∙ drop-zeros (3 * length T₁ - length L) (length t - length L)
         ∙ ap (λ z. replicate z 0) f)
 
-    -- the log after p grown back where its last stage was left: the table before it
+    -- the log after p grown back in any room in which the last stage stands: the rows before it
+    pub led-restored-in : {k : ℕ} {room log : List ℕ} → length m ≡ k → log ≡ log-of q → standing (length (rows t) - 2 * k) room ≡ standing (length (rows t) - 2 * k) t′ →
+        room-need (length (rows t) - 2 * k) (log-of q) ≤ length room → {a : Regrown} {r : List ℕ} → GrownAs n (length (rows t) - 2 * k) room log a r → (told a ≡ answers.done (pos (length q) ∷ [])) × (r ≡ filled T₁ room)
+    led-restored-in {room = room} c l same h g =
+        let s : standing (length last) room ≡ last = rw (rows-left c) at same ∙ stands in
+        let o = restores fits (rw (rows-left c) at h) there (rw (records-log q, s) leads-rest) (rw (rows-left c, l) at g) in
+        (ap told (o .0 ∙ ap Done (records-many q)), o .1)
+
+    -- where its last stage was left: the table before it
     pub led-restored-from : {k : ℕ} {log : List ℕ} → length m ≡ k → log ≡ log-of q → {a : Regrown} {r : List ℕ} → GrownAs n (length (rows t) - 2 * k) t′ log a r →
         (told a ≡ answers.done (pos (length q) ∷ [])) × (r ≡ zeroed T₁ t)
-    led-restored-from c l g =
-        let o = restores fits enough there (rw (records-log q, stands) leads-rest) (rw (rows-left c, l) at g) in
-        (ap told (o .0 ∙ ap Done (records-many q)), o .1 ∙ filled-left)
+    led-restored-from c l g = let o = led-restored-in c l refl (rw (rows-left c) enough) g in (o .0, o .1 ∙ filled-left)
 
     -- p replayed on the first table: the stage it leads to
     pub led-replayed-to : {log : List ℕ} → log ≡ log-of p → {a : Regrown} {r : List ℕ} → ReplayedAs n t log a r → (told a ≡ answers.done (pos (length p) ∷ [])) × (r ≡ zeroed T₁ t)
@@ -165,11 +161,24 @@ module _ {n : ℕ} {t : List ℕ} {m : List Record} {last : List Row} {t′ : Li
 pub run-led : {d : Asked} {xs : List ℤ} {t l : List ℕ} {k : ℕ} {t′ l′ : List ℕ} (w : RunOf d xs t l k t′ l′) → Led (corners xs) t (w .log) (w .last) t′
 run-led w = record { whole = w .whole; first = w .skin .stage; leads = taken-replayed (w .run .taken); table = w .table }
 
--- the log from record i on, i being how many p are, grown back: the table before record i
+-- the log from record i on, i being how many p are, grown back in any room in which the last stage stands: the rows before record i
+pub restored-in : {d : Asked} {xs : List ℤ} {t l : List ℕ} {k : ℕ} {t′ l′ : List ℕ} (w : RunOf d xs t l k t′ l′) (p q : List Record) → w .log ≡ p ++ q →
+    {T₁ : List Row} → Taken (Allowed (w .b) xs) (rows t) p T₁ → {room : List ℕ} → standing (length (rows t) - 2 * k) room ≡ standing (length (rows t) - 2 * k) t′ →
+    room-need (length (rows t) - 2 * k) (log-of q) ≤ length room → {a : Regrown} {r : List ℕ} → GrownAs (corners xs) (length (rows t) - 2 * k) room (drop (room-for (length p)) (take (room-for k) l′)) a r →
+    (told a ≡ answers.done (pos (length q) ∷ [])) × (r ≡ filled T₁ room)
+restored-in w p q e h same enough g = led-restored-in (run-led w) p q e (taken-replayed h) (sym (w .count)) (rest-log w p q e) same enough g
+
+-- where thinning left its table: the table before record i
 pub restored-from : {d : Asked} {xs : List ℤ} {t l : List ℕ} {k : ℕ} {t′ l′ : List ℕ} (w : RunOf d xs t l k t′ l′) (p q : List Record) → w .log ≡ p ++ q →
     {T₁ : List Row} → Taken (Allowed (w .b) xs) (rows t) p T₁ → {a : Regrown} {r : List ℕ} → GrownAs (corners xs) (length (rows t) - 2 * k) t′ (drop (room-for (length p)) (take (room-for k) l′)) a r →
     (told a ≡ answers.done (pos (length q) ∷ [])) × (r ≡ zeroed T₁ t)
 restored-from w p q e h g = led-restored-from (run-led w) p q e (taken-replayed h) (sym (w .count)) (rest-log w p q e) g
+
+-- a beginning of the log replayed on the first table: the stage it leads to
+pub replayed-to : {d : Asked} {xs : List ℤ} {t l : List ℕ} {k : ℕ} {t′ l′ : List ℕ} (w : RunOf d xs t l k t′ l′) (p q : List Record) → w .log ≡ p ++ q →
+    {T₁ : List Row} → Taken (Allowed (w .b) xs) (rows t) p T₁ → {a : Regrown} {r : List ℕ} → ReplayedAs (corners xs) t (take (room-for (length p)) l′) a r →
+    (told a ≡ answers.done (pos (length p) ∷ [])) × (r ≡ zeroed T₁ t)
+replayed-to w p q e h g = led-replayed-to (run-led w) p q e (taken-replayed h) (front-log w p q e) g
 
 -- what tells 0 and k records is done with k
 pub as-done : {o : Order} {xs : List ℤ} {t l : List ℕ} {k : ℕ} {t′ l′ : List ℕ} → DoneWith o xs t l k t′ l′ → Thinned o xs t l (thinning.Done k) t′ l′

@@ -9,7 +9,7 @@ use lib.IntN.{ℤ, pos}
 use lib.ListN.{length, length-append, take, drop, take-append-drop}
 use lib.Seq.{take-at, drop-at, length-take-le}
 use Rattle.follow.specs.Follow.{Followed, all, some}
-use Rattle.follow.proofs.Leading.{leads-one}
+use Rattle.follow.proofs.Leading.{leads-one, leads-on}
 use Rattle.follow.proofs.Following.{followed-one}
 use Rattle.surface.specs.Rows.{Row, rows}
 use Rattle.surface.specs.Record.{Record, Replayed}
@@ -66,7 +66,7 @@ use Rattle.recover.proofs.Main.{recovered-one, recovery-run, stopped-run, told-
 use Rattle.promises.specs.Thinning.{DoneWith}
 use Rattle.promises.specs.Stages.{StageOf}
 use Rattle.promises.specs.Recovery.{RecoveredWith, StoppedWith, CutShort, AfterSteps, Recovery}
-use Rattle.promises.proofs.Back.{replayed-on, Led, records-many, led-leaves, led-replayed-to, led-restored, led-replayed, run-led, as-done}
+use Rattle.promises.proofs.Back.{Led, records-many, led-leaves, led-replayed-to, led-restored, led-replayed, run-led, as-done}
 use Rattle.promises.proofs.Logged.{front-of, whole-log}
 use Rattle.promises.proofs.Figures.{within}
 use Rattle.promises.proofs.Mailing.{wrote-told, written-sheet, written-size, can-write, fewer, part-writable}
@@ -92,7 +92,7 @@ module _ {a : Asked} {xs : List ℤ} {t l b : List ℕ} {k j : ℕ} {t′ l′ :
   whole-many = let a = w .many in let c = w .in-all in length-append (records (w .kept)) (w .added) ∙ omega (arith, records-length (w .kept))
 
   pub whole-led : Led (corners xs) t (records (w .kept) ++ w .added) (w .last) t′
-  whole-led = record { whole = w .whole; first = w .skin .stage; leads = replayed-on (w .led) (taken-replayed (w .run .taken)); table = w .table }
+  whole-led = record { whole = w .whole; first = w .skin .stage; leads = leads-on (w .led) (taken-replayed (w .run .taken)); table = w .table }
 
   pub whole-logged : l′ ≡ log-of (records (w .kept) ++ w .added) ++ drop (room-for j) l
   whole-logged =
@@ -118,7 +118,7 @@ module _ {a : Asked} {xs : List ℤ} {t l b : List ℕ} {k j : ℕ} {t′ l′ :
       (o .0 ∙ ap (λ i. answers.done (pos i ∷ [])) (records-length (w .kept) ∙ sym (w .many)), o .1)
 
   keeps : (p q : List Record) → w .added ≡ p ++ q → (T₁ : List Row) × Taken (Allowed (w .bound) xs) (w .handed) p T₁ × KeptAfter (corners xs) (rows t) (records (w .kept) ++ p) T₁
-  keeps p q e = let c = taken-cut p (rw e at (w .run .taken)) in (c .0, c .1, replayed-kept (w .skin .stage) (replayed-on (w .led) (taken-replayed (c .1))))
+  keeps p q e = let c = taken-cut p (rw e at (w .run .taken)) in (c .0, c .1, replayed-kept (w .skin .stage) (leads-on (w .led) (taken-replayed (c .1))))
 
 added-shifts : (d : Length) {L : ℕ} → limit-of d ≡ Whole L → {xs : List ℤ} {t l b : List ℕ} {k j : ℕ} {t′ l′ : List ℕ} (w : RecoveryOf (asked (Limit d)) xs t l b k j t′ l′) (p q : List Record) → w .added ≡ p ++ q →
     (v : ℕ) → v < corners xs → (a : Shifted) → ShiftReport xs (take (room-for (length p)) (drop (room-for k) l′)) v (shifts.told a) → Bounded L a

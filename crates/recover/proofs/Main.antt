@@ -14,9 +14,9 @@ use Rattle.refusal.specs.declared.Refusal.{Refusal}
 use Rattle.refusal.specs.declared.Refusal.the-variants.{RecordFails}
 use Rattle.refusal.specs.declared.Verdict.the-variants.{Passes}
 use Rattle.refusal.specs.declared.Verdict.the-variants as verdict
-use Rattle.refusal.specs.First.{FirstOf, Refusals, First}
+use Rattle.refusal.specs.First.{First}
 use Rattle.refusal.specs.Told as answers
-use Rattle.refusal.proofs.Laws.{verdicts, first-one, refused-one, refused-passes, passed}
+use Rattle.refusal.proofs.Laws.{verdicts, first-one, refused-one, refused-passes, passes-front}
 use Rattle.refusal.proofs.Outcome.{refused-done}
 use Rattle.faults.specs.Counts.{corners}
 use Rattle.run.proofs.Main.{run-one}
@@ -102,17 +102,11 @@ told-stopped (Done x y) e = let h = ap (λ (v : answers.Told). v .number) e in a
 told-stopped (Stopped x) e = ap Stopped (ap (value 0) e)
 told-stopped (Refused r) {k} e = absurd (failing-other k r (sym e))
 
--- what two lists pass, the first passes
-passes-front : (l m : Refusals) → First (l ++ m) Passes → First l Passes
-unfolding FirstOf
-passes-front [] m f = refl
-passes-front (c ∷ l) m f = let p = passed verdicts c (l ++ m) f in inr (p .0, passes-front l m (p .1))
-
 -- ---- what it comes to
 
 -- what passes is a table of whole rows
 whole-rows : (a : Asked) (xs : List ℤ) (t l b : List ℕ) → First (recover-refusals a xs t (length l) b) Passes → length t % 3 ≡ 0
-whole-rows a xs t l b f = passes-whole a xs t (length l) (passes-front (thin-refusals a xs t (length l)) _ f)
+whole-rows a xs t l b f = passes-whole a xs t (length l) (passes-front verdicts (thin-refusals a xs t (length l)) _ f)
 
 module _ {a : Asked} {xs : List ℤ} {t l b : List ℕ} where
   pub recovery-run : {k j : ℕ} {t′ l′ : List ℕ} → RecoveredAs a xs t l b (Done k j) t′ l′ → RecoveryOf a xs t l b k j t′ l′

@@ -77,6 +77,12 @@ module _ {R A : Type 0} {passes : A} {refuses : R → A} (apart : Verdicts passe
   refused-before (c ∷ l) m r (inl p) = inl p
   refused-before (c ∷ l) m r (inr p) = inr (p .0, refused-before l m r (p .1))
 
+  -- and what both pass, the first passes
+  pub passes-front : (l m : List (Clause R)) → FirstOf passes refuses (l ++ m) passes → FirstOf passes refuses l passes
+  unfolding FirstOf
+  passes-front [] m f = refl
+  passes-front (c ∷ l) m f = let p = passed c (l ++ m) f in inr (p .0, passes-front l m (p .1))
+
 -- 01's own verdicts: two refusals are two
 pub refused-one : {r s : Refusal} → Refused r ≡ Refused s → r ≡ s
 refused-one e = cc

@@ -25,7 +25,7 @@ shared-slice-read-if1 : tie.Need-shared-slice-read-if1 Inv-loop μ-loop
 shared-slice-read-if1 c = let h = c .before .before .loop .inv .inside in let k = c .before .loop-test .taken in omega arith
 
 returns : tie.Need-returns Inv-loop μ-loop
-returns c = newline-there (c .before .before .before .loop .inv) (c .before .before .loop-test .taken) (c .if1 .taken)
+returns c = let h = c .before .before .loop-test .taken in newline-there (c .before .before .before .loop .inv) (omega arith) (c .if1 .taken)
 
 sub-end : tie.Need-sub-end Inv-loop μ-loop
 sub-end c = search needs
@@ -34,7 +34,7 @@ loop-less : tie.Need-loop-less Inv-loop μ-loop
 loop-less c = let k = c .before .before .loop-test .taken in omega arith
 
 loop-again : tie.Need-loop-again Inv-loop μ-loop
-loop-again c = other-there (c .before .before .before .loop .inv) (c .before .before .loop-test .taken) (c .if1 .left)
+loop-again c = let h = c .before .before .loop-test .taken in other-there (c .before .before .before .loop .inv) (omega arith) (c .if1 .left)
 
 returns-2 : tie.Need-returns-2 Inv-loop μ-loop
 returns-2 c = let k = c .loop-test .left in let e : c .before .loop .end ≡ 0 = omega arith in rw e at (none-there (c .before .loop .inv) e)
