@@ -87,6 +87,33 @@ static void log_sheet(const uint32_t *log)
     next("the record past all", text, 52, SIZE_MAX);
 }
 
+/* The octahedron taken up from a log sheet as far as it goes: the status and both counts, then the whole table and the whole log, which has a number
+ * of room more than it needs and was all sevens. */
+static void recover(const char *name, uint32_t unit, double figure, const char *bytes, size_t length)
+{
+    uint32_t table[24], log[21];
+    uint64_t kept = 7, records = 7;
+    memcpy(table, first, sizeof first);
+    for (size_t i = 0; i < 21; i++)
+        log[i] = 7;
+    uint64_t status = flaxglimmer_recover(unit, figure, table, 24, corners, 18, log, 21, (const uint8_t *)bytes, length, &kept, &records);
+    printf("%s %" PRIu64 " %" PRIu64 " %" PRIu64 "\n", name, status, kept, records);
+    numbers("its rows", table, 24, 3);
+    numbers("its log", log, 21, 10);
+}
+
+static void recovery(void)
+{
+    static const char sheet[] = "LOG\t6\t8\nK\t0\t1\t0\t0\t1\t2\t3\t0\t4\t1\nK\t0\t2\t0\t0\t2\t3\t2\t5\t2\t0\n";
+    static const char spoilt[] = "LOG\t6\t8\nK\t0\t1\t0\t0\t1\t2\t3\t0\t4\t1\nK\t0\t2\t0\t0\t2\t3\t2\t5\t2\t9\nK";
+    recover("recover, cut at 51", FLAXGLIMMER_NO_LIMIT, 0, sheet, 51);
+    recover("under a limit", FLAXGLIMMER_CENTIMETRES, 141, sheet, 51);
+    recover("a record that fails", FLAXGLIMMER_NO_LIMIT, 0, spoilt, strlen(spoilt));
+    recover("cut at 7", FLAXGLIMMER_NO_LIMIT, 0, sheet, 7);
+    recover("another skin's", FLAXGLIMMER_NO_LIMIT, 0, "LOG\t6\t10\n", 9);
+    recover("another unit's", 4, 0.3, sheet, 52);
+}
+
 /* Every list that may be empty, as NULL: first in calls that are done, on document 01's tetrahedron, which has no record; then everywhere. */
 static void empty(void)
 {
@@ -109,6 +136,8 @@ static void empty(void)
     four("no log to read", status, values);
     status = flaxglimmer_each_record(text, 8, NULL, 0, &values[0], &values[1], &values[2]);
     four("no record to read", status, values);
+    status = flaxglimmer_recover(FLAXGLIMMER_NO_LIMIT, 0, table, 12, at, 12, NULL, 0, text, 8, &a, &b);
+    printf("no log to recover %" PRIu64 " %" PRIu64 " %" PRIu64 "\n", status, a, b);
 
     counted("nothing to thin", flaxglimmer_thin(FLAXGLIMMER_NO_LIMIT, 0, NULL, 0, NULL, 0, NULL, 0));
     counted("nothing to grow back", flaxglimmer_grow_back(4, 4, NULL, 0, NULL, 0));
@@ -142,6 +171,12 @@ static void empty(void)
     status = flaxglimmer_open_log_sheet(NULL, 0, &values[0], &values[1], &values[2]);
     four("no log sheet to open", status, values);
     next("nothing's record", NULL, 0, 0);
+    a = b = 7;
+    status = flaxglimmer_recover(FLAXGLIMMER_NO_LIMIT, 0, table, 12, at, 12, NULL, 0, NULL, 0, &a, &b);
+    printf("no log sheet to recover %" PRIu64 " %" PRIu64 " %" PRIu64 "\n", status, a, b);
+    a = b = 7;
+    status = flaxglimmer_recover(FLAXGLIMMER_NO_LIMIT, 0, NULL, 0, NULL, 0, NULL, 0, NULL, 0, &a, &b);
+    printf("nothing to recover %" PRIu64 " %" PRIu64 " %" PRIu64 "\n", status, a, b);
 }
 
 int main(void)
@@ -162,6 +197,7 @@ int main(void)
     printf("restored %s\n", memcmp(table, first, sizeof first) == 0 ? "yes" : "no");
     counted("replay", flaxglimmer_replay(6, table, 24, log, 20));
     log_sheet(log);
+    recovery();
     log[0] = 5;
     counted("a record that fails", flaxglimmer_grow_back(4, 6, table, 24, log, 20));
 

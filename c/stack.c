@@ -135,6 +135,24 @@ static void next_record(void)
     status |= flaxglimmer_next_record(now->log_sheet, now->log_bytes, now->log_bytes, &count, &squared, record);
 }
 
+/* From the first half of a log sheet that thinning wrote: those records are replayed, and the others found again. */
+static uint64_t recovered(uint32_t unit, double figure)
+{
+    memcpy(now->table, now->first, sizeof now->first);
+    return flaxglimmer_recover(unit, figure, now->table, 3 * now->rows, now->coordinates, 3 * now->corners, now->written,
+                               FLAXGLIMMER_WIDTH * now->corners, now->log_sheet, now->log_bytes / 2, &count, &squared);
+}
+
+static void recover(void)
+{
+    status = recovered(FLAXGLIMMER_NO_LIMIT, 0);
+}
+
+static void recover_under_a_limit(void)
+{
+    status = recovered(FLAXGLIMMER_FEET, 4.75);
+}
+
 /* A call, the stack that it is made on, what the stack is filled with, and how deep it was written. */
 struct trial {
     void (*call)(void);
@@ -264,6 +282,7 @@ int main(void)
     lay_out(&sheet_limits);
     longest_log(&log_limits);
     lay_out_log(&ring);
+    lay_out_log(&table_limits);
     lay_out_log(&log_limits);
 
     int over = told("thin", thin, &table_limits, FLAXGLIMMER_STACK_THIN);
@@ -284,5 +303,7 @@ int main(void)
     over |= told("each record", each_record, &log_limits, FLAXGLIMMER_STACK_OTHER);
     over |= told("open a log sheet", open_log_sheet, &log_limits, FLAXGLIMMER_STACK_OTHER);
     over |= told("next record", next_record, &log_limits, FLAXGLIMMER_STACK_OTHER);
+    over |= told("recover", recover, &table_limits, FLAXGLIMMER_STACK_RECOVER);
+    over |= told("recover, under a limit", recover_under_a_limit, &table_limits, FLAXGLIMMER_STACK_RECOVER);
     return over;
 }

@@ -6,7 +6,7 @@
  * status: 0 done, else the number of the first refusal that holds, FLAXGLIMMER_LIMIT_UNUSABLE to FLAXGLIMMER_RECORD_FAILS below; a later
  * archive may answer further numbers. A refused call leaves every list that it was lent as it was, and each of its values is 0, those in lent
  * numbers and in a lent record too. But FLAXGLIMMER_RECORD_FAILS tells how many records were done before it, and leaves the stage that they led
- * to.
+ * to; flaxglimmer_recover also leaves those records in front of its log.
  *
  * What is lent. A list is a pointer and how many numbers (of a sheet or a text: bytes) stand there, its length. It is lent for the call alone:
  * nothing is kept, and nothing is freed.
@@ -63,8 +63,8 @@ extern "C" {
 #define FLAXGLIMMER_MOST_TEXT 65536
 
 /* How many bytes of stack a call takes at most; a call that has no name here takes FLAXGLIMMER_STACK_OTHER. No proof bounds a stack: these are
- * what c/stack.c measured on Arm, and on x86-64 under the kit's emulator, the calls of log sheets on x86-64 alone, on skins and logs at the limits,
- * with at least an eighth more and rounded up to 16 KiB; tests/bridge measures again and compares.
+ * what c/stack.c measured on Arm, and on x86-64 under the kit's emulator, the calls of log sheets and recovery on x86-64 alone, on skins and logs
+ * at the limits, with at least an eighth more and rounded up to 16 KiB; tests/bridge measures again and compares.
  * The arrays on the stack have the length of the limits whatever is lent, and no function calls itself but by the digits of a number. */
 #define FLAXGLIMMER_STACK_THIN 114688
 #define FLAXGLIMMER_STACK_GROW_BACK 81920
@@ -73,13 +73,14 @@ extern "C" {
 #define FLAXGLIMMER_STACK_CHANGE 81920
 #define FLAXGLIMMER_STACK_READ_SHEET 147456
 #define FLAXGLIMMER_STACK_REPLY 262144
+#define FLAXGLIMMER_STACK_RECOVER 131072
 #define FLAXGLIMMER_STACK_OTHER 16384
 
 /* What a status says. */
 enum {
     FLAXGLIMMER_DONE = 0,
     FLAXGLIMMER_LIMIT_UNUSABLE = 1,          /* limit unusable */
-    FLAXGLIMMER_COUNTS_OUTSIDE = 2,          /* counts outside limits; a length no multiple; rows that would pass the limits; too many records or digits for a log sheet */
+    FLAXGLIMMER_COUNTS_OUTSIDE = 2,          /* counts outside limits; a length no multiple; rows that would pass the limits; too many records or digits for a log sheet, or one of another skin */
     FLAXGLIMMER_ROOM_SHORT = 3,              /* lent room short */
     FLAXGLIMMER_COORDINATE_OUT_OF_RANGE = 4, /* a coordinate out of range */
     FLAXGLIMMER_NUMBER_NOT_BELOW = 5,        /* a corner number not below the count */
@@ -223,6 +224,20 @@ uint64_t flaxglimmer_open_log_sheet(const uint8_t *bytes, size_t bytes_length, u
  * bytes: any bytes; read. place: any number. found, after: lent numbers, for 1 or 0 and the place after the record's line. numbers: a lent record,
  * for its numbers. */
 uint64_t flaxglimmer_next_record(const uint8_t *bytes, size_t bytes_length, size_t place, uint64_t *found, uint64_t *after, uint32_t *numbers);
+
+/* Takes a thinning up whose log sheet was cut after any byte: lines that end in a newline are used and what follows the last of them is dropped,
+ * the records are replayed on the first table, and thinning goes on under an order, as in flaxglimmer_thin; its value is the status. Done, the last
+ * stage is left in front of the table and zeros behind it, the records replayed and then those added in front of the log, which stays as it was
+ * past them. If the order is the one that wrote the sheet, these are the table and the log of a thinning that was never broken off; if it is
+ * another, only the records added go by it.
+ * The refusals are those of flaxglimmer_thin; then FLAXGLIMMER_SHEET_FORM for the size, a cut inside the first line, or a whole line that is not in
+ * its form; then FLAXGLIMMER_COUNTS_OUTSIDE for a first line whose counts are not those of the table and the corners, or more than corners - 4
+ * records; then FLAXGLIMMER_RECORD_FAILS for a record that does not replay: kept and records both tell how many did, the stage that they led to is
+ * left in front of the table and zeros behind it, and they in front of the log.
+ * table: the first table's rows; written. corners: their coordinates; read. log: room as flaxglimmer_thin needs it; written. bytes: the log sheet
+ * as far as it goes; read. kept, records: lent numbers, for how many records were replayed and how many there are in all. */
+uint64_t flaxglimmer_recover(uint32_t unit, double figure, uint32_t *table, size_t table_length, const int32_t *corners, size_t corners_length,
+                             uint32_t *log, size_t log_length, const uint8_t *bytes, size_t bytes_length, uint64_t *kept, uint64_t *records);
 
 #ifdef __cplusplus
 }

@@ -4,4 +4,4 @@ from .calls import catch_up, change, grow_back, limit, read_sheet, reply, replay
 from .calls import LogSheet, each_record, next_record, open_log_sheet, read_log_sheet, records, write_log_sheet
 from .files import from_points, read
 from .refusals import Fault, FileFault, LibraryMissing, OurFault, Refused, UsageFault
-from .skins import Skin, Thinned, thin
+from .skins import Recovered, Skin, Thinned, recover, thin

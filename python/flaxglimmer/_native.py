@@ -50,6 +50,7 @@ SIGNATURES = {  # name: (result, arguments)
     "each_record": (u64, [lent, size, lent, size, number, number, number]),
     "open_log_sheet": (u64, [lent, size, number, number, number]),
     "next_record": (u64, [lent, size, size, number, number, lent]),
+    "recover": (u64, [u32, c.c_double, lent, size, lent, size, lent, size, lent, size, number, number]),
 }
 
 

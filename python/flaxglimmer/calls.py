@@ -47,12 +47,31 @@ def thin(rows, corners, limit) -> tuple[np.ndarray, np.ndarray]:
     table, corners = np.array(_rows(rows)).reshape(-1), _corners(corners)
     log = _log_room(corners)
     records = lent.thin(table, corners, log, limit)
-    return _stage(table, records), log[: LIMITS.WIDTH * records].reshape(-1, LIMITS.WIDTH)
+    return _stage(table, records), _records(log, records)
+
+
+def recover(rows, corners, sheet: bytes, limit) -> tuple[np.ndarray, np.ndarray, int]:
+    """The last stage and the whole log of a thinning that is taken up from a cut log sheet, and how many records of the sheet were kept. On 13 the stage
+    reached and the records before it are Refused's rows and log."""
+    table, corners = np.array(_rows(rows)).reshape(-1), _corners(corners)
+    log = _log_room(corners)
+    try:
+        kept, records = lent.recover(table, corners, log, np.frombuffer(sheet, np.uint8), limit)
+    except Refused as refused:
+        if refused.number == 13:
+            refused.rows, refused.log = _stage(table, refused.records), _records(log, refused.records)
+        raise
+    return _stage(table, records), _records(log, records), kept
 
 
 def _stage(table, records: int) -> np.ndarray:
     """The rows in front of a table from which so many records took two each."""
     return table[: table.size - 6 * records].reshape(-1, 3)
+
+
+def _records(log, records: int) -> np.ndarray:
+    """So many records in front of a log's room."""
+    return log[: LIMITS.WIDTH * records].reshape(-1, LIMITS.WIDTH)
 
 
 def check(rows, corners) -> int:
@@ -170,7 +189,7 @@ def _read_log(call, sheet: bytes) -> LogSheet:
     shortest = len("K\n") + LIMITS.WIDTH * len("\t0")
     log = np.empty(LIMITS.WIDTH * (min(len(sheet), LIMITS.MOST_LOG_BYTES) // shortest), np.uint32)
     corners, rows, records = call(np.frombuffer(sheet, np.uint8), log)
-    return LogSheet(corners, rows, log[: LIMITS.WIDTH * records].reshape(-1, LIMITS.WIDTH))
+    return LogSheet(corners, rows, _records(log, records))
 
 
 def open_log_sheet(sheet: bytes) -> tuple[int, int, int]:

@@ -155,9 +155,7 @@ def opened_log(path, skin: skins.Skin) -> files.Log:
         log = files.read_log(path)
     here = len(skin.corners), len(skin.rows)
     if log.counts not in (None, here):
-        told, found = (f"{corners:,} corners and {rows:,} rows" for corners, rows in (log.counts, here))
-        name = files.shown(path)
-        raise UsageFault(f"{name} is the log of a skin of {told}, and {skin.name} has {found}: is it that scan, read with the same options?")
+        raise UsageFault(f"{logs.of_another(files.shown(path), log.counts, skin.name, here)}: {logs.SAME}")
     return log
 
 
@@ -202,25 +200,57 @@ def told_of(skin: skins.Skin, figure: int) -> list:
 # Scans
 
 
+def with_order(function):
+    """The order of a thinning, and what is written of it."""
+    for option in (
+        to_write("answer", "Write rows and log as the desk's answer."),
+        to_write("log", "Write the log as a log sheet, which can be mailed."),
+        to_write("sheet", "Write the scanned skin as a sheet."),
+        click.option("--mean-at-least", help="As '3000 mm': whether the mean diameter is shown to be as much."),
+        click.option("--length", help="The shaft's, as '30 m', for the mean diameter of the skin."),
+        to_write("report", "Write the report, one HTML file."),
+        click.option("--limit", required=True, help="As '0.8 m', '4.75 ft', '30 cm', or none."),
+    ):
+        function = option(function)
+    return function
+
+
 @command("thin")
 @with_file
-@click.option("--limit", required=True, help="As '0.8 m', '4.75 ft', '30 cm', or none.")
-@to_write("report", "Write the report, one HTML file.")
-@click.option("--length", help="The shaft's, as '30 m', for the mean diameter of the skin.")
-@click.option("--mean-at-least", help="As '3000 mm': whether the mean diameter is shown to be as much.")
-@to_write("sheet", "Write the scanned skin as a sheet.")
-@to_write("log", "Write the log as a log sheet, which can be mailed.")
-@to_write("answer", "Write rows and log as the desk's answer.")
-def thin(file, limit, report, length, mean_at_least, sheet, log, answer, **prepared):
+@with_order
+def thin(file, limit, **asked):
     """Thin the skin in FILE under a limit."""
+    return thinning([file], limit, lambda skin: skins.thin(skin, limit), **asked)
+
+
+@command("recover")
+@with_file
+@click.argument("cut", metavar="LOG")
+@with_order
+def recover(file, cut, limit, **asked):
+    """Take the thinning of the skin in FILE up from LOG, a log sheet that was cut after any byte, and thin on under a limit.
+
+    Lines of LOG that end in a newline are used, and an unfinished one behind them is dropped. Under the limit that wrote LOG the rows and the log are
+    those of an unbroken run."""
+
+    def taken_up(skin):
+        with named(cut):
+            sheet = files.log_bytes(cut)
+        return skins.recover(skin, sheet, limit, files.shown(cut))
+
+    return thinning([file, cut], limit, taken_up, **asked)
+
+
+def thinning(reads, limit, act, report, length, mean_at_least, sheet, log, answer, **prepared) -> Outcome:
+    """Thins the skin in the first of the files that are read, by this act, and writes what was asked."""
     lengths.order(limit)
     for typed in filter(None, (length, mean_at_least)):
         lengths.millimetres(typed)
     if mean_at_least and not length:
         raise UsageFault("--mean-at-least needs --length, the shaft's, as '30 m'")
-    apart([file], [report, sheet, log, answer])
-    skin = opened(file, **prepared)
-    thinned = skins.thin(skin, limit)
+    apart(reads, [report, sheet, log, answer])
+    skin = opened(reads[0], **prepared)
+    thinned = act(skin)
     thinned.hold()
     first, last = thinned.volumes()
     diameter = of_skin(first, skin.move, length, mean_at_least) if length else None
@@ -262,7 +292,15 @@ def thinned_outcome(thinned: skins.Thinned, first: int, last: int, diameter) -> 
         lines += [diameter.line(), "  it does not cover:"] + [f"    {what}" for what in diameter.not_covered()]
         answer["mean_diameter"] = {**asdict(diameter), "line": diameter.line(), "not_covered": diameter.not_covered()}
     shown = diameter is None or diameter.verdict in (None, "met")
-    return Outcome(answer, lines, notes=told_of(skin, first), exit=DONE if shown else NOT_SHOWN)
+    told = Outcome(answer, lines, notes=told_of(skin, first), exit=DONE if shown else NOT_SHOWN)
+    return recovered_outcome(told, thinned) if isinstance(thinned, skins.Recovered) else told
+
+
+def recovered_outcome(told: Outcome, recovered: skins.Recovered) -> Outcome:
+    """The same of a log that was taken up, which is told first."""
+    told.lines.insert(0, recovered.line())
+    told.answer.update(kept=recovered.kept, added=recovered.added, dropped=len(recovered.dropped), claimed=recovered.claimed())
+    return compared(told, recovered.unbroken, recovered.claimed())
 
 
 @command("check")

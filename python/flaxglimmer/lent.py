@@ -196,3 +196,15 @@ def next_record(sheet, place: int, record) -> int | None:
     start, length = _over(sheet)
     _done(library().flaxglimmer_next_record(start, length, place, ctypes.byref(found), ctypes.byref(after), record.ctypes.data))
     return after.value if found.value else None
+
+
+def recover(table, corners, log, sheet, limit) -> tuple[int, int]:
+    """Replays the whole lines of a cut log sheet on the table and thins on under a limit; how many records were replayed, and how many stand in front
+    of the log."""
+    _array(corners, np.int32, "corners"), _array(sheet, np.uint8, "sheet")
+    _written(log, np.uint32, "log", corners, sheet)
+    _written(table, np.uint32, "table", corners, sheet, log)
+    kept, records = u64(), u64()
+    status = library().flaxglimmer_recover(*order(limit), *_over(table, corners, log, sheet), ctypes.byref(kept), ctypes.byref(records))
+    _done(status, records.value)
+    return kept.value, records.value

@@ -7,7 +7,7 @@ import shlex
 from typing import NamedTuple
 
 from . import calls
-from .faults import COUNT, quoted
+from .faults import COUNT, HINTS, quoted
 from .header import LIMITS
 from .refusals import LineFault, OurFault, Refused
 
@@ -27,6 +27,8 @@ DONE_TO = (
 WIDE = (b"\xff\xfe", b"\xfe\xff")  # in front of text of 16 bits a letter
 OTHERS = {b"OK": "the desk's answer, with its rows", b"NO": "the desk's answer to a sheet that it refused", b"SKIN": "a sheet, which has a skin and no log"}
 AGAIN = "ask for the log again, packed (as .zip), so that mail leaves it alone"
+SAME = "is it that scan, read with the same options?"
+ANEW = "`flaxglimmer thin` begins anew"
 
 
 def is_log_sheet(data: bytes) -> bool:
@@ -125,7 +127,8 @@ def _unended(line: bytes, word: bytes, name: str, records: int) -> tuple[str, st
         return f"the last line has no newline: {quoted(line)}", f"it was cut, or mail took the newline off; with one: (cat <{name}; echo) >mended.log{whole}"
     if CUT[word].fullmatch(line) or word.startswith(line):
         shorter = f"; its whole records alone, a log of fewer steps: head -n {1 + records} <{name} >shorter.log" if records else ""
-        return f"the log was cut within this line: {quoted(line)}", AGAIN + shorter
+        further = "; `flaxglimmer recover` thins on from its whole records" if word == b"K" else ""
+        return f"the log was cut within this line: {quoted(line)}", AGAIN + shorter + further
     return _fields(line, word)
 
 
@@ -143,6 +146,66 @@ def _fields(line: bytes, word: bytes) -> tuple[str, str]:
             raise OurFault("the library refuses by 12, and no place of it is found")
         what = f"number {at + 1} is {quoted(numbers[at])}, and not one to six digits without a needless zero in front"
     return f"{what}: {quoted(line)}", f"the line was changed, or does not belong there; {AGAIN}"
+
+
+# A log sheet that was cut after any byte, and is taken up again
+
+
+def parted(sheet: bytes) -> tuple[bytes, bytes]:
+    """The lines that end in a newline, and the unfinished one behind them."""
+    end = sheet.rfind(b"\n") + 1
+    return sheet[:end], sheet[end:]
+
+
+def dropped(tail: bytes) -> str:
+    """What was dropped of a cut sheet, and how it begins where that is plain text."""
+    if not tail:
+        return "nothing was dropped"
+    told = f"dropped an unfinished line of {counted(len(tail), 'byte')}"
+    return f"{told}: {quoted(tail)}" if re.fullmatch(rb"[\t -~]+", tail) else told
+
+
+def of_another(name: str, counts: tuple[int, int], skin: str, here: tuple[int, int]) -> str:
+    """That the counts of a log sheet, corners and rows, are not those of a skin."""
+    told, found = (f"{corners:,} corners and {rows:,} rows" for corners, rows in (counts, here))
+    return f"{name} is the log of a skin of {told}, and {skin} has {found}"
+
+
+def in_cut(refused: Refused, sheet: bytes, name: str, skin: str, here: tuple[int, int]) -> tuple[LineFault, str]:
+    """The place in a cut sheet that makes a refusal true, and what to do about it; `here` are the corners and rows of the skin."""
+    if refused.number == 12:
+        return _cut_form(sheet, name)
+    if refused.number == 13:
+        return _cut_record(refused, sheet, name)
+    whole, _ = parted(sheet)
+    corners, rows, _, _ = held(whole)
+    return _counts(whole, name) if (corners, rows) == here else (LineFault(of_another(name, (corners, rows), skin, here)), SAME)
+
+
+def _cut_form(sheet: bytes, name: str) -> tuple[LineFault, str]:
+    """A cut within the first line, or the first whole line that is not in its form."""
+    whole, tail = parted(sheet)
+    if not whole and (CUT[b"LOG"].fullmatch(tail) or b"LOG".startswith(tail)):
+        what = f"the log was cut within its first line: {quoted(tail)}" if tail else "the file is empty"
+        return LineFault(f"{name}, line 1, byte 0: {what}"), f"it has no record; {ANEW}"
+    fault, hint = _form(sheet if len(sheet) > LIMITS.MOST_LOG_BYTES else whole or tail, name)
+    return fault, f"{hint}; {_before(fault.line - 2, name)}" if fault.line > 1 else hint
+
+
+def _cut_record(refused: Refused, sheet: bytes, name: str) -> tuple[LineFault, str]:
+    """The record that does not replay, and what stands before it."""
+    done = refused.records
+    at = sum(len(line) + 1 for line in sheet.split(b"\n")[: 1 + done])
+    kept, removed = calls.next_record(sheet, at)[0][:2].tolist()
+    text = f"record {done}, counted from 0, keeps corner {kept} and removes {removed}; {done} replayed before it, and {len(refused.rows):,} rows stand then"
+    return LineFault(f"{name}, line {done + 2}, byte {at}: {text}", corners=(kept, removed), line=done + 2, byte=at), f"{HINTS[13]}; {_before(done, name)}"
+
+
+def _before(records: int, name: str) -> str:
+    """What can be had of a log before its first bad line."""
+    if records == 0:
+        return f"no record stands before it; {ANEW}"
+    return f"what stands before it can be recovered: head -n {1 + records} <{shlex.quote(name)} >shorter.log"
 
 
 # What a log sheet holds, in words

@@ -11,7 +11,7 @@ from markupsafe import Markup
 from . import calls, painter
 from .diameter import of_skin
 from .files import answer_text, sheet_text
-from .skins import Skin, Thinned
+from .skins import Recovered, Skin, Thinned
 
 STAGES = 257  # most stages that the plot asks about
 ACROSS, TALL, EDGE = 300, 560, 12  # of a picture
@@ -96,6 +96,7 @@ def page(thinned: Thinned, length: str | None = None, mean_at_least: str | None 
     return environment.get_template("report.html").render(
         skin=skin,
         thinned=thinned,
+        recovered=thinned if isinstance(thinned, Recovered) else None,
         unit=UNITS[skin.unit],
         origin=", ".join(f"{metres:,}" for metres in skin.origin),
         diameter=of_skin(first, skin.move, length, mean_at_least) if length else None,

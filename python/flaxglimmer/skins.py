@@ -1,11 +1,11 @@
-"""A skin, as a file or arrays gave it, and a thinned one."""
+"""A skin, as a file or arrays gave it, and a thinned one, also where its thinning was taken up from a cut log."""
 from __future__ import annotations
 
 from dataclasses import dataclass, field
 
 import numpy as np
 
-from . import calls
+from . import calls, logs
 from .faults import Finder
 from .lent import Shift
 from .lengths import order
@@ -95,12 +95,67 @@ class Thinned:
             out.write(report.page(self, length, mean_at_least))
 
 
+@dataclass
+class Recovered(Thinned):
+    """A thinned skin whose log was taken up from a cut log sheet of this name: how many records were kept, the unfinished line that was dropped, and
+    whether rows and log are those of an unbroken run under the limit."""
+
+    name: str
+    kept: int
+    dropped: bytes
+    unbroken: bool
+
+    @property
+    def added(self) -> int:
+        return len(self.log) - self.kept
+
+    def line(self) -> str:
+        """What became of the cut sheet."""
+        return f"{self.name}: {logs.counted(self.kept, 'record')} kept, {self.added:,} added; {logs.dropped(self.dropped)}"
+
+    def claimed(self) -> str:
+        """What the order says of the whole log, or of the records added alone."""
+        if self.unbroken:
+            return "rows and log are those of an unbroken run under this order"
+        added = f"for the {logs.counted(self.added, 'record')} added alone" if self.added else "for none of its records"
+        if self.limit is None:  # coordinates do not matter then
+            return f"{self.name} was begun under another order: the least edge is claimed {added}"
+        afresh = f", stand-ins and counts started afresh after the {self.kept:,} kept" if self.added else ""
+        return f"{self.name} was begun under another order or over other coordinates: least edge, limit and shift bound are claimed {added}{afresh}"
+
+
 def thin(skin: Skin, limit) -> Thinned:
     """Thins a skin under a limit: 'none', or a figure and its unit as '0.8 m'. Refused has the places."""
-    unit, _ = order(limit)
     try:
         rows, log = calls.thin(skin.rows, skin.corners, limit)
     except Refused as refused:
         raise skin.placed(refused, limit)
+    return Thinned(skin, rows, log, *_limit(limit))
+
+
+def _limit(limit) -> tuple[int | None, str]:
+    """A limit in whole centimetres, and as it was typed."""
     typed = limit if isinstance(limit, str) else "none" if limit is None else f"{limit[1]} {limit[0]}"
-    return Thinned(skin, rows, log, calls.limit(limit) if unit else None, typed.strip())
+    return calls.limit(limit) if order(limit)[0] else None, typed.strip()
+
+
+def recover(skin: Skin, sheet: bytes, limit, name: str = "the log sheet") -> Recovered:
+    """Takes the thinning of a skin up from its log sheet, cut after any byte, under a limit as for `thin`. Refused has the places, in skin or sheet."""
+    try:
+        rows, log, kept = calls.recover(skin.rows, skin.corners, sheet, limit)
+    except Refused as refused:
+        if refused.number in (12, 13) or refused.number == 2 and not any(skin.finder().counts()):
+            fault, refused.hint = logs.in_cut(refused, sheet, name, skin.name or "the skin", (len(skin.corners), len(skin.rows)))
+            refused.faults, refused.notes = (fault,), skin.told()
+            raise
+        raise skin.placed(refused, limit)
+    return Recovered(skin, rows, log, *_limit(limit), name, kept, logs.parted(sheet)[1], _unbroken(skin, log, kept, limit))
+
+
+def _unbroken(skin: Skin, log, kept: int, limit) -> bool:
+    """Whether the records kept are the first of a run under this limit, which then has to be the whole log."""
+    _, run = calls.thin(skin.rows, skin.corners, limit)
+    begun = np.array_equal(log[:kept], run[:kept])
+    if begun and not np.array_equal(log, run):
+        raise OurFault("the log was begun as a run under this order, and does not go on as that run does")
+    return begun

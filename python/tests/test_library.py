@@ -9,7 +9,7 @@ import numpy as np
 import pytest
 from conftest import ROOT
 from scans import shaft
-from tables import O_CORNERS, O_ROWS, T_CORNERS, T_ROWS, damaged, exact_sum, figure
+from tables import O_CORNERS, O_ROWS, T_CORNERS, T_ROWS, centimetres, damaged, exact_sum, figure
 
 import flaxglimmer as fg
 from flaxglimmer import _native, calls, files, lengths, refusals
@@ -202,6 +202,42 @@ def test_log_sheets_are_the_pipes_in_every_number_of_every_buffer(pipe, part):
             found = [1, after] if after and not status else [0, 0 if status else place]
             assert pipe.ask(25, data.tolist(), place, lists=0) == [[status, *found, *record.tolist()]]
     assert statuses == {0, 2, 3, 12}
+
+
+SOUND = [(rows, centimetres(points)) for points, rows in (shaft(3 + seed % 3, 2 + seed % 4, seed=seed) for seed in range(7))]
+ORDERS = [None, ("m", 5.0), ("m", 9.0)]
+
+
+def cut_sheet(chance, rows, corners, harm):
+    """A log sheet of a table cut after some byte, the octahedron's where it is no skin; with a digit, a count or a line changed."""
+    try:
+        sheet = calls.write_log_sheet(len(corners), len(rows), calls.thin(rows, corners, chance.choice(ORDERS))[1])
+    except fg.Refused:
+        sheet = calls.write_log_sheet(6, 8, O_LOG)
+    if harm == "digit":
+        sheet = sheet[:-2] + b"%d\n" % ((sheet[-2] + 1) % 10)
+    elif harm == "count":
+        sheet = sheet.replace(b"\t", b"\t1", 1)
+    elif harm == "line":
+        sheet = changed(chance, sheet)
+    return sheet if harm == "digit" else sheet[: chance.randrange(len(sheet) + 1)]
+
+
+def test_recovery_is_the_pipes_in_every_number_of_every_buffer(pipe):
+    statuses = []
+    for seed in range(240):
+        chance, harm = random.Random(seed), ("skin", "limit", "room", "digit", "count", "line", None, None)[seed % 8]
+        rows, corners = damaged(seed) if harm == "skin" else SOUND[seed % len(SOUND)]
+        rows, corners = rows.astype(np.uint32), corners.astype(np.int32)
+        table, log = rows.reshape(-1).copy(), np.full(max(0, 10 * (len(corners) - 4) + (-1 if harm == "room" else seed % 3)), 77, np.uint32)
+        data = np.frombuffer(cut_sheet(chance, rows, corners, harm), np.uint8)
+        typed = ("m", float("nan")) if harm == "limit" else chance.choice(ORDERS)
+        bits = struct.unpack("<q", struct.pack("<d", typed[1] if typed else 0.0))[0]
+        over = pipe.ask(16, 1 if typed else 0, bits, table.tolist(), corners.reshape(-1).tolist(), log.tolist(), data.tolist(), lists=2)
+        status, counts = lent_answer(fg.lent.recover, table, corners, log, data, typed)
+        assert over == [[status, *(counts if status == 0 else (counts, counts))], table.tolist(), log.tolist()]
+        statuses.append(status)
+    assert min(statuses.count(number) for number in (0, 1, 2, 3, 12, 13)) >= 10
 
 
 def test_the_answer_without_a_limit_is_the_desks_byte_for_byte():

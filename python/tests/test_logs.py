@@ -204,13 +204,16 @@ def test_damage_of_every_kind_is_answered_as_the_request_has_it(seed, damage):
     chance = np.random.default_rng(seed)
     corners, rows = (int(chance.choice(some)) for some in ([3, 4, 6, 9, 514, 515], [3, 4, 8, 1024, 1025]))
     log = chance.integers(0, int(chance.choice([10, 1000, 1_000_001])), (int(chance.integers(0, 6)), 10))
-    data = written(corners, rows, log.tolist())
+    agree(damaged_by(written(corners, rows, log.tolist()), damage))
+
+
+def damaged_by(data, damage):
     for kind, place, put in damage:
         at = place % (len(data) + 1)
         lines = data.splitlines(keepends=True)
         one = lines[place % len(lines)] if lines else b""
         data = [data[:at] + put + data[at:], data[:at] + data[at + 1 :], data[:at] + put + data[at + 1 :], data[:at], data + one][kind]
-    agree(data)
+    return data
 
 
 @pytest.mark.parametrize("bad", [b"K\t0\t1\n", b"R\t0\t1\t2\n", b"\n", b"K\t0\t1\t0\t0\t1\t2\t3\t0\t4\t01\n", b"K\t0\t1\t0\t0\t1\t2\t3\t0\t4\t1"])

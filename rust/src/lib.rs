@@ -59,6 +59,7 @@ mod proved {
         pub fn flaxglimmer_each_record(bytes: *const u8, bytes_length: usize, log: *mut u32, log_length: usize, corners: *mut u64, rows: *mut u64, records: *mut u64) -> u64;
         pub fn flaxglimmer_open_log_sheet(bytes: *const u8, bytes_length: usize, corners: *mut u64, rows: *mut u64, place: *mut u64) -> u64;
         pub fn flaxglimmer_next_record(bytes: *const u8, bytes_length: usize, place: usize, found: *mut u64, after: *mut u64, numbers: *mut super::Record) -> u64;
+        pub fn flaxglimmer_recover(unit: u32, figure: f64, table: *mut u32, table_length: usize, corners: *const i32, corners_length: usize, log: *mut u32, log_length: usize, bytes: *const u8, bytes_length: usize, kept: *mut u64, records: *mut u64) -> u64;
     }
 }
 
@@ -113,6 +114,13 @@ pub struct LogCounts {
     pub records: usize,
 }
 
+/// How many records of a cut log sheet recovery kept, and how many there are with those that it added.
+#[derive(Clone, Copy, Debug, PartialEq, Eq)]
+pub struct Recovered {
+    pub kept: usize,
+    pub records: usize,
+}
+
 /// The counts of a log sheet that was opened, and the place after its first line.
 #[derive(Clone, Copy, Debug, PartialEq, Eq)]
 pub struct Opened {
@@ -129,11 +137,16 @@ fn answered<T>(status: u64, value: T) -> Result<T, Refusal> {
     }
 }
 
-fn regrown(a: proved::Counted) -> Result<usize, Unfinished> {
-    answered(a.status, a.records as usize).map_err(|refusal| match refusal {
-        Refusal::RecordFails => Unfinished::Stopped(a.records as usize),
+/// What a log came to that was followed, or stopped after so many records.
+fn followed<T>(status: u64, records: u64, value: T) -> Result<T, Unfinished> {
+    answered(status, value).map_err(|refusal| match refusal {
+        Refusal::RecordFails => Unfinished::Stopped(records as usize),
         other => Unfinished::Refused(other),
     })
+}
+
+fn regrown(a: proved::Counted) -> Result<usize, Unfinished> {
+    followed(a.status, a.records, a.records as usize)
 }
 
 /// Thins a first table under a limit or none; answers how many records were written to the front of the log, which needs `WIDTH` numbers for
@@ -152,6 +165,16 @@ pub fn grow_back(room: &mut [u32], rows: usize, corners: usize, log: &[u32]) -> 
 /// Replays a log forward on a table over so many corners.
 pub fn replay(table: &mut [u32], corners: usize, log: &[u32]) -> Result<usize, Unfinished> {
     regrown(unsafe { proved::flaxglimmer_replay(corners, table.as_mut_ptr(), table.len(), log.as_ptr(), log.len()) })
+}
+
+/// Takes a thinning up whose log sheet was cut after any byte: replays its whole lines on the first table and thins on under a limit or none. The last
+/// stage is left in front of the table and zeros behind it, the records kept and then those added in front of the log, which needs the room of `thin`.
+/// Where it stops at a record, the stage and the records before it are left in the same way.
+pub fn recover(table: &mut [u32], corners: &[i32], limit: Option<Length>, log: &mut [u32], bytes: &[u8]) -> Result<Recovered, Unfinished> {
+    let (unit, figure) = limit.map_or((0, 0.0), Length::crossing);
+    let (mut kept, mut records) = (0, 0);
+    let status = unsafe { proved::flaxglimmer_recover(unit, figure, table.as_mut_ptr(), table.len(), corners.as_ptr(), corners.len(), log.as_mut_ptr(), log.len(), bytes.as_ptr(), bytes.len(), &mut kept, &mut records) };
+    followed(status, records, Recovered { kept: kept as usize, records: records as usize })
 }
 
 /// The volume of a stage in cubic metres.
