@@ -134,7 +134,7 @@ module _ {xs : List ℤ} {t l b : List ℕ} {k : ℕ} {t′ l′ : List ℕ} (w 
   front-stands : take (room-for k) l′ ≡ log-of (w .front)
   front-stands =
       let e : take (room-for k) (w .kept) ≡ log-of (w .front) =
-          ap (λ (i : ℕ). take (room-for i) (w .kept)) (sym (w .many)) ∙ front-of (records (w .kept)) [] (kept-log (w .kept) (w .cut) ∙ sym (append-nil (log-of (records (w .kept))))) (w .front) (w .next ∷ w .rest) (w .parts) in
+      ap (λ (i : ℕ). take (room-for i) (w .kept)) (sym (w .many)) ∙ front-of (records (w .kept)) [] (kept-log (w .kept) (w .cut) ∙ sym (append-nil (log-of (records (w .kept))))) (w .front) (w .next ∷ w .rest) (w .parts) in
       let m = w .many in
       ap (take (room-for k)) (w .logged ∙ ap (λ q. q ++ drop (room-for k) l) e) ∙ take-at (log-of (w .front)) (drop (room-for k) l) (room-for k) (log-length (w .front) ∙ (omega arith))
 
@@ -186,7 +186,7 @@ module _ {d : Asked} {xs : List ℤ} {t l : List ℕ} {k : ℕ} {t′ l′ : Lis
           let most : i₁ ≤ length (u .log) = rw (whole-log u, records-many (u .log)) at few in
           let many : length front ≡ i₁ = length-take-le i₁ (u .log) most in
           let log-is : take (room-for i₁) (take (room-for k) l′) ≡ log-of front =
-              ap (λ (j : ℕ). take (room-for j) (take (room-for k) l′)) (sym many) ∙ front-of (u .log) [] (whole-log u ∙ sym (append-nil (log-of (u .log)))) front (drop i₁ (u .log)) parts in
+          ap (λ (j : ℕ). take (room-for j) (take (room-for k) l′)) (sym many) ∙ front-of (u .log) [] (whole-log u ∙ sym (append-nil (log-of (u .log)))) front (drop i₁ (u .log)) parts in
           let there : CutOf b (corners xs) (length (rows t)) (log-of front) = rw log-is at cut in
           let same : i₁ ≡ i = omega (arith, cut-newlines there, records-many front) in
           record { front = front; rest = drop i₁ (u .log); parts = parts; many = many ∙ same; cut = there; size = short }

@@ -224,8 +224,8 @@ demand-one = record {
   recover = λ o w. exactly (recovers.recover-told w);
   recover-same = λ o w r p. recover-same o w r p;
   recover-fails = λ o {a = a} w cut. (
-      (λ k T f x. ap recoveries.told (recovers.recovered-one w (recovering.stopped f (recover-skin w f) cut x refl refl refl) .0)),
-      λ k p. recover-stopped k (rw (recovers.told-stopped a p) at w) cut,
+    (λ k T f x. ap recoveries.told (recovers.recovered-one w (recovering.stopped f (recover-skin w f) cut x refl refl refl) .0)),
+    λ k p. recover-stopped k (rw (recovers.told-stopped a p) at w) cut,
   );
   open-log = λ w. open-refuses w;
   next-record = λ w. next-refuses w;
