@@ -1,11 +1,11 @@
 -- Slips of writing and reading log sheets: what each would answer of O's log, or leave, is not allowed by the words of the contract.
 use mathlib.Core.Path.{_≡_, refl, sym, _∙_, ap, subst}
 use mathlib.Core.Logic.{_≢_, inl, inr}
-use mathlib.Core.List.{List, [], _∷_, _++_, map}
+use mathlib.Core.List.{List, [], _∷_, map}
 use Prim.Native.Nat.{ℕ, _+_, _≤_, _<_}
 use native.Mathlib.Omega.{arith}
 use lib.IntN.{pos, natAbs}
-use lib.ListN.{length, getD, replicate, drop}
+use lib.ListN.{length, getD, drop}
 use Rattle.surface.specs.Record as surface
 use Rattle.refusal.specs.Told.{Told}
 use Rattle.refusal.specs.First.{First, FirstOf}

@@ -2,7 +2,7 @@
 use mathlib.Core.Path.{_≡_, refl, sym, _∙_, ap}
 use mathlib.Core.Logic.{_≢_}
 use mathlib.Core.List.{List, [], _∷_, _++_}
-use Prim.Native.Nat.{ℕ, suc, _+_, _≤_, _<_}
+use Prim.Native.Nat.{ℕ, _≤_}
 use native.Mathlib.Omega.{arith}
 use lib.IntN.{ℤ}
 use lib.ListN.{length, length-append, take, drop}
@@ -12,11 +12,10 @@ use Rattle.surface.specs.Rows.{rows}
 use Rattle.surface.specs.Record.{Record}
 use Rattle.refusal.specs.declared.Refusal.{Refusal}
 use Rattle.refusal.specs.declared.Verdict.the-variants.{Passes}
-use Rattle.refusal.specs.First.{First}
 use Rattle.refusal.proofs.Laws.{verdicts, first-one, refused-passes}
 use Rattle.run.proofs.Main.{taken-allowed}
 use Rattle.faults.specs.Counts.{corners}
-use Rattle.record.specs.Layout.{width, count, records, record-at, first-records, log-of, room-for}
+use Rattle.record.specs.Layout.{width, count, records, record-at, first-records, room-for}
 use Rattle.record.proofs.Log.{records-log}
 use Rattle.record.proofs.Places.{records-length}
 use Rattle.length.specs.declared.Order.{Order}
@@ -25,7 +24,6 @@ use Rattle.least.specs.Limited.{Allowed}
 use Rattle.thin.specs.declared.Asked.{Asked}
 use Rattle.thin.specs.Order.{asked}
 use Rattle.thin.specs.Run.{RunOf}
-use Rattle.thin.specs.Thin.{thin-refusals}
 use Rattle.thin.proofs.Main.{thin-passes, thinned-run}
 use Rattle.thin.proofs.Judging.{under-usable}
 use Rattle.logform.specs.LogSheet.{most-log-bytes, log-text}

@@ -1,14 +1,14 @@
 -- A log sheet cut after so many bytes: the whole lines that survived are the log sheet of the first records.
-use mathlib.Core.Path.{_≡_, refl, sym, _∙_, ap, subst}
-use mathlib.Core.List.{List, [], _∷_, _++_, append-assoc, append-nil, map}
-use Prim.Native.Nat.{ℕ, zero, suc, _+_, _-_, _*_, _/_, _≤_, _<_}
+use mathlib.Core.Path.{_≡_, refl, sym, _∙_, ap}
+use mathlib.Core.List.{List, [], _∷_, _++_, append-assoc, map}
+use Prim.Native.Nat.{ℕ, zero, suc, _+_, _-_, _*_, _≤_, _<_}
 use native.Mathlib.Decide.{decLt}
 use native.Mathlib.Omega.{arith}
 use lib.IntN.{ℤ, pos}
 use lib.ListN.{length, length-append, length-map, length-drop, take, drop, take-append-drop}
 use lib.Seq.{take-append-le, drop-append-le, take-append-add, length-take-le}
 use Rattle.record.specs.Layout.{width, count, room-for}
-use Rattle.lines.specs.Lines.{newline, fields, line, lines, FewDigits}
+use Rattle.lines.specs.Lines.{newline, fields, line, lines}
 use Rattle.lines.specs.Kinds.{K, record-lines}
 use Rattle.lines.proofs.Cut.{map-take, short-left}
 use Rattle.heading.specs.Heading.{most-digits, first-line}

@@ -1,6 +1,6 @@
 -- Where whole lines end: bytes are parted there in one way only, so a cut log sheet has one log.
 use mathlib.Core.Path.{_≡_, refl, sym, _∙_, ap}
-use mathlib.Core.Logic.{_⊎_, inl, inr}
+use mathlib.Core.Logic.{inl, inr}
 use mathlib.Core.List.{List, [], _∷_, _++_, append-assoc, append-nil, map, head-eq-of-cons-eq, tail-eq-of-cons-eq}
 use Prim.Native.Nat.{ℕ, zero, suc, _-_, _≤_, _<_}
 use native.Mathlib.Omega.{arith}
@@ -13,7 +13,7 @@ use Rattle.refusal.specs.declared.Verdict.the-variants.{Passes}
 use Rattle.refusal.proofs.Laws.{verdicts, passes-none, none-yet, _nor_}
 use Rattle.record.specs.Layout.{width, count}
 use Rattle.lines.specs.Lines.{newline, fields, line, lines}
-use Rattle.lines.specs.Kinds.{K, record-lines}
+use Rattle.lines.specs.Kinds.{K}
 use Rattle.heading.specs.Heading.{first-line}
 use Rattle.logform.specs.LogSheet.{LOG, most-log-bytes, LogSheetOf}
 use Rattle.logform.proofs.Forming.{SameLog, one-log}

@@ -1,5 +1,5 @@
 -- Laws of newlines: counted by parts, and in the lines of a log sheet.
-use mathlib.Core.Path.{_≡_, refl, sym, _∙_, ap}
+use mathlib.Core.Path.{_≡_, refl, _∙_, ap}
 use mathlib.Core.Bool.{Bool, true, false, cond}
 use mathlib.Core.List.{List, [], _∷_, _++_, map}
 use Prim.Native.Nat.{ℕ, zero, suc, _+_}
@@ -7,7 +7,7 @@ use native.Mathlib.Omega.{arith}
 use lib.Dec.{eqb}
 use lib.IntN.{ℤ, pos, negsuc}
 use lib.ListN.{take, drop}
-use borrow.Author.Tests.{eq-eqb, ne-eqb}
+use borrow.Author.Tests.{ne-eqb}
 use Rattle.text.specs.Decimal.{minus, decimal, signed}
 use Rattle.text.proofs.Digits.{AllDigits, all-digits}
 use Rattle.record.specs.Layout.{width, count}
@@ -17,14 +17,10 @@ use Rattle.heading.specs.Heading.{first-line}
 use Rattle.logform.specs.LogSheet.{LOG, log-text}
 use Rattle.logcut.specs.Cut.{newlines}
 
--- a byte that is none, and one
+-- a byte that is none
 pub newlines-other : (c : ℕ) (b : List ℕ) → ¬ (c ≡ newline) → newlines (c ∷ b) ≡ newlines b
 unfolding newlines
 newlines-other c b n = ap (λ t. cond t (suc (newlines b)) (newlines b)) (ne-eqb c newline n)
-
-pub newlines-here : (c : ℕ) (b : List ℕ) → c ≡ newline → newlines (c ∷ b) ≡ suc (newlines b)
-unfolding newlines
-newlines-here c b e = ap (λ t. cond t (suc (newlines b)) (newlines b)) (eq-eqb c newline e)
 
 pub newlines-append : (a b : List ℕ) → newlines (a ++ b) ≡ newlines a + newlines b
 unfolding newlines

@@ -1,10 +1,10 @@
 -- Reading a cut log sheet: why each answer is the first that holds.
-use mathlib.Core.Path.{_≡_, refl, sym, _∙_, ap}
-use mathlib.Core.Logic.{_⊎_, inl, inr}
-use mathlib.Core.List.{List, [], _∷_, _++_}
+use mathlib.Core.Path.{_≡_, sym, _∙_}
+use mathlib.Core.Logic.{inl, inr}
+use mathlib.Core.List.{List}
 use Prim.Native.Nat.{ℕ, _-_, _≤_, _<_}
 use native.Mathlib.Omega.{arith}
-use lib.ListN.{length, take, drop}
+use lib.ListN.{length, take}
 use lib.Seq.{length-take-le}
 use Rattle.surface.specs.Limits.{least-corners}
 use Rattle.refusal.specs.First.{FirstOf, First}
@@ -12,12 +12,12 @@ use Rattle.refusal.specs.declared.Refusal.{Refusal}
 use Rattle.refusal.specs.declared.Refusal.the-variants.{CountsOutside, SheetForm}
 use Rattle.refusal.specs.declared.Verdict.the-variants.{Passes}
 use Rattle.refusal.specs.declared.Verdict.the-variants as verdict
-use Rattle.refusal.proofs.Laws.{verdicts, given-first, passes-none, passed, refused-one, refused-passes, none-yet, _nor_}
+use Rattle.refusal.proofs.Laws.{verdicts, given-first, passed, refused-one, refused-passes, none-yet, _nor_}
 use Rattle.record.specs.Layout.{count}
-use Rattle.logform.specs.LogSheet.{most-log-bytes, LogSheetOf, NoLogSheet, CountsIn}
+use Rattle.logform.specs.LogSheet.{most-log-bytes, LogSheetOf, NoLogSheet}
 use Rattle.logsheet.specs.declared.LogSheet.the-variants as sheet
 use Rattle.logsheet.specs.Outcome.{CountsOut, NoRoom, read-refusals, ReadLogSheet, refused, read}
-use Rattle.logcut.specs.Cut.{NoCut, OtherCounts, cut-refusals}
+use Rattle.logcut.specs.Cut.{NoCut, cut-refusals}
 use Rattle.logcut.specs.Inner.{WholeEnd, CanKeep, KeptIn}
 use Rattle.logcut.proofs.Ending.{cut-there, cut-back, cut-passes}
 

@@ -1,6 +1,6 @@
 -- Log sheets: what was written reads back, the log of a thinning can be mailed, and demands 2 and 3 hold of what was mailed.
 use mathlib.Core.Path.{_≡_, refl, sym, _∙_, ap, subst}
-use mathlib.Core.List.{List, [], _∷_, _++_, append-nil}
+use mathlib.Core.List.{List, [], _∷_, _++_}
 use Prim.Native.Nat.{ℕ, _+_, _-_, _≤_}
 use native.Mathlib.Omega.{arith}
 use lib.IntN.{ℤ, pos, natAbs}
@@ -18,7 +18,7 @@ use Rattle.refusal.proofs.Laws.{verdicts, first-one, refused-passes, passed, pa
 use Rattle.refusal.proofs.Outcome.{refused-done}
 use Rattle.faults.specs.Counts.{corners}
 use Rattle.run.proofs.Main.{taken-replayed}
-use Rattle.record.specs.Layout.{width, count, records, log-of, room-for, first-records}
+use Rattle.record.specs.Layout.{count, records, log-of, room-for}
 use Rattle.record.proofs.Log.{log-length}
 use Rattle.thin.specs.declared.Asked.{Asked}
 use Rattle.thin.specs.Run.{RunOf}
@@ -39,7 +39,7 @@ use Rattle.logrecords.specs.declared.Opened.{Opened}
 use Rattle.logrecords.specs.declared.Opened.the-variants as opens
 use Rattle.logrecords.specs.Answer.{told-opened}
 use Rattle.logrecords.specs.Outcome.{open-refusals, OpenedLog, unopened, opened}
-use Rattle.logrecords.specs.Walk.{Walked, BreaksAfter, Broken}
+use Rattle.logrecords.specs.Walk.{Walked}
 use Rattle.logrecords.proofs.Main.{opened-one}
 use Rattle.logrecords.proofs.Walking.{walked-through, broken-off}
 use Rattle.logreader.specs.Outcome as asking

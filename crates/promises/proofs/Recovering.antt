@@ -1,14 +1,14 @@
 -- Recovery: the stage handed over is the one that the records kept lead to; an honest log, cut after any byte, ends as the unbroken run; and what is
 -- left grows back.
-use mathlib.Core.Path.{_≡_, refl, sym, _∙_, ap, subst}
+use mathlib.Core.Path.{_≡_, refl, sym, _∙_, ap}
 use mathlib.Core.List.{List, [], _∷_, _++_, append-assoc, append-nil}
-use Prim.Native.Nat.{ℕ, zero, suc, _+_, _-_, _*_, _≤_, _<_}
+use Prim.Native.Nat.{ℕ, suc, _+_, _-_, _≤_, _<_}
 use native.Mathlib.Decide.{decLt}
 use native.Mathlib.Omega.{arith}
 use lib.IntN.{ℤ, pos}
 use lib.ListN.{length, length-append, take, drop, take-append-drop}
 use lib.Seq.{take-at, drop-at, length-take-le}
-use Rattle.follow.specs.Follow.{Followed, all, some}
+use Rattle.follow.specs.Follow.{all}
 use Rattle.follow.proofs.Leading.{leads-one, leads-on}
 use Rattle.follow.proofs.Following.{followed-one}
 use Rattle.surface.specs.Rows.{Row, rows}
@@ -21,9 +21,9 @@ use Rattle.refusal.specs.declared.Verdict.the-variants.{Passes}
 use Rattle.refusal.specs.declared.Verdict.the-variants as verdict
 use Rattle.refusal.proofs.Laws.{verdicts, given-first, first-one, refused-passes, none-yet, _nor_}
 use Rattle.faults.specs.Counts.{corners}
-use Rattle.run.specs.Run.{Taken, Run}
+use Rattle.run.specs.Run.{Taken}
 use Rattle.run.proofs.Main.{run-one, taken-on, taken-cut, taken-replayed, replayed-stage}
-use Rattle.record.specs.Layout.{width, count, records, log-of, room-for}
+use Rattle.record.specs.Layout.{count, records, log-of, room-for}
 use Rattle.record.specs.Front.{zeroed}
 use Rattle.record.proofs.Log.{log-length, log-append, log-first, records-log}
 use Rattle.record.proofs.Places.{records-length}
@@ -39,7 +39,6 @@ use Rattle.thin.specs.Thin.{thin-refusals}
 use Rattle.thin.specs.Run.{RunOf, KeptAfter}
 use Rattle.thin.proofs.Main.{under-one, thinned-run, thinned-kept, replayed-kept}
 use Rattle.regrow.specs.declared.Regrown.{Regrown}
-use Rattle.regrow.specs.declared.Regrown.the-variants as following
 use Rattle.regrow.specs.Answer as regrowths
 use Rattle.regrow.proofs.Counted.{regrown-apart}
 use Rattle.replay.specs.Outcome.{replaying, ReplayedAs}
@@ -50,23 +49,21 @@ use Rattle.shift.specs.Answer as shifts
 use Rattle.shift.specs.Report.{ShiftReport, Bounded}
 use Rattle.shift.proofs.Main.{log-shift-bound}
 use Rattle.tell.specs.declared.Answer.the-variants as text
-use Rattle.logform.specs.LogSheet.{most-log-bytes, LogSheetOf}
+use Rattle.logform.specs.LogSheet.{most-log-bytes}
 use Rattle.logsheet.specs.Outcome.{WroteLogSheet}
-use Rattle.logcut.specs.Cut.{newlines, CutOf, NoCut, OtherCounts, cut-refusals}
+use Rattle.logcut.specs.Cut.{newlines, CutOf, cut-refusals}
 use Rattle.logcut.proofs.Ending.{one-cut, cut-passes}
 use Rattle.logcut.proofs.Cutting.{cut-newlines, none-whole, CutAfter, inside-first, after, sheet-cut}
 use Rattle.recover.specs.declared.Recovered.{Recovered}
-use Rattle.recover.specs.declared.Recovered.the-variants.{Done, Stopped, Refused}
+use Rattle.recover.specs.declared.Recovered.the-variants.{Refused}
 use Rattle.recover.specs.Answer.{told}
-use Rattle.recover.specs.Outcome.{RecoveredAs, RecoveredBy, refused, stopped, done}
+use Rattle.recover.specs.Outcome.{RecoveredBy, refused, stopped, done}
 use Rattle.recover.specs.Run.{RecoveryOf, StoppedOf}
 use Rattle.recover.proofs.Handing.{all-followed}
 use Rattle.recover.proofs.Judging.{cut-decides}
 use Rattle.recover.proofs.Main.{recovered-one, recovery-run, stopped-run, told-done, told-stopped}
-use Rattle.promises.specs.Thinning.{DoneWith}
-use Rattle.promises.specs.Stages.{StageOf}
 use Rattle.promises.specs.Recovery.{RecoveredWith, StoppedWith, CutShort, AfterSteps, Recovery}
-use Rattle.promises.proofs.Back.{Led, records-many, led-leaves, led-replayed-to, led-restored, led-replayed, run-led, as-done}
+use Rattle.promises.proofs.Back.{Led, records-many, led-replayed-to, led-restored, led-replayed, run-led, as-done}
 use Rattle.promises.proofs.Logged.{front-of, whole-log}
 use Rattle.promises.proofs.Figures.{within}
 use Rattle.promises.proofs.Mailing.{wrote-told, written-sheet, written-size, can-write, fewer, part-writable}

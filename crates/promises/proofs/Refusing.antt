@@ -42,7 +42,6 @@ use Rattle.regrow.proofs.Counted.{regrown-apart, failing-other, stops}
 use Rattle.replay.specs.Outcome.{replay-refusals, replaying, ReplayedAs}
 use Rattle.replay.proofs.Main as replays
 use Rattle.sheet.specs.declared.Sheet.{Sheet}
-use Rattle.sheet.specs.declared.Sheet.the-variants as sheet
 use Rattle.sheet.specs.Answer as sheets
 use Rattle.form.specs.Form.{SheetOf, form-refusals}
 use Rattle.sheet.specs.Outcome.{skin-refusals, ReadSheet, bad-form, bad-skin, read}

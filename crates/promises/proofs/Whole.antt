@@ -1,14 +1,8 @@
 -- Demands 2 and 3, and that nothing is left to choose. Demand 1 stands in Refusing.antt.
 use mathlib.Core.Path.{sym, _∙_, ap}
-use mathlib.Core.List.{List}
-use Prim.Native.Nat.{ℕ}
-use lib.IntN.{ℤ}
 use Rattle.length.proofs.Laws.{reading-one}
 use Rattle.thin.specs.Answer as thinnings
-use Rattle.length.specs.declared.Order.{Order}
-use Rattle.thin.specs.declared.Thinning.the-variants.{Done}
-use Rattle.thin.specs.Thin.{Thinned}
-use Rattle.thin.proofs.Main.{thinned-one, accepted, thinned-run, thinned-kept, told-done}
+use Rattle.thin.proofs.Main.{thinned-one, accepted, thinned-run, thinned-kept}
 use Rattle.regrow.proofs.Main.{grown-one, grown-leaves}
 use Rattle.replay.proofs.Main.{replay-one, replay-leaves}
 use Rattle.volume.proofs.Main.{volume-one, change-one}
@@ -24,7 +18,7 @@ use Rattle.logrecords.proofs.Main.{opened-one, next-one}
 use Rattle.logreader.proofs.Main.{each-one}
 use Rattle.logreader.proofs.Again.{asked-one, answered-one}
 use Rattle.promises.specs.Choice.{NothingLeft}
-use Rattle.promises.specs.Thinning.{DoneWith, DemandTwo, DemandThree}
+use Rattle.promises.specs.Thinning.{DemandTwo, DemandThree}
 use Rattle.promises.specs.Stages.{StagesLeft}
 use Rattle.promises.proofs.Back.{led-leaves, as-done, restored, restored-from, replayed, thinned-leaves}
 use Rattle.promises.proofs.Recovering.{as-recovery, as-stopped, whole-led, whole-many, front-led}

@@ -8,7 +8,7 @@ use lib.ListN.{length, length-append, length-drop, take, drop, replicate}
 use lib.Seq.{take-all, take-at, drop-append-add, drop-drop}
 use Rattle.surface.specs.Limits.{least-corners}
 use Rattle.surface.specs.Lists.{Exactly}
-use Rattle.surface.specs.Rows.{Row, rows, flat}
+use Rattle.surface.specs.Rows.{rows, flat}
 use Rattle.surface.specs.Table.{Used}
 use Rattle.surface.specs.Stage.{Stage}
 use Rattle.surface.specs.Record.{Replayed}
@@ -18,8 +18,8 @@ use Rattle.slots.proofs.Slots.{whole-rows}
 use Rattle.faults.specs.Counts.{corners}
 use Rattle.run.specs.Run.{Run}
 use Rattle.run.proofs.Main.{replayed-stage, replayed-rows, replayed-corners, taken-replayed}
-use Rattle.record.specs.Layout.{width, count, records, log-of, room-for}
-use Rattle.record.specs.Front.{front-rows, standing, zeroed}
+use Rattle.record.specs.Layout.{count, records, log-of, room-for}
+use Rattle.record.specs.Front.{standing, zeroed}
 use Rattle.record.specs.Inner.{lowered}
 use Rattle.record.proofs.Places.{records-length}
 use Rattle.record.proofs.Front.{front-stage, standing-front, zeroed-length, zeroed-again}

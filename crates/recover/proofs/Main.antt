@@ -1,5 +1,5 @@
 -- Recovery has one outcome; what its answer tells; and what it comes to, done or stopped.
-use mathlib.Core.Path.{_≡_, refl, sym, _∙_, ap}
+use mathlib.Core.Path.{_≡_, sym, _∙_, ap}
 use mathlib.Core.Logic.{_⊎_, inl, inr}
 use mathlib.Core.List.{List, [], _∷_, _++_}
 use Prim.Native.Nat.{ℕ, _+_, _%_}
@@ -8,8 +8,7 @@ use lib.IntN.{ℤ, pos, natAbs}
 use lib.ListN.{length, take, drop, getD}
 use Rattle.follow.specs.Follow.{Followed, all, some}
 use Rattle.follow.proofs.Following.{followed-one}
-use Rattle.surface.specs.Rows.{Row, rows}
-use Rattle.surface.specs.Record.{Record}
+use Rattle.surface.specs.Rows.{Row}
 use Rattle.refusal.specs.declared.Refusal.{Refusal}
 use Rattle.refusal.specs.declared.Refusal.the-variants.{RecordFails}
 use Rattle.refusal.specs.declared.Verdict.the-variants.{Passes}
@@ -23,7 +22,6 @@ use Rattle.run.proofs.Main.{run-one}
 use Rattle.record.specs.Layout.{log-of, room-for}
 use Rattle.record.specs.Front.{zeroed}
 use Rattle.thin.specs.declared.Asked.{Asked}
-use Rattle.thin.specs.declared.Asked.the-variants.{Under}
 use Rattle.thin.specs.Thin.{thin-refusals}
 use Rattle.thin.proofs.Main.{under-one, passes-whole}
 use Rattle.regrow.specs.declared.Regrown.{Regrown}

@@ -1,7 +1,5 @@
 -- `whole_end` meets its contract: it looks for the last newline from the end.
 use mathlib.Core.Path.{_≡_}
-use Prim.Native.Nat.{_≤_}
-use borrow.Author.Tests.{eqb-true, eqb-false}
 use Rattle.logcut.specs.Inner.{NoneAfter}
 use Rattle.logcut.proofs.Ending.{none-after-end, none-there, newline-there, other-there}
 use native.Mathlib.Omega.{arith}
