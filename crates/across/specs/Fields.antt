@@ -12,6 +12,7 @@ use Rattle.across.specs.declared.Centimetres.{Centimetres}
 use Rattle.across.specs.declared.Counts.{Counts}
 use Rattle.across.specs.declared.Written.{Written}
 use Rattle.across.specs.declared.LogRead.{LogRead}
+use Rattle.across.specs.declared.Recovery.{Recovery}
 use Rattle.across.specs.declared.LogOpened.{LogOpened}
 use Rattle.across.specs.declared.Asked.{Asked}
 use Rattle.across.specs.declared.Stored.{Stored}
@@ -36,6 +37,9 @@ of-written r = record { number = r .status; values = pos (r .bytes) ∷ [] }
 
 abbrev pub of-log-read : LogRead → Told
 of-log-read r = record { number = r .status; values = pos (r .corners) ∷ pos (r .rows) ∷ pos (r .records) ∷ [] }
+
+abbrev pub of-recovery : Recovery → Told
+of-recovery r = record { number = r .status; values = pos (r .kept) ∷ pos (r .records) ∷ [] }
 
 abbrev pub of-log-opened : LogOpened → Told
 of-log-opened r = record { number = r .status; values = pos (r .corners) ∷ pos (r .rows) ∷ pos (r .place) ∷ [] }

@@ -9,6 +9,7 @@ use logrecords::Next;
 use logrecords::Opened;
 use logsheet::LogSheet;
 use record::Record;
+use recover::Recovered;
 use refusal::Refusal;
 use regrow::Regrown;
 use ring::Trial;
@@ -19,6 +20,8 @@ use thin::Thinning;
 use volume::Measured;
 ghost use mathlib.Core.Path.{_≡_};
 ghost use lib.ListN.{length};
+ghost use Rattle.refusal.specs.declared.Refusal.the-variants.{RecordFails};
+ghost use Rattle.refusal.specs.Number.{number};
 ghost use Rattle.record.specs.Layout.{width, numbers};
 ghost use Rattle.record.specs.Meant.{meant};
 ghost use Rattle.length.specs.Answer as length-answer;
@@ -29,10 +32,11 @@ ghost use Rattle.shift.specs.Answer as shift-answer;
 ghost use Rattle.sheet.specs.Answer as sheet-answer;
 ghost use Rattle.tell.specs.Answer as reply-answer;
 ghost use Rattle.logsheet.specs.Answer as log-answer;
+ghost use Rattle.recover.specs.Answer as recover-answer;
 ghost use Rattle.logrecords.specs.Answer.{told-opened, told-next};
 ghost use Rattle.across.specs.Units.{length-of, order-of};
 ghost use Rattle.across.specs.Says.{Says};
-ghost use Rattle.across.specs.Fields.{of-counted, of-measure, of-stand-in, of-centimetres, of-counts, of-written, of-log-read, of-log-opened, of-asked, Stores};
+ghost use Rattle.across.specs.Fields.{of-counted, of-measure, of-stand-in, of-centimetres, of-counts, of-written, of-log-read, of-recovery, of-log-opened, of-asked, Stores};
 
 // What thinning, growing back and replay answer: the status, and how many records were done.
 #[repr(C)]
@@ -82,6 +86,13 @@ pub struct LogRead {
     pub status: u64,
     pub corners: u64,
     pub rows: u64,
+    pub records: u64,
+}
+
+// What recovery answers: the status, how many records were kept, and how many there are in all. Does not cross as a struct.
+pub struct Recovery {
+    pub status: u64,
+    pub kept: u64,
     pub records: u64,
 }
 
@@ -138,6 +149,13 @@ pub fn order_of(unit: u32, figure: f64) -> Order
 
 // ---- answers
 
+// The status where a record fails.
+fn record_fails() -> u64
+    ensures { λ r. ⌜ r ≡ number RecordFails ⌝ }
+{
+    refusal::number_of(Refusal::RecordFails) as u64
+}
+
 // Inner: what a thinning answers.
 pub fn counted_thinning(a: Thinning) -> Counted
     ensures { λ r. ⌜ Says (thin-answer.told a) (of-counted r) ⌝ }
@@ -164,7 +182,7 @@ pub fn counted_regrown(a: Regrown) -> Counted
             records: k as u64,
         },
         Regrown::Stopped(k) => Counted {
-            status: refusal::number_of(Refusal::RecordFails) as u64,
+            status: record_fails(),
             records: k as u64,
         },
         Regrown::Refused(e) => Counted {
@@ -275,6 +293,29 @@ pub fn log_read_of(a: LogSheet) -> LogRead
             status: refusal::number_of(e) as u64,
             corners: 0,
             rows: 0,
+            records: 0,
+        },
+    }
+}
+
+// Inner: what recovery answers.
+pub fn recovery_of(a: Recovered) -> Recovery
+    ensures { λ r. ⌜ Says (recover-answer.told a) (of-recovery r) ⌝ }
+{
+    match a {
+        Recovered::Done(k, all) => Recovery {
+            status: 0,
+            kept: k as u64,
+            records: all as u64,
+        },
+        Recovered::Stopped(k) => Recovery {
+            status: record_fails(),
+            kept: k as u64,
+            records: k as u64,
+        },
+        Recovered::Refused(e) => Recovery {
+            status: refusal::number_of(e) as u64,
+            kept: 0,
             records: 0,
         },
     }

@@ -22,6 +22,8 @@ use Rattle.logsheet.proofs.Main.{read-log-one, wrote-log-one}
 use Rattle.logrecords.specs.Answer.{told-opened, told-next}
 use Rattle.logrecords.proofs.Main.{opened-one, next-one}
 use Rattle.logreader.proofs.Main.{each-one}
+use Rattle.recover.specs.Answer as recover-answer
+use Rattle.recover.proofs.Main.{recovered-one}
 use Rattle.ring.proofs.Rule.{trial-one}
 use Rattle.link.proofs.Laws.{chosen-one}
 use Rattle.catchup.proofs.One.{SamePart, caught-up-one}
@@ -29,7 +31,7 @@ use Rattle.bridge.specs.declared.Part.{Part}
 use Rattle.bridge.specs.Lent.{Places, nothing, of-second, of-first}
 use Rattle.bridge.specs.Crossing.{Crossing}
 use Rattle.across.proofs.Saying.{said}
-use Rattle.bridge.proofs.Main.{thin-crosses, grow-crosses, replay-crosses, volume-crosses, change-crosses, shift-crosses, limit-crosses, sheet-crosses, reply-crosses, trial-crosses, ring-crosses, part-crosses, write-log-crosses, read-log-crosses, each-crosses, open-log-crosses, next-crosses}
+use Rattle.bridge.proofs.Main.{thin-crosses, grow-crosses, replay-crosses, volume-crosses, change-crosses, shift-crosses, limit-crosses, sheet-crosses, reply-crosses, trial-crosses, ring-crosses, part-crosses, write-log-crosses, read-log-crosses, each-crosses, recover-crosses, open-log-crosses, next-crosses}
 
 -- the places tell of the same memory, by whatever name
 places-same : {first second x y : RefT (List ℕ)} {r : Part} → SamePart x y → Places first second x r → Places first second y r
@@ -69,6 +71,8 @@ crossing = record {
   read-log-one = λ p q. read-log-crosses p q;
   each-record = λ p w. let e = each-one w (p .gives) in (said log-answer.told (e .0) (p .says), sym (e .1));
   each-record-one = λ p q. each-crosses p q;
+  recover = λ u v p w. let e = recovered-one w (p .gives) in (said recover-answer.told (e .0) (p .says), sym (e .1), sym (e .2));
+  recover-one = λ u v p q. recover-crosses u v p q;
   open-log = λ p w. said told-opened (opened-one w (p .gives)) (p .says);
   open-log-one = λ p q. open-log-crosses p q;
   next-record = λ p w. said told-next (next-one w (p .shown .gives)) (p .shown .says);

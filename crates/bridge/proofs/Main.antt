@@ -28,6 +28,8 @@ use Rattle.logsheet.specs.Answer as log-answer
 use Rattle.logrecords.proofs.Main.{opened-one, next-one}
 use Rattle.logreader.proofs.Main.{each-one}
 use Rattle.logrecords.specs.Answer.{told-opened, told-next}
+use Rattle.recover.proofs.Main.{recovered-one}
+use Rattle.recover.specs.Answer as recover-answer
 use Rattle.lines.proofs.Plain.{pos-same}
 use Rattle.ring.proofs.Rule.{trial-one}
 use Rattle.ring.specs.declared.Trial.{Trial}
@@ -41,13 +43,14 @@ use Rattle.across.specs.declared.Centimetres.{Centimetres}
 use Rattle.across.specs.declared.Counts.{Counts}
 use Rattle.across.specs.declared.Written.{Written}
 use Rattle.across.specs.declared.LogRead.{LogRead}
+use Rattle.across.specs.declared.Recovery.{Recovery}
 use Rattle.across.specs.declared.LogOpened.{LogOpened}
 use Rattle.across.specs.declared.Asked.{Asked}
 use Rattle.across.specs.declared.Stored.{Stored}
 use Rattle.bridge.specs.declared.Part.{Part}
 use Rattle.across.specs.Says.{Says}
-use Rattle.across.specs.Fields.{of-counted, of-measure, of-stand-in, of-centimetres, of-counts, of-written, of-log-read, of-log-opened, of-asked}
-use Rattle.bridge.specs.Calls.{ThinShown, GrowShown, ReplayShown, VolumeShown, ChangeShown, ShiftShown, LimitShown, SheetShown, ReplyShown, WriteLogShown, ReadLogShown, EachShown, OpenShown, NextShown}
+use Rattle.across.specs.Fields.{of-counted, of-measure, of-stand-in, of-centimetres, of-counts, of-written, of-log-read, of-recovery, of-log-opened, of-asked}
+use Rattle.bridge.specs.Calls.{ThinShown, GrowShown, ReplayShown, VolumeShown, ChangeShown, ShiftShown, LimitShown, SheetShown, ReplyShown, WriteLogShown, ReadLogShown, EachShown, RecoverShown, OpenShown, NextShown}
 use Rattle.across.specs.Fields.{Stores}
 use Rattle.bridge.specs.Lent.{TrialShown, Which, the-first, the-second, RingShown, Places, nothing, of-second, of-first, PartShown}
 use Rattle.across.proofs.Saying.{said}
@@ -104,6 +107,13 @@ module _ {a : Told} where
       let m = ap (λ l. natAbs (value 1 l)) (e .1) in
       let d = ap (λ l. natAbs (value 2 l)) (e .1) in
       λ i. record { status = e .0 i; corners = n i; rows = m i; records = d i }
+
+  recovery-once : {r q : Recovery} → Says a (of-recovery r) → Says a (of-recovery q) → r ≡ q
+  recovery-once h k =
+      let e = said-once h k refl in
+      let n = ap (λ l. natAbs (value 0 l)) (e .1) in
+      let m = ap (λ l. natAbs (value 1 l)) (e .1) in
+      λ i. record { status = e .0 i; kept = n i; records = m i }
 
   log-opened-once : {r q : LogOpened} → Says a (of-log-opened r) → Says a (of-log-opened q) → r ≡ q
   log-opened-once h k =
@@ -165,6 +175,10 @@ read-log-crosses p q = let e = read-log-one (p .gives) (q .gives) in (log-read-o
 
 pub each-crosses : {b room room₁ room₂ : List ℕ} {r q : LogRead} → EachShown b room room₁ r → EachShown b room room₂ q → (r ≡ q) × (room₁ ≡ room₂)
 each-crosses p q = let e = each-one (p .gives) (q .gives) in (log-read-once (p .says) (said log-answer.told (e .0) (q .says)), e .1)
+
+pub recover-crosses : (u : ℕ) (v : Float) {xs : List ℤ} {t l b : List ℕ} {r q : Recovery} {t₁ t₂ l₁ l₂ : List ℕ} →
+    RecoverShown u v xs t l b r t₁ l₁ → RecoverShown u v xs t l b q t₂ l₂ → (r ≡ q) × (t₁ ≡ t₂) × (l₁ ≡ l₂)
+recover-crosses u v p q = let e = recovered-one (p .gives) (q .gives) in (recovery-once (p .says) (said recover-answer.told (e .0) (q .says)), e .1, e .2)
 
 pub open-log-crosses : {b : List ℕ} {r q : LogOpened} → OpenShown b r → OpenShown b q → r ≡ q
 open-log-crosses p q = log-opened-once (p .says) (said told-opened (opened-one (p .gives) (q .gives)) (q .says))

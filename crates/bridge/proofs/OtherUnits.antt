@@ -16,11 +16,14 @@ use Rattle.thin.specs.declared.Asked.the-variants.{NoUse}
 use Rattle.thin.specs.declared.Thinning.the-variants.{Refused}
 use Rattle.thin.specs.Order.{asked}
 use Rattle.thin.specs.Thin.{thin-refusals, refused}
+use Rattle.recover.specs.declared.Recovered.the-variants as recovered
+use Rattle.recover.specs.Outcome as recovering
 use Rattle.across.specs.declared.Counted.{Counted}
 use Rattle.across.specs.declared.Centimetres as struct
+use Rattle.across.specs.declared.Recovery.{Recovery}
 use Rattle.across.specs.Units.{length-of, order-of}
-use Rattle.bridge.specs.Calls.{ThinShown, LimitShown}
-use Rattle.bridge.proofs.Main.{thin-crosses, limit-crosses}
+use Rattle.bridge.specs.Calls.{ThinShown, LimitShown, RecoverShown}
+use Rattle.bridge.proofs.Main.{thin-crosses, limit-crosses, recover-crosses}
 
 module _ (u : ℕ) (v : Float) (other : 3 < u) where
   no-length : length-of u v ≡ Centimetres nan
@@ -45,3 +48,8 @@ module _ (u : ℕ) (v : Float) (other : 3 < u) where
   unfolding thin-refusals
   other-unit-thin p =
       thin-crosses u v p (record { answer = Refused LimitUnusable; gives = refused {e = LimitUnusable} (given-first verdicts none-yet no-use) refl refl refl; says = record { status = refl; values = refl } })
+
+  pub other-unit-recover : {xs : List ℤ} {t l b t′ l′ : List ℕ} {r : Recovery} → RecoverShown u v xs t l b r t′ l′ → (r ≡ record { status = 1; kept = 0; records = 0 }) × (t′ ≡ t) × (l′ ≡ l)
+  unfolding thin-refusals
+  other-unit-recover p =
+      recover-crosses u v p (record { answer = recovered.Refused LimitUnusable; gives = recovering.refused {e = LimitUnusable} (given-first verdicts none-yet no-use) refl refl refl; says = record { status = refl; values = refl } })

@@ -26,6 +26,8 @@ use Rattle.logsheet.specs.Answer as log-answer
 use Rattle.logrecords.specs.Outcome.{OpenedLog, NextRecord}
 use Rattle.logrecords.specs.Answer.{told-opened, told-next}
 use Rattle.logreader.specs.Outcome.{EachRecord}
+use Rattle.recover.specs.Outcome.{RecoveredBy}
+use Rattle.recover.specs.Answer as recover-answer
 use Rattle.across.specs.declared.Counted.{Counted}
 use Rattle.across.specs.declared.Measure.{Measure}
 use Rattle.across.specs.declared.StandIn.{StandIn}
@@ -33,11 +35,12 @@ use Rattle.across.specs.declared.Centimetres.{Centimetres}
 use Rattle.across.specs.declared.Counts.{Counts}
 use Rattle.across.specs.declared.Written.{Written}
 use Rattle.across.specs.declared.LogRead.{LogRead}
+use Rattle.across.specs.declared.Recovery.{Recovery}
 use Rattle.across.specs.declared.LogOpened.{LogOpened}
 use Rattle.across.specs.declared.Asked.{Asked}
 use Rattle.across.specs.Units.{length-of, order-of}
 use Rattle.across.specs.Says.{Shown}
-use Rattle.across.specs.Fields.{of-counted, of-measure, of-stand-in, of-centimetres, of-counts, of-written, of-log-read, of-log-opened, of-asked}
+use Rattle.across.specs.Fields.{of-counted, of-measure, of-stand-in, of-centimetres, of-counts, of-written, of-log-read, of-recovery, of-log-opened, of-asked}
 
 -- thinning under the order of the unit u and the figure v
 abbrev pub ThinShown : ℕ → Float → List ℤ → List ℕ → List ℕ → Counted → List ℕ → List ℕ → Type 0
@@ -86,6 +89,10 @@ ReadLogShown b room room′ r = Shown (λ a. ReadLogSheet b room room′ a) log-
 -- reading it record by record
 abbrev pub EachShown : List ℕ → List ℕ → List ℕ → LogRead → Type 0
 EachShown b room room′ r = Shown (λ a. EachRecord b room room′ a) log-answer.told (of-log-read r)
+
+-- recovery under the order of the unit u and the figure v
+abbrev pub RecoverShown : ℕ → Float → List ℤ → List ℕ → List ℕ → List ℕ → Recovery → List ℕ → List ℕ → Type 0
+RecoverShown u v xs t l b r t′ l′ = Shown (λ a. RecoveredBy (order-of u v) xs t l b a t′ l′) recover-answer.told (of-recovery r)
 
 -- opening a log sheet
 abbrev pub OpenShown : List ℕ → LogOpened → Type 0

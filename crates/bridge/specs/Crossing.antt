@@ -40,6 +40,9 @@ use Rattle.ring.specs.Ring.{AnswerAt}
 use Rattle.link.specs.Chosen.{Chosen}
 use Rattle.catchup.specs.CatchUp.{CaughtUp}
 use Rattle.logreader.specs.Outcome.{EachRecord}
+use Rattle.recover.specs.declared.Recovered.{Recovered}
+use Rattle.recover.specs.Outcome.{RecoveredBy}
+use Rattle.recover.specs.Answer as recover-answer
 use Rattle.across.specs.declared.Counted.{Counted}
 use Rattle.across.specs.declared.Measure.{Measure}
 use Rattle.across.specs.declared.StandIn.{StandIn}
@@ -47,17 +50,18 @@ use Rattle.across.specs.declared.Centimetres.{Centimetres}
 use Rattle.across.specs.declared.Counts.{Counts}
 use Rattle.across.specs.declared.Written.{Written}
 use Rattle.across.specs.declared.LogRead.{LogRead}
+use Rattle.across.specs.declared.Recovery.{Recovery}
 use Rattle.across.specs.declared.LogOpened.{LogOpened}
 use Rattle.across.specs.declared.Asked.{Asked}
 use Rattle.across.specs.declared.Stored.{Stored}
 use Rattle.bridge.specs.declared.Part.{Part}
 use Rattle.across.specs.Units.{length-of, order-of}
 use Rattle.across.specs.Says.{Says}
-use Rattle.across.specs.Fields.{of-counted, of-measure, of-stand-in, of-centimetres, of-counts, of-written, of-log-read, of-log-opened, of-asked, Stores}
-use Rattle.bridge.specs.Calls.{ThinShown, GrowShown, ReplayShown, VolumeShown, ChangeShown, ShiftShown, LimitShown, SheetShown, ReplyShown, WriteLogShown, ReadLogShown, EachShown, OpenShown, NextShown}
+use Rattle.across.specs.Fields.{of-counted, of-measure, of-stand-in, of-centimetres, of-counts, of-written, of-log-read, of-recovery, of-log-opened, of-asked, Stores}
+use Rattle.bridge.specs.Calls.{ThinShown, GrowShown, ReplayShown, VolumeShown, ChangeShown, ShiftShown, LimitShown, SheetShown, ReplyShown, WriteLogShown, ReadLogShown, EachShown, RecoverShown, OpenShown, NextShown}
 use Rattle.bridge.specs.Lent.{TrialShown, Which, RingShown, Places, PartShown}
 
--- the calls in the order of their numbers over a pipe: 1 to 15, 24, 25
+-- the calls in the order of their numbers over a pipe: 1 to 16, 24, 25
 pub record Crossing : Type 0 where
   -- what is said is what the call answers, and what is left is what the call leaves
   pub thin : (u : ℕ) (v : Float) {xs : List ℤ} {t l : List ℕ} {r : Counted} {t₁ t₂ l₁ l₂ : List ℕ} {a : Thinning} → ThinShown u v xs t l r t₁ l₁ → Thinned (order-of u v) xs t l a t₂ l₂ →
@@ -93,6 +97,10 @@ pub record Crossing : Type 0 where
   pub read-log-one : {b room room₁ room₂ : List ℕ} {r q : LogRead} → ReadLogShown b room room₁ r → ReadLogShown b room room₂ q → (r ≡ q) × (room₁ ≡ room₂)
   pub each-record : {b room room₁ room₂ : List ℕ} {r : LogRead} {a : LogSheet} → EachShown b room room₁ r → EachRecord b room room₂ a → Says (log-answer.told a) (of-log-read r) × (room₁ ≡ room₂)
   pub each-record-one : {b room room₁ room₂ : List ℕ} {r q : LogRead} → EachShown b room room₁ r → EachShown b room room₂ q → (r ≡ q) × (room₁ ≡ room₂)
+  pub recover : (u : ℕ) (v : Float) {xs : List ℤ} {t l b : List ℕ} {r : Recovery} {t₁ t₂ l₁ l₂ : List ℕ} {a : Recovered} → RecoverShown u v xs t l b r t₁ l₁ → RecoveredBy (order-of u v) xs t l b a t₂ l₂ →
+      Says (recover-answer.told a) (of-recovery r) × (t₁ ≡ t₂) × (l₁ ≡ l₂)
+  pub recover-one : (u : ℕ) (v : Float) {xs : List ℤ} {t l b : List ℕ} {r q : Recovery} {t₁ t₂ l₁ l₂ : List ℕ} → RecoverShown u v xs t l b r t₁ l₁ → RecoverShown u v xs t l b q t₂ l₂ →
+      (r ≡ q) × (t₁ ≡ t₂) × (l₁ ≡ l₂)
   pub open-log : {b : List ℕ} {r : LogOpened} {a : Opened} → OpenShown b r → OpenedLog b a → Says (told-opened a) (of-log-opened r)
   pub open-log-one : {b : List ℕ} {r q : LogOpened} → OpenShown b r → OpenShown b q → r ≡ q
   pub next-record : {b : List ℕ} {at : ℕ} {r : Asked} {a : Next} → NextShown b at r → NextRecord b at a → Says (told-next a) (of-asked r)

@@ -5,7 +5,7 @@ use across::Measure;
 use across::Stored;
 use across::Written;
 use text::Cursor;
-ghost use Rattle.bridge.specs.Calls.{ThinShown, GrowShown, ReplayShown, VolumeShown, ChangeShown, ShiftShown, LimitShown, SheetShown, ReplyShown, WriteLogShown, ReadLogShown, EachShown, OpenShown, NextShown};
+ghost use Rattle.bridge.specs.Calls.{ThinShown, GrowShown, ReplayShown, VolumeShown, ChangeShown, ShiftShown, LimitShown, SheetShown, ReplyShown, WriteLogShown, ReadLogShown, EachShown, RecoverShown, OpenShown, NextShown};
 ghost use Rattle.bridge.specs.Lent.{TrialShown, RingShown, PartShown};
 
 // A part of one of two lent logs, the first (0) or the second (1): its numbers at the places from `from` up to, not with, `to`.
@@ -232,6 +232,32 @@ pub extern "C" fn flaxglimmer_each_record(
     *rows = read.rows;
     *records = read.records;
     read.status
+}
+
+// Recovers a skin from a log sheet cut after any byte, and goes on under an order: the status, and the records kept and those in all in lent numbers.
+#[no_mangle]
+pub extern "C" fn flaxglimmer_recover(
+    unit: u32,
+    figure: f64,
+    table: &mut [u32],
+    corners: &[i32],
+    log: &mut [u32],
+    bytes: &[u8],
+    kept: &mut u64,
+    records: &mut u64,
+) -> u64
+    ensures { λ r. ⌜ RecoverShown unit figure (now (corners .entry)) (now (table .entry)) (now (log .entry)) (now (bytes .entry)) (record { status = r; kept = now (kept .exit); records = now (records .exit) }) (now (table .exit)) (now (log .exit)) ⌝ }
+{
+    let recovery = across::recovery_of(recover::recover(
+        table,
+        corners,
+        across::order_of(unit, figure),
+        log,
+        bytes,
+    ));
+    *kept = recovery.kept;
+    *records = recovery.records;
+    recovery.status
 }
 
 // Opens a log sheet: the status, and corner count, row count and the place after the first line in lent numbers.

@@ -22,8 +22,8 @@ fn figure_of(bits: u64) -> f64 {
 // ---- requests: what is read is lent to the call, and what was lent to be written is written back after its answer. Each tells whether the next
 // request may be read; none may once a word was missing or not of its kind.
 
-// A thinning: unit and bits of the limit; table; corners; log.
-fn call_thin() -> bool {
+// A thinning, or a recovery: unit and bits of the limit; table; corners; log; to recover, bytes too.
+fn call_ordered(recover: bool) -> bool {
     let mut ok = true;
     let unit = words::take_word(&mut ok);
     if LAST_UNIT < unit {
@@ -39,6 +39,15 @@ fn call_thin() -> bool {
     if !ok {
         return false;
     }
+    if recover {
+        return recover_lent(
+            unit as u32,
+            figure_of(bits),
+            &mut table[..t],
+            &corners[..c],
+            &mut log[..l],
+        );
+    }
     thin_lent(
         unit as u32,
         figure_of(bits),
@@ -53,6 +62,41 @@ fn thin_lent(unit: u32, figure: f64, table: &mut [u32], corners: &[i32], log: &m
     if !words::answer_two(a.status, a.records) {
         return false;
     }
+    write_both(table, log)
+}
+
+fn recover_lent(
+    unit: u32,
+    figure: f64,
+    table: &mut [u32],
+    corners: &[i32],
+    log: &mut [u32],
+) -> bool {
+    let mut ok = true;
+    let mut bytes = words::bytes_room();
+    let b = words::take_bytes(&mut bytes, &mut ok);
+    if !ok {
+        return false;
+    }
+    let mut kept: u64 = 0;
+    let mut records: u64 = 0;
+    let status = bridge::flaxglimmer_recover(
+        unit,
+        figure,
+        table,
+        corners,
+        log,
+        &bytes[..b],
+        &mut kept,
+        &mut records,
+    );
+    if !words::answer_three(status, kept, records) {
+        return false;
+    }
+    write_both(table, log)
+}
+
+fn write_both(table: &[u32], log: &[u32]) -> bool {
     if !words::write_numbers(table) {
         return false;
     }
@@ -271,7 +315,7 @@ fn ring_number(i: usize) -> u32 {
 // The call of a number.
 fn call(number: u64) -> bool {
     if number == 1 {
-        return call_thin();
+        return call_ordered(false);
     }
     if number == 2 {
         return call_grow();
@@ -323,6 +367,9 @@ fn call_of_logs(number: u64) -> bool {
     }
     if number == 15 {
         return logcalls::call_each();
+    }
+    if number == 16 {
+        return call_ordered(true);
     }
     if number == 24 {
         return logcalls::call_open();

@@ -12,29 +12,26 @@ enum-known-a c = search needs
 enum-known-a-2 : tie.Need-enum-known-a-2
 enum-known-a-2 c = search needs
 
-number-of-requires : tie.Need-number-of-requires
-number-of-requires c κs = search needs
-
-cast-t9 : tie.Need-cast-t9
-cast-t9 c = search needs
+record-fails-requires : tie.Need-record-fails-requires
+record-fails-requires c κs = search needs
 
 enum-known-a-3 : tie.Need-enum-known-a-3
 enum-known-a-3 c = search needs
 
-number-of-requires-2 : tie.Need-number-of-requires-2
-number-of-requires-2 c κs = search needs
+number-of-requires : tie.Need-number-of-requires
+number-of-requires c κs = search needs
 
-cast-t12 : tie.Need-cast-t12
-cast-t12 c = search needs
+cast-t10 : tie.Need-cast-t10
+cast-t10 c = search needs
 
 returns : tie.Need-returns
 returns c = said told (c .before .a .given .1) (record { status = refl; values = refl })
 
 returns-2 : tie.Need-returns-2
-returns-2 c = said told (c .before .before .a2 .given .1) (record { status = c .number-of .ensures; values = refl })
+returns-2 c = said told (c .before .before .a2 .given .1) (record { status = c .record-fails .ensures; values = refl })
 
 returns-3 : tie.Need-returns-3
-returns-3 c = said told (c .before .before .a3 .given .1) (record { status = c .number-of2 .ensures; values = refl })
+returns-3 c = said told (c .before .before .a3 .given .1) (record { status = c .number-of .ensures; values = refl })
 
 pub counted-regrown-spec : {M : Type 1} → statement M
 counted-regrown-spec =
@@ -42,11 +39,10 @@ counted-regrown-spec =
     (tie.spec
     enum-known-a
     enum-known-a-2
-    number-of-requires
-    cast-t9
+    record-fails-requires
     enum-known-a-3
-    number-of-requires-2
-    cast-t12
+    number-of-requires
+    cast-t10
     returns
     returns-2
     returns-3)
