@@ -65,6 +65,7 @@ fn thin_lent(unit: u32, figure: f64, table: &mut [u32], corners: &[i32], log: &m
     write_both(table, log)
 }
 
+// The bytes are the last argument, and read here.
 fn recover_lent(
     unit: u32,
     figure: f64,
@@ -96,6 +97,7 @@ fn recover_lent(
     write_both(table, log)
 }
 
+// Table and log, after the answer.
 fn write_both(table: &[u32], log: &[u32]) -> bool {
     if !words::write_numbers(table) {
         return false;
