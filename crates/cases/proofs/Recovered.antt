@@ -1,31 +1,40 @@
 -- Slips of recovery: what each would answer of O's log cut after its first record, or leave of any, is not allowed by the words of the contract.
-use mathlib.Core.Path.{_≡_, refl, sym, _∙_, ap}
+use mathlib.Core.Path.{_≡_, refl, sym, _∙_, ap, subst}
 use mathlib.Core.Logic.{_≢_}
 use mathlib.Core.List.{List, [], _∷_, _++_}
-use Prim.Native.Nat.{ℕ, _≤_}
+use Prim.Native.Nat.{ℕ, suc, _≤_}
 use native.Mathlib.Omega.{arith}
 use lib.IntN.{ℤ}
 use lib.ListN.{length, length-append, take, drop}
-use lib.Seq.{drop-at, length-take-le}
+use lib.Seq.{take-at, drop-at, length-take-le}
+use Rattle.follow.specs.Follow.{Followed, all}
+use Rattle.follow.proofs.Following.{followed-one}
 use Rattle.surface.specs.Lists.{_∈_}
-use Rattle.surface.specs.Rows.{rows}
-use Rattle.surface.specs.Record.{Record}
+use Rattle.surface.specs.Rows.{Row, rows}
+use Rattle.surface.specs.Record.{Record, Replayed}
 use Rattle.refusal.specs.declared.Refusal.{Refusal}
+use Rattle.refusal.specs.declared.Refusal.the-variants.{RecordFails}
 use Rattle.refusal.specs.declared.Verdict.the-variants.{Passes}
 use Rattle.refusal.proofs.Laws.{verdicts, first-one, refused-passes}
-use Rattle.run.proofs.Main.{taken-allowed}
+use Rattle.run.specs.Run.{Run}
+use Rattle.run.proofs.Main.{taken-allowed, taken-cut, taken-replayed}
 use Rattle.faults.specs.Counts.{corners}
-use Rattle.record.specs.Layout.{width, count, records, record-at, first-records, room-for}
+use Rattle.record.specs.Layout.{width, count, records, record-at, first-records, log-of, room-for}
 use Rattle.record.proofs.Log.{records-log}
 use Rattle.record.proofs.Places.{records-length}
 use Rattle.length.specs.declared.Order.{Order}
 use Rattle.length.specs.declared.Order.the-variants.{NoLimit}
+use Rattle.least.specs.declared.Bound.the-variants.{Free}
 use Rattle.least.specs.Limited.{Allowed}
 use Rattle.thin.specs.declared.Asked.{Asked}
 use Rattle.thin.specs.Order.{asked}
 use Rattle.thin.specs.Run.{RunOf}
-use Rattle.thin.proofs.Main.{thin-passes, thinned-run}
+use Rattle.thin.proofs.Main.{thin-passes, thinned-run, under-one}
 use Rattle.thin.proofs.Judging.{under-usable}
+use Rattle.regrow.specs.declared.Regrown.the-variants as following
+use Rattle.regrow.proofs.Counted.{regrown-apart}
+use Rattle.replay.specs.Outcome.{replaying}
+use Rattle.replay.proofs.Main.{replaying-plain}
 use Rattle.logform.specs.LogSheet.{most-log-bytes, log-text}
 use Rattle.logcut.specs.Cut.{newlines, CutOf}
 use Rattle.logcut.proofs.Ending.{one-cut, cut-passes}
@@ -33,11 +42,11 @@ use Rattle.recover.specs.declared.Recovered.the-variants.{Done, Stopped, Refuse
 use Rattle.recover.specs.Outcome.{RecoveredBy, refused, stopped, done}
 use Rattle.recover.specs.Run.{RecoveryOf}
 use Rattle.recover.proofs.Judging.{cut-decides}
-use Rattle.recover.proofs.Main.{recovery-run, stopped-run, refused-same, done-refused, stopped-refused}
+use Rattle.recover.proofs.Main.{recovery-run, stopped-run, refused-same, done-refused, done-stopped, stopped-refused}
 use Rattle.promises.proofs.Logged.{whole-log}
 use Rattle.promises.proofs.Recovering.{in-room}
 use Rattle.cases.specs.Skins.{O, O-corners}
-use Rattle.cases.specs.Cases.{lent, O-log}
+use Rattle.cases.specs.Cases.{lent, O-last, O-log}
 use Rattle.cases.proofs.Skinned.{O-skin}
 use Rattle.cases.proofs.Starred.{case-O}
 use Rattle.cases.proofs.Mailed.{O-short, one-digit}
@@ -60,9 +69,36 @@ cut-there = record {
 O-run : (T : List ℕ) × RunOf (asked NoLimit) O-corners O (lent (room-for 2)) 2 T O-log
 O-run = (_, thinned-run (case-O .0))
 
-O-begins : O-run .1 .log ≡ records O-first ++ (record-at (drop width O-log) 0 ∷ [])
-unfolding O-run first-records
+O-second : Record
+O-second = record-at (drop width O-log) 0
+
+O-begins : O-run .1 .log ≡ records O-first ++ (O-second ∷ [])
+unfolding O-run O-second first-records
 O-begins = sym (records-log (O-run .1 .log)) ∙ ap records (sym (whole-log (O-run .1)))
+
+-- O after its first record, and the second that leads on
+O-rest : (T : List Row) × Replayed (rows O) (records O-first) T × Run (Allowed Free O-corners) T (O-second ∷ []) (O-run .1 .last)
+O-rest =
+    let u = O-run .1 in
+    let c = taken-cut (records O-first) (rw O-begins at (u .run .taken)) in
+    let e = under-one (sym (u .under)) in
+    let r : Run (Allowed (u .b) O-corners) (c .0) (O-second ∷ []) (u .last) = record { taken = c .2; ended = u .run .ended } in
+    (c .0, taken-replayed (c .1), subst (λ d. Run (Allowed d O-corners) (c .0) (O-second ∷ []) (u .last)) e r)
+
+-- what is right: one record kept, two in all, and the table and log of the unbroken run; nothing else is allowed (`recovered-one`)
+pub O-recovered : {b : List ℕ} → CutOf b 6 8 O-first → length b ≤ most-log-bytes → RecoveredBy NoLimit O-corners O (lent (room-for 2)) b (Done 1 2) O-last O-log
+unfolding rows log-of O-run O-second first-records
+O-recovered {b} cut size =
+    done {kept = O-first} {bound = Free} {added = O-second ∷ []}
+    (cut-decides (asked NoLimit) O-corners O (lent (room-for 2)) b (thin-passes O (under-usable refl) refl O-skin (omega arith)) Passes (cut-passes cut size (omega arith)))
+    O-skin
+    cut
+    (all (O-rest .1) refl)
+    refl
+    (O-rest .2)
+    refl
+    (O-run .1 .table)
+    refl
 
 -- any bytes whose whole lines are O's first line and first record
 module _ {b : List ℕ} (cut : CutOf b 6 8 O-first) {u m : List ℕ} where
@@ -82,9 +118,19 @@ module _ {b : List ℕ} (cut : CutOf b 6 8 O-first) {u m : List ℕ} where
   does-not-go-on h =
       let w = recovery-run h in
       let e = one-cut (w .cut) cut .numbers in
-      omega (arith, in-room (O-run .1) w (record-at (drop width O-log) 0 ∷ []) (O-begins ∙ ap (λ q. records q ++ (record-at (drop width O-log) 0 ∷ [])) (sym e)) .0)
+      omega (arith, in-room (O-run .1) w (O-second ∷ []) (O-begins ∙ ap (λ q. records q ++ (O-second ∷ [])) (sym e)) .0)
 
-  -- one that refuses every sheet that was cut, or any
+  -- one that stops at a record that replays, as where it asks of the records kept that they were least or within the limit lent
+  pub stops-at-a-good-record : (o : Order) {k : ℕ} → ¬ RecoveredBy o O-corners O (lent (room-for 2)) b (Stopped k) u m
+  stops-at-a-good-record o (refused f er et el) = stopped-refused er
+  stops-at-a-good-record o (done f s c w eb q er et el) = done-stopped (sym er)
+  stops-at-a-good-record o (stopped {log = log} f s c w er et el) =
+      let e = one-cut c cut .numbers in
+      let led : Replayed (rows O) (records log) (O-rest .0) = rw (ap records e) (O-rest .1) in
+      let g = followed-one (replaying (corners O-corners) O log) (replaying-plain (corners O-corners) O log) w (all led refl) in
+      regrown-apart .finished-stopped {r = RecordFails} (sym (g .0))
+
+  -- one that refuses every sheet that was cut: this one, within a log sheet's size, is not refused
   pub refuses-every-cut : length b ≤ most-log-bytes → (r : Refusal) → ¬ RecoveredBy NoLimit O-corners O (lent (room-for 2)) b (Refused r) u m
   unfolding rows
   refuses-every-cut size r (refused f er et el) =
@@ -95,9 +141,19 @@ module _ {b : List ℕ} (cut : CutOf b 6 8 O-first) {u m : List ℕ} where
 -- ---- for any skin, order, room and bytes
 
 module _ (o : Order) {xs : List ℤ} {t l b t′ l′ : List ℕ} where
-  -- one that takes the log of a skin with other counts
-  pub another-skins-log : {n m k j : ℕ} {log : List ℕ} → CutOf b n m log → n ≢ corners xs → ¬ RecoveredBy o xs t l b (Done k j) t′ l′
-  another-skins-log c apart h = apart (one-cut c (recovery-run h .cut) .corners)
+  -- one that takes the log of a skin with other counts, to its end or to a record that fails
+  pub another-skins-log : {n m k j : ℕ} {log : List ℕ} → CutOf b n m log → ¬ ((n ≡ corners xs) × (m ≡ length (rows t))) → ¬ RecoveredBy o xs t l b (Done k j) t′ l′
+  another-skins-log c apart h = let e = one-cut c (recovery-run h .cut) in apart (e .corners, e .rows)
+
+  pub another-skins-records : {n m k : ℕ} {log : List ℕ} → CutOf b n m log → ¬ ((n ≡ corners xs) × (m ≡ length (rows t))) → ¬ RecoveredBy o xs t l b (Stopped k) t′ l′
+  another-skins-records c apart h = let e = one-cut c (stopped-run h .cut) in apart (e .corners, e .rows)
+
+  -- one that does not leave the records kept in front of the log, as where it thins anew under another order
+  pub kept-not-logged : {n m k j : ℕ} {log : List ℕ} → CutOf b n m log → take (length log) l′ ≢ log → ¬ RecoveredBy o xs t l b (Done k j) t′ l′
+  kept-not-logged {j = j} {log = log} c apart h =
+      let w = recovery-run h in
+      let e = one-cut c (w .cut) .numbers in
+      apart (ap (take (length log)) (w .logged) ∙ take-at (w .kept) (log-of (w .added) ++ drop (room-for j) l) (length log) (ap length (sym e)) ∙ sym e)
 
   -- one that adds a step of an edge that is longer than the limit lent
   pub longer-than-lent : {k j : ℕ} (h : RecoveredBy o xs t l b (Done k j) t′ l′) (e : Record) → e ∈ recovery-run h .added → ¬ Allowed (recovery-run h .bound) xs (e .kept) (e .removed) → ⊥
@@ -110,16 +166,19 @@ module _ (o : Order) {xs : List ℤ} {t l b t′ l′ : List ℕ} where
       let n = w .many in
       let c = w .cut .sheet .whole in
       let z = ap length (w .parts) ∙ length-append (w .front) (w .next ∷ w .rest) in
-      let many : room-for k ≤ length (w .kept) = omega (arith, records-length (w .kept)) in
-      apart (ap (drop (room-for k)) (w .logged) ∙ drop-at (take (room-for k) (w .kept)) (drop (room-for k) l) (room-for k) (length-take-le (room-for k) (w .kept) many))
+      let many : room-for k ≤ length (w .log) = omega (arith, records-length (w .log)) in
+      apart (ap (drop (room-for k)) (w .logged) ∙ drop-at (take (room-for k) (w .log)) (drop (room-for k) l) (room-for k) (length-take-le (room-for k) (w .log) many))
 
   -- one that counts the record that fails
-  pub fails-counts-failing : {n m k : ℕ} {log : List ℕ} → CutOf b n m log → count log ≤ k → ¬ RecoveredBy o xs t l b (Stopped k) t′ l′
-  fails-counts-failing {log = log} c few h =
-      let w = stopped-run h in
-      let e = ap count (one-cut c (w .cut) .numbers) in
-      let n = w .many in
-      omega (arith, records-length (w .kept), ap length (w .parts) ∙ length-append (w .front) (w .next ∷ w .rest))
+  pub fails-counts-failing : {n m k : ℕ} {log : List ℕ} {T : List Row} → CutOf b n m log → Followed (replaying (corners xs) t log) (following.Stopped k) T → ¬ RecoveredBy o xs t l b (Stopped (suc k)) t′ l′
+  fails-counts-failing c f (refused g er et el) = stopped-refused er
+  fails-counts-failing c f (done g s d w eb q er et el) = done-stopped (sym er)
+  fails-counts-failing {k = k} {log = log} c f (stopped {log = log₂} {k = k₂} g s d w er et el) =
+      let e = one-cut c d .numbers in
+      let z = followed-one (replaying (corners xs) t log₂) (replaying-plain (corners xs) t log₂) (rw e at f) w in
+      let n = regrown-apart .stopped-one {r = RecordFails} {q = RecordFails} (z .0) in
+      let m : suc k ≡ k₂ = cc in
+      omega (arith, n, m)
 
   -- one that writes in table or log and then refuses
   pub writes-and-refuses : {r : Refusal} → t′ ≢ t → ¬ RecoveredBy o xs t l b (Refused r) t′ l′

@@ -17,6 +17,10 @@ front-of m rest h p q e =
     ap (take (room-for (length p))) (h ∙ ap (λ m. log-of m ++ rest) e ∙ ap (λ m. m ++ rest) (log-append p q) ∙ append-assoc (log-of p) (log-of q) rest)
     ∙ take-at (log-of p) (log-of q ++ rest) (room-for (length p)) (log-length p)
 
+-- and those after them
+pub rest-of : {m : List Record} {l : List ℕ} → l ≡ log-of m → (p q : List Record) → m ≡ p ++ q → drop (room-for (length p)) l ≡ log-of q
+rest-of h p q e = ap (drop (room-for (length p))) (h ∙ ap log-of e ∙ log-append p q) ∙ drop-at (log-of p) (log-of q) (room-for (length p)) (log-length p)
+
 module _ {a : Asked} {xs : List ℤ} {t l : List ℕ} {k : ℕ} {t′ l′ : List ℕ} (w : RunOf a xs t l k t′ l′) where
   pub whole-log : take (room-for k) l′ ≡ log-of (w .log)
   whole-log = ap (λ (i : ℕ). take (room-for i) l′) (w .count) ∙ front-of (w .log) (drop (room-for (length (w .log))) l) (w .logged) (w .log) [] (sym (append-nil (w .log)))
@@ -28,4 +32,4 @@ module _ {a : Asked} {xs : List ℤ} {t l : List ℕ} {k : ℕ} {t′ l′ : Lis
 
     -- and those after them
     pub rest-log : drop (room-for (length p)) (take (room-for k) l′) ≡ log-of q
-    rest-log = ap (drop (room-for (length p))) (whole-log ∙ ap log-of e ∙ log-append p q) ∙ drop-at (log-of p) (log-of q) (room-for (length p)) (log-length p)
+    rest-log = rest-of whole-log p q e

@@ -75,6 +75,11 @@ written-sheet {n} {m} {j} {log} {txt} {txt′} (wrote f w e p) = rw same (its-lo
     same : take j txt′ ≡ log-text n m log
     same = ap (take j) p ∙ take-at (log-text n m log) (drop (length (log-text n m log)) txt) j (sym long)
 
+-- which could be written
+pub written-can : {n m j : ℕ} {log txt txt′ : List ℕ} → WroteLogSheet n m log txt txt′ (text.Written j) → Writable n m log
+written-can (unwritten f e p) = let z : _≡_ {A = ℕ} 0 1 = cc in absurd (omega arith)
+written-can (wrote f w e p) = w
+
 -- and have the size of one
 pub written-size : {n m j : ℕ} {log txt txt′ : List ℕ} → WroteLogSheet n m log txt txt′ (text.Written j) → length (take j txt′) ≤ most-log-bytes
 written-size (unwritten f e p) = let z : _≡_ {A = ℕ} 0 1 = cc in absurd (omega arith)

@@ -9,7 +9,7 @@ use lib.IntN.{ℤ, pos}
 use lib.ListN.{length, length-append, take, drop, take-append-drop}
 use lib.Seq.{take-at, drop-at, length-take-le}
 use Rattle.follow.specs.Follow.{all}
-use Rattle.follow.proofs.Leading.{leads-one, leads-on}
+use Rattle.follow.proofs.Leading.{leads-one, leads-on, leads-cut}
 use Rattle.follow.proofs.Following.{followed-one}
 use Rattle.surface.specs.Rows.{Row, rows}
 use Rattle.surface.specs.Record.{Record, Replayed}
@@ -23,7 +23,7 @@ use Rattle.refusal.proofs.Laws.{verdicts, given-first, first-one, refused-passe
 use Rattle.faults.specs.Counts.{corners}
 use Rattle.run.specs.Run.{Taken}
 use Rattle.run.proofs.Main.{run-one, taken-on, taken-cut, taken-replayed, replayed-stage}
-use Rattle.record.specs.Layout.{count, records, log-of, room-for}
+use Rattle.record.specs.Layout.{count, records, log-of, room-for, WholeRecords}
 use Rattle.record.specs.Front.{zeroed}
 use Rattle.record.proofs.Log.{log-length, log-append, log-first, records-log}
 use Rattle.record.proofs.Places.{records-length}
@@ -63,10 +63,10 @@ use Rattle.recover.proofs.Handing.{all-followed}
 use Rattle.recover.proofs.Judging.{cut-decides}
 use Rattle.recover.proofs.Main.{recovered-one, recovery-run, stopped-run, told-done, told-stopped}
 use Rattle.promises.specs.Recovery.{RecoveredWith, StoppedWith, CutShort, AfterSteps, Recovery}
-use Rattle.promises.proofs.Back.{Led, records-many, led-replayed-to, led-restored, led-replayed, run-led, as-done}
-use Rattle.promises.proofs.Logged.{front-of, whole-log}
+use Rattle.promises.proofs.Back.{Led, led-replayed-to, led-restored-from, led-restored, led-replayed, as-done}
+use Rattle.promises.proofs.Logged.{front-of, rest-of, whole-log}
 use Rattle.promises.proofs.Figures.{within}
-use Rattle.promises.proofs.Mailing.{wrote-told, written-sheet, written-size, can-write, fewer, part-writable}
+use Rattle.promises.proofs.Mailing.{wrote-told, written-sheet, written-can, written-size, can-write, part-writable}
 
 -- ---- what is told, and what it comes to
 
@@ -76,9 +76,9 @@ as-recovery w = recovery-run (rw (told-done (w .answer) (w .tells)) at (w .recov
 pub as-stopped : {o : Order} {xs : List ℤ} {t l b : List ℕ} {k : ℕ} {t′ l′ : List ℕ} → StoppedWith o xs t l b k t′ l′ → StoppedOf xs t l b k t′ l′
 as-stopped w = stopped-run (rw (told-stopped (w .answer) (w .tells)) at (w .recovered))
 
--- the numbers kept are those of their records
-kept-log : (log : List ℕ) {b : List ℕ} {n m : ℕ} → CutOf b n m log → log ≡ log-of (records log)
-kept-log log c = let w = c .sheet .whole in sym (log-first (count log) log (omega arith))
+-- the numbers of a log are those of its records
+logged : (log : List ℕ) → WholeRecords log → log ≡ log-of (records log)
+logged log w = sym (log-first (count log) log (omega arith))
 
 module _ {a : Asked} {xs : List ℤ} {t l b : List ℕ} {k j : ℕ} {t′ l′ : List ℕ} (w : RecoveryOf a xs t l b k j t′ l′) where
   -- all records of the log it leaves
@@ -95,7 +95,7 @@ module _ {a : Asked} {xs : List ℤ} {t l b : List ℕ} {k j : ℕ} {t′ l′ :
   whole-logged =
       w .logged
       ∙ sym (append-assoc (w .kept) (log-of (w .added)) (drop (room-for j) l))
-      ∙ ap (λ q. q ++ drop (room-for j) l) (ap (λ q. q ++ log-of (w .added)) (kept-log (w .kept) (w .cut)) ∙ sym (log-append (records (w .kept)) (w .added)))
+      ∙ ap (λ q. q ++ drop (room-for j) l) (ap (λ q. q ++ log-of (w .added)) (logged (w .kept) (w .cut .sheet .whole)) ∙ sym (log-append (records (w .kept)) (w .added)))
 
   whole-stands : take (room-for j) l′ ≡ log-of (records (w .kept) ++ w .added)
   whole-stands =
@@ -111,7 +111,7 @@ module _ {a : Asked} {xs : List ℤ} {t l b : List ℕ} {k j : ℕ} {t′ l′ :
 
   hands : {a : Regrown} {r : List ℕ} → ReplayedAs (corners xs) t (w .kept) a r → (regrowths.told a ≡ answers.done (pos k ∷ [])) × (r ≡ zeroed (w .handed) t)
   hands g =
-      let o = led-replayed-to whole-led (records (w .kept)) (w .added) refl (w .led) (kept-log (w .kept) (w .cut)) g in
+      let o = led-replayed-to whole-led (records (w .kept)) (w .added) refl (w .led) (logged (w .kept) (w .cut .sheet .whole)) g in
       (o .0 ∙ ap (λ i. answers.done (pos i ∷ [])) (records-length (w .kept) ∙ sym (w .many)), o .1)
 
   keeps : (p q : List Record) → w .added ≡ p ++ q → (T₁ : List Row) × Taken (Allowed (w .bound) xs) (w .handed) p T₁ × KeptAfter (corners xs) (rows t) (records (w .kept) ++ p) T₁
@@ -130,8 +130,8 @@ module _ {xs : List ℤ} {t l b : List ℕ} {k : ℕ} {t′ l′ : List ℕ} (w 
 
   front-stands : take (room-for k) l′ ≡ log-of (w .front)
   front-stands =
-      let e : take (room-for k) (w .kept) ≡ log-of (w .front) =
-      ap (λ (i : ℕ). take (room-for i) (w .kept)) (sym (w .many)) ∙ front-of (records (w .kept)) [] (kept-log (w .kept) (w .cut) ∙ sym (append-nil (log-of (records (w .kept))))) (w .front) (w .next ∷ w .rest) (w .parts) in
+      let e : take (room-for k) (w .log) ≡ log-of (w .front) =
+      ap (λ (i : ℕ). take (room-for i) (w .log)) (sym (w .many)) ∙ front-of (records (w .log)) [] (logged (w .log) (w .cut .sheet .whole) ∙ sym (append-nil (log-of (records (w .log))))) (w .front) (w .next ∷ w .rest) (w .parts) in
       let m = w .many in
       ap (take (room-for k)) (w .logged ∙ ap (λ q. q ++ drop (room-for k) l) e) ∙ take-at (log-of (w .front)) (drop (room-for k) l) (room-for k) (log-length (w .front) ∙ (omega arith))
 
@@ -150,19 +150,18 @@ first-cut : (o : Order) {xs : List ℤ} {t l b : List ℕ} {a : Recovered} {t′
 first-cut o {xs} {t} {l} {b} h f w =
     ap told (recovered-one w (refused {e = SheetForm} (cut-decides (asked o) xs t l b f (verdict.Refused SheetForm) (no-lines b (corners xs) (length (rows t)) h)) refl refl refl) .0)
 
--- ---- an honest log, cut
+-- ---- a log that leads on from the skin, cut
 
--- the first i records of the run are what survived
-record Survived {d : Asked} {xs : List ℤ} {t l : List ℕ} {k : ℕ} {t′ l′ : List ℕ} (u : RunOf d xs t l k t′ l′) (b : List ℕ) (i : ℕ) : Type 0 where
-  front : List Record
-  rest : List Record
-  parts : u .log ≡ front ++ rest
-  many : length front ≡ i
-  cut : CutOf b (corners xs) (length (rows t)) (log-of front)
+-- i whole lines of records survived, and they hold its first records
+record Survived (xs : List ℤ) (t log b : List ℕ) (i : ℕ) : Type 0 where
+  cut : CutOf b (corners xs) (length (rows t)) (take (room-for i) log)
   size : length b ≤ most-log-bytes
+  many : i ≤ count log
+  few : count (take (room-for i) log) ≤ corners xs - 4
+  are : records (take (room-for i) log) ≡ take i (records log)
 
-module _ {d : Asked} {xs : List ℤ} {t l : List ℕ} {k : ℕ} {t′ l′ : List ℕ} (u : RunOf d xs t l k t′ l′) {b : List ℕ} (c : CutShort xs t (take (room-for k) l′) b) where
-  wrote : WroteLogSheet (corners xs) (length (rows t)) (take (room-for k) l′) (c .text) (c .text′) (text.Written (c .bytes))
+module _ {xs : List ℤ} {t log b : List ℕ} (c : CutShort xs t log b) where
+  wrote : WroteLogSheet (corners xs) (length (rows t)) log (c .text) (c .text′) (text.Written (c .bytes))
   wrote = rw (wrote-told (c .written) (c .writes)) at (c .wrote)
 
   -- what survived is no longer than what was written
@@ -172,68 +171,80 @@ module _ {d : Asked} {xs : List ℤ} {t l : List ℕ} {k : ℕ} {t′ l′ : Lis
       let e = ap length (sym (take-append-drop (c .survived) w)) ∙ length-append (take (c .survived) w) (drop (c .survived) w) in
       omega (arith, written-size wrote, ap length (c .is))
 
-  survived : {i : ℕ} → newlines b ≡ suc i → Survived u b i
+  -- the first i records of the log
+  first-records-are : (i : ℕ) → i ≤ count log → records (take (room-for i) log) ≡ take i (records log)
+  first-records-are i h =
+      let front = take i (records log) in
+      let many : length front ≡ i = length-take-le i (records log) (omega (arith, records-length log)) in
+      let whole = written-can wrote .whole in
+      let e = ap (λ (j : ℕ). take (room-for j) log) (sym many) ∙ front-of (records log) [] (logged log whole ∙ sym (append-nil (log-of (records log)))) front (drop i (records log)) (sym (take-append-drop i (records log))) in
+      ap records e ∙ records-log front
+
+  survived : {i : ℕ} → newlines b ≡ suc i → Survived xs t log b i
   survived {i} h = go (rw (sym (c .is)) at (sheet-cut (written-sheet wrote) (c .survived)))
     where
-      go : CutAfter (corners xs) (length (rows t)) (take (room-for k) l′) b → Survived u b i
+      go : CutAfter (corners xs) (length (rows t)) log b → Survived xs t log b i
       go (inside-first z) = absurd (omega arith)
       go (after i₁ few cut) =
-          let front = take i₁ (u .log) in
-          let parts = sym (take-append-drop i₁ (u .log)) in
-          let most : i₁ ≤ length (u .log) = rw (whole-log u, records-many (u .log)) at few in
-          let many : length front ≡ i₁ = length-take-le i₁ (u .log) most in
-          let log-is : take (room-for i₁) (take (room-for k) l′) ≡ log-of front =
-          ap (λ (j : ℕ). take (room-for j) (take (room-for k) l′)) (sym many) ∙ front-of (u .log) [] (whole-log u ∙ sym (append-nil (log-of (u .log)))) front (drop i₁ (u .log)) parts in
-          let there : CutOf b (corners xs) (length (rows t)) (log-of front) = rw log-is at cut in
-          let same : i₁ ≡ i = omega (arith, cut-newlines there, records-many front) in
-          record { front = front; rest = drop i₁ (u .log); parts = parts; many = many ∙ same; cut = there; size = short }
+          let w = written-can wrote in
+          let whole = w .whole in
+          let long = length-take-le (room-for i₁) log (omega arith) in
+          let same : i₁ ≡ i = omega (arith, cut-newlines cut) in
+          let r : Survived xs t log b i₁ = record { cut = cut; size = short; many = few; few = omega (arith, w .counts .fewer); are = first-records-are i₁ few } in
+          rw same at r
 
-  module _ {i : ℕ} (h : newlines b ≡ suc i) where
-    s : Survived u b i
+  module _ {T : List Row} (led : Replayed (rows t) (records log) T) {i : ℕ} (h : newlines b ≡ suc i) where
+    s : Survived xs t log b i
     s = survived h
 
     -- the stage that they lead to
-    to : List Row
-    to = thinned-kept u (s .front) (s .rest) (s .parts) .0
+    to : (T₁ : List Row) × Replayed (rows t) (take i (records log)) T₁
+    to = let c = leads-cut (take i (records log)) (rw (sym (take-append-drop i (records log))) at led) in (c .0, c .1)
 
-    taken : Taken (Allowed (u .b) xs) (rows t) (s .front) to
-    unfolding to
-    taken = thinned-kept u (s .front) (s .rest) (s .parts) .1
+    kept-are : {kept : List ℕ} → CutOf b (corners xs) (length (rows t)) kept → records kept ≡ take i (records log)
+    kept-are cut = ap records (one-cut cut (s .cut) .numbers) ∙ s .are
 
-    few : count (log-of (s .front)) ≤ corners xs - 4
-    few =
-        let e = ap length (s .parts) ∙ length-append (s .front) (s .rest) in
-        omega (arith, records-many (s .front), fewer (run-led u))
-
-    -- nothing stands against the sheet
-    sheet-passes : First (cut-refusals b (corners xs) (length (rows t))) Passes
-    sheet-passes = cut-passes (s .cut) (s .size) few
-
-    -- its records are all followed
-    kept-led : {kept : List ℕ} → CutOf b (corners xs) (length (rows t)) kept → Replayed (rows t) (records kept) to × (records kept ≡ s .front)
-    kept-led cut =
-        let e = one-cut cut (s .cut) .numbers in
-        let f = ap records e ∙ records-log (s .front) in
-        (rw f (taken-replayed taken), f)
-
-    -- so recovery is done, under any order that thinning takes
-    pub honest-done : (o₂ : Order) {l₂ t₂ l₂′ : List ℕ} {a : Recovered} → First (thin-refusals (asked o₂) xs t (length l₂)) Passes → RecoveredBy o₂ xs t l₂ b a t₂ l₂′ →
-        (j : ℕ) × (told a ≡ answers.done (pos i ∷ pos j ∷ []))
-    honest-done o₂ {l₂} p (refused f er et el) = refused-passes (first-one verdicts _ f (cut-decides (asked o₂) xs t l₂ b p Passes sheet-passes))
-    honest-done o₂ p (stopped {kept = kept} f z c w er et el) =
-        let g = followed-one (replaying (corners xs) t kept) (replaying-plain (corners xs) t kept) w (all (kept-led c .0) refl) in
+    -- recovery is done, under any order that thinning takes
+    pub taken-up : (o : Order) {l t′ l′ : List ℕ} {a : Recovered} → First (thin-refusals (asked o) xs t (length l)) Passes → RecoveredBy o xs t l b a t′ l′ → (j : ℕ) × (told a ≡ answers.done (pos i ∷ pos j ∷ []))
+    taken-up o {l} p (refused f er et el) = refused-passes (first-one verdicts _ f (cut-decides (asked o) xs t l b p Passes (cut-passes (s .cut) (s .size) (s .few))))
+    taken-up o p (stopped {log = kept} f z c w er et el) =
+        let led : Replayed (rows t) (records kept) (to .0) = rw (kept-are c) (to .1) in
+        let g = followed-one (replaying (corners xs) t kept) (replaying-plain (corners xs) t kept) w (all led refl) in
         absurd (regrown-apart .finished-stopped {r = RecordFails} (sym (g .0)))
-    honest-done o₂ p (done {kept = kept} {k = k₁} {added = added} f z c w eb q er et el) =
+    taken-up o p (done {kept = kept} {k = k₁} {added = added} f z c w eb q er et el) =
         let m = all-followed (corners xs) t kept w .1 in
         let e : k₁ ≡ i = omega (arith, cut-newlines c) in
         (k₁ + length added, ap told er ∙ ap (λ n. answers.done (pos n ∷ pos (k₁ + length added) ∷ [])) e)
 
-    -- and the stage handed over is the one after as many steps
+    -- and the stage handed over is the one that they lead to
+    pub first-ones : {d : Asked} {l : List ℕ} {k j : ℕ} {t′ l′ : List ℕ} (w : RecoveryOf d xs t l b k j t′ l′) → (records (w .kept) ≡ take i (records log)) × Replayed (rows t) (take i (records log)) (w .handed)
+    first-ones w = let e = kept-are (w .cut) in (e, rw (sym e) (w .led))
+
+-- ---- of thinning's log
+
+module _ {d : Asked} {xs : List ℤ} {t l : List ℕ} {k : ℕ} {t′ l′ : List ℕ} (u : RunOf d xs t l k t′ l′) {b : List ℕ} (c : CutShort xs t (take (room-for k) l′) b) where
+  run-records : records (take (room-for k) l′) ≡ u .log
+  run-records = ap records (whole-log u) ∙ records-log (u .log)
+
+  run-leads : Replayed (rows t) (records (take (room-for k) l′)) (u .last)
+  run-leads = rw run-records (taken-replayed (u .run .taken))
+
+  module _ {i : ℕ} (h : newlines b ≡ suc i) where
+    pub honest-done : (o₂ : Order) {l₂ t₂ l₂′ : List ℕ} {a : Recovered} → First (thin-refusals (asked o₂) xs t (length l₂)) Passes → RecoveredBy o₂ xs t l₂ b a t₂ l₂′ →
+        (j : ℕ) × (told a ≡ answers.done (pos i ∷ pos j ∷ []))
+    honest-done o₂ p w = taken-up c run-leads h o₂ p w
+
+    -- the stage handed over is the one after as many steps
     pub honest-stage : {d₂ : Asked} {l₂ : List ℕ} {k₂ j₂ : ℕ} {t₂ l₂′ : List ℕ} (w : RecoveryOf d₂ xs t l₂ b k₂ j₂ t₂ l₂′) → AfterSteps u i (records (w .kept)) (w .handed)
     honest-stage w =
-        let m = kept-led (w .cut) in
-        let e : to ≡ w .handed = leads-one (λ T T₁ T₂ k r q. left r q) (m .0) (w .led) in
-        record { rest = s .rest; parts = rw (m .1) (s .parts); many = rw (m .1) (s .many); taken = rw (sym e, m .1) taken }
+        let f = first-ones c run-leads h w in
+        let e : records (w .kept) ≡ take i (u .log) = f .0 ∙ ap (take i) run-records in
+        let parts = sym (take-append-drop i (u .log)) in
+        let g = thinned-kept u (take i (u .log)) (drop i (u .log)) parts in
+        let z : g .0 ≡ w .handed = leads-one (λ T T₁ T₂ k r q. left r q) (taken-replayed (g .1)) (rw e at (w .led)) in
+        let m = survived c h .many in
+        let most : i ≤ length (u .log) = omega (arith, ap length run-records, records-length (take (room-for k) l′)) in
+        record { rest = drop i (u .log); parts = rw e parts; many = rw e (length-take-le i (u .log) most); taken = rw (sym z, e) (g .1) }
 
 -- an order whose run begins with the records kept goes on as the unbroken run did
 pub unbroken : {d : Asked} {xs : List ℤ} {t r : List ℕ} {n : ℕ} {t₁ r₁ : List ℕ} (u : RunOf d xs t r n t₁ r₁) {l b : List ℕ} {k j : ℕ} {t′ l′ : List ℕ} (w : RecoveryOf d xs t l b k j t′ l′) (rest : List Record) →
@@ -264,6 +275,8 @@ recovery = record {
   stops-there = λ o w g. let s = as-stopped w in led-replayed (front-led s) (s .many) (front-stands s) g;
   counts-lines = λ o w. let r = as-recovery w in cut-newlines (r .cut) ∙ ap suc (sym (r .many));
   first-line-cut = λ o h f w. first-cut o h f w;
+  takes-up = λ c led h o f w. taken-up c led h o f w;
+  first-ones = λ c led h o w. first-ones c led h w;
   honest = λ o u c h o₂ f w. honest-done u c h o₂ f w;
   survives = λ o u c h o₂ w. honest-stage u c h w;
   same-order = λ o {l = l} {n = n} d c w.
@@ -272,11 +285,13 @@ recovery = record {
       (r .0, r .1, r .2 ∙ (λ i. whole-log u i ++ drop (room-for (u .count i)) l) ∙ sym (u .logged));
   any-room = λ o d c w. as-written (thinned-run (as-done d)) c (as-recovery w);
   begun-alike = λ o u w rest h. in-room u w rest h;
+  stages-kept = λ o w h. replayed-kept (w .skin .stage) h;
   keeps = λ o w p q e. keeps w p q e;
   shifts-within = λ d read w p q e v h a r. added-shifts d read w p q e v h a r;
   volumes-near = λ o w h a r. log-volume (w .skin) h a r;
   changes-near = λ o w h i a r. log-change (w .skin) h i a r;
   restores = λ o w g. let r = as-recovery w in led-restored (whole-led r) (whole-many r) (whole-stands r) g;
+  restores-from = λ o w p q e h g. led-restored-from (whole-led w) p q e h (whole-many w) (rest-of (whole-stands w) p q e) g;
   stops-restores = λ o w g. let s = as-stopped w in led-restored (front-led s) (s .many) (front-stands s) g;
   replays = λ o w g. let r = as-recovery w in led-replayed (whole-led r) (whole-many r) (whole-stands r) g;
   writes = λ o w h g. let r = as-recovery w in can-write (rw (whole-stands r) (part-writable (whole-led r) _ (r .skin .stage) (whole-led r .leads) (omega arith))) h g;

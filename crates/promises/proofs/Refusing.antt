@@ -170,11 +170,11 @@ recover-skin (recovering.refused f er et el) g = refused-passes (first-one verdi
 recover-skin (recovering.stopped f s c w er et el) g = s
 recover-skin (recovering.done f s c w eb q er et el) g = s
 
-recover-stopped : {d : Asked} {xs : List ℤ} {t l b : List ℕ} (k : ℕ) {t′ l′ : List ℕ} → recovering.RecoveredAs d xs t l b (recovered.Stopped k) t′ l′ → {kept : List ℕ} → CutOf b (corners xs) (length (rows t)) kept →
-    First (recovering.recover-refusals d xs t (length l) b) Passes × (T : List Row) × Followed (replaying (corners xs) t kept) (regrown.Stopped k) T × (t′ ≡ zeroed T t) × (l′ ≡ take (room-for k) kept ++ drop (room-for k) l)
+recover-stopped : {d : Asked} {xs : List ℤ} {t l b : List ℕ} (k : ℕ) {t′ l′ : List ℕ} → recovering.RecoveredAs d xs t l b (recovered.Stopped k) t′ l′ → {log : List ℕ} → CutOf b (corners xs) (length (rows t)) log →
+    First (recovering.recover-refusals d xs t (length l) b) Passes × (T : List Row) × Followed (replaying (corners xs) t log) (regrown.Stopped k) T × (t′ ≡ zeroed T t) × (l′ ≡ take (room-for k) log ++ drop (room-for k) l)
 recover-stopped k (recovering.refused f er et el) cut = recovers.stopped-refused er
 recover-stopped k (recovering.done f s c w eb q er et el) cut = recovers.done-stopped (sym er)
-recover-stopped {xs = xs} {t} {l} k (recovering.stopped {k = k₁} {reached = T} f s c w er et el) {kept} cut =
+recover-stopped {xs = xs} {t} {l} k (recovering.stopped {k = k₁} {reached = T} f s c w er et el) cut =
     let e : k₁ ≡ k = cc in
     let n = one-cut c cut .numbers in
     (f, T, rw (n, e) at w, et, el ∙ (λ i. take (room-for (e i)) (n i) ++ drop (room-for (e i)) l))

@@ -92,8 +92,15 @@ pub record Recovery : Type 0 where
   -- "A cut inside the first line": no newline survived; where order, skin and room pass, it is 12
   pub first-line-cut : (o : Order) {xs : List ℤ} {t l b : List ℕ} {a : Recovered} {t′ l′ : List ℕ} → newlines b ≡ 0 → First (thin-refusals (asked o) xs t (length l)) Passes →
       RecoveredBy o xs t l b a t′ l′ → recoveries.told a ≡ answers.refused-as 12
-  -- a log that thinning wrote under any order, cut after any byte past its first line: where order, skin and room pass, recovery is done, with as many
-  -- records kept as whole `K` lines survived
+  -- a log that leads on from the first table, whoever wrote it, cut after any byte past its first line: where order, skin and room pass, recovery is done,
+  -- with as many records kept as whole `K` lines survived
+  pub takes-up : {xs : List ℤ} {t log b : List ℕ} → CutShort xs t log b → {T : List Row} → Replayed (rows t) (records log) T → {i : ℕ} → newlines b ≡ suc i →
+      (o : Order) {l t′ l′ : List ℕ} {a : Recovered} → First (thin-refusals (asked o) xs t (length l)) Passes → RecoveredBy o xs t l b a t′ l′ →
+      (j : ℕ) × (recoveries.told a ≡ answers.done (pos i ∷ pos j ∷ []))
+  -- these are its first ones, and the stage handed over is the one that they lead to
+  pub first-ones : {xs : List ℤ} {t log b : List ℕ} → CutShort xs t log b → {T : List Row} → Replayed (rows t) (records log) T → {i : ℕ} → newlines b ≡ suc i →
+      (o : Order) {l : List ℕ} {k j : ℕ} {t′ l′ : List ℕ} (w : RecoveryOf (asked o) xs t l b k j t′ l′) → (records (w .kept) ≡ take i (records log)) × Replayed (rows t) (take i (records log)) (w .handed)
+  -- so of a log that thinning wrote under any order
   pub honest : (o : Order) {xs : List ℤ} {t r : List ℕ} {n : ℕ} {t₁ r₁ : List ℕ} → RunOf (asked o) xs t r n t₁ r₁ → {b : List ℕ} → CutShort xs t (take (room-for n) r₁) b → {i : ℕ} → newlines b ≡ suc i →
       (o₂ : Order) {l t′ l′ : List ℕ} {a : Recovered} → First (thin-refusals (asked o₂) xs t (length l)) Passes → RecoveredBy o₂ xs t l b a t′ l′ →
       (j : ℕ) × (recoveries.told a ≡ answers.done (pos i ∷ pos j ∷ []))
@@ -106,15 +113,19 @@ pub record Recovery : Type 0 where
   -- in another room, in front of it
   pub any-room : (o : Order) {xs : List ℤ} {t r : List ℕ} {n : ℕ} {t₁ r₁ : List ℕ} → DoneWith o xs t r n t₁ r₁ → {b : List ℕ} → CutShort xs t (take (room-for n) r₁) b →
       {l : List ℕ} {k j : ℕ} {t′ l′ : List ℕ} → RecoveredWith o xs t l b k j t′ l′ → (j ≡ n) × (t′ ≡ t₁) × (l′ ≡ take (room-for n) r₁ ++ drop (room-for n) l)
-  -- and so ends any log whose records are the first of that order's own run, whoever wrote it
+  -- and so does every recovery that is done from records that are the first of that order's own run, whoever wrote them
   pub begun-alike : (o : Order) {xs : List ℤ} {t r : List ℕ} {n : ℕ} {t₁ r₁ : List ℕ} (u : RunOf (asked o) xs t r n t₁ r₁) {l b : List ℕ} {k j : ℕ} {t′ l′ : List ℕ} (w : RecoveryOf (asked o) xs t l b k j t′ l′) (rest : List Record) →
       u .log ≡ records (w .kept) ++ rest → (j ≡ n) × (t′ ≡ t₁) × (l′ ≡ take (room-for n) r₁ ++ drop (room-for n) l)
+  -- after any records of the first skin that replay, as those of the log and its beginnings do, a closed oriented stage stands, of its Euler number, with two
+  -- rows and one used corner fewer for each
+  pub stages-kept : (o : Order) {xs : List ℤ} {t l b : List ℕ} {k j : ℕ} {t′ l′ : List ℕ} → RecoveryOf (asked o) xs t l b k j t′ l′ → {p : List Record} {T₁ : List Row} → Replayed (rows t) p T₁ →
+      KeptAfter (corners xs) (rows t) p T₁
   -- after each beginning p of the records added a closed oriented stage stands, of the first table's Euler number, with two rows and one used corner fewer for
   -- each record, whoever wrote it
   pub keeps : (o : Order) {xs : List ℤ} {t l b : List ℕ} {k j : ℕ} {t′ l′ : List ℕ} (w : RecoveryOf (asked o) xs t l b k j t′ l′) (p q : List Record) → w .added ≡ p ++ q →
       (T₁ : List Row) × Taken (Allowed (w .bound) xs) (w .handed) p T₁ × KeptAfter (corners xs) (rows t) (records (w .kept) ++ p) T₁
   -- "demand 3's shift bound ... only for the steps that recovery adds, with stand-ins and counts started afresh at the stage handed over": by the added part of
-  -- the log, or a beginning of it, every first corner lies within k x L of its stand-in
+  -- the log, or a beginning of it, every corner lies within k x L of its stand-in; one that left before stands for itself, with count 0
   pub shifts-within : (d : Length) {L : ℕ} → limit-of d ≡ Whole L → {xs : List ℤ} {t l b : List ℕ} {k j : ℕ} {t′ l′ : List ℕ} (w : RecoveryOf (asked (Limit d)) xs t l b k j t′ l′) (p q : List Record) → w .added ≡ p ++ q →
       (v : ℕ) → v < corners xs → (a : Shifted) → ShiftReport xs (take (room-for (length p)) (drop (room-for k) l′)) v (shifts.told a) → Bounded L a
   -- the volume of each stage that records of the first skin lead to is within half a cubic metre of exact, and each change too, whoever wrote them
@@ -125,7 +136,11 @@ pub record Recovery : Type 0 where
   -- growing back the whole log that recovery leaves restores the first table, number for number, whoever wrote its beginning
   pub restores : (o : Order) {xs : List ℤ} {t l b : List ℕ} {k j : ℕ} {t′ l′ : List ℕ} → RecoveredWith o xs t l b k j t′ l′ → {a : Regrown} {r : List ℕ} →
       GrownAs (corners xs) (length (rows t) - 2 * j) t′ (take (room-for j) l′) a r → (regrowths.told a ≡ answers.done (pos j ∷ [])) × (r ≡ t)
-  -- on 13 too
+  -- and from record i on, the table before record i; p are the first i of its records, whoever wrote them
+  pub restores-from : (o : Order) {xs : List ℤ} {t l b : List ℕ} {k j : ℕ} {t′ l′ : List ℕ} (w : RecoveryOf (asked o) xs t l b k j t′ l′) (p q : List Record) → records (w .kept) ++ w .added ≡ p ++ q →
+      {T₁ : List Row} → Replayed (rows t) p T₁ → {a : Regrown} {r : List ℕ} →
+      GrownAs (corners xs) (length (rows t) - 2 * j) t′ (drop (room-for (length p)) (take (room-for j) l′)) a r → (regrowths.told a ≡ answers.done (pos (length q) ∷ [])) × (r ≡ zeroed T₁ t)
+  -- on 13 the whole log restores the first table too
   pub stops-restores : (o : Order) {xs : List ℤ} {t l b : List ℕ} {k : ℕ} {t′ l′ : List ℕ} → StoppedWith o xs t l b k t′ l′ → {a : Regrown} {r : List ℕ} →
       GrownAs (corners xs) (length (rows t) - 2 * k) t′ (take (room-for k) l′) a r → (regrowths.told a ≡ answers.done (pos k ∷ [])) × (r ≡ t)
   -- replaying it from the first table does every record, and leaves what recovery left

@@ -106,10 +106,10 @@ pub record DemandOne : Type 0 where
   pub recover : (o : Order) {xs : List ℤ} {t l b : List ℕ} {a : Recovered} {t′ l′ : List ℕ} → RecoveredBy o xs t l b a t′ l′ → Refuses (recover-refusals (asked o) xs t (length l) b) (recoveries.told a)
   pub recover-same : (o : Order) {xs : List ℤ} {t l b : List ℕ} {a : Recovered} {t′ l′ : List ℕ} → RecoveredBy o xs t l b a t′ l′ → (r : Refusal) → recoveries.told a ≡ refused r → (t′ ≡ t) × (l′ ≡ l)
   -- exactly when no refusal of the list holds and the records of the whole lines stop after so many; the stage reached and its records are left
-  pub recover-fails : (o : Order) {xs : List ℤ} {t l b : List ℕ} {a : Recovered} {t′ l′ : List ℕ} → RecoveredBy o xs t l b a t′ l′ → {kept : List ℕ} → CutOf b (corners xs) (length (rows t)) kept →
-      ((k : ℕ) (T : List Row) → First (recover-refusals (asked o) xs t (length l) b) Passes → Followed (replaying (corners xs) t kept) (Stopped k) T → recoveries.told a ≡ recoveries.fails-after k)
-      × ((k : ℕ) → recoveries.told a ≡ recoveries.fails-after k → First (recover-refusals (asked o) xs t (length l) b) Passes × (T : List Row) × Followed (replaying (corners xs) t kept) (Stopped k) T
-      × (t′ ≡ zeroed T t) × (l′ ≡ take (room-for k) kept ++ drop (room-for k) l))
+  pub recover-fails : (o : Order) {xs : List ℤ} {t l b : List ℕ} {a : Recovered} {t′ l′ : List ℕ} → RecoveredBy o xs t l b a t′ l′ → {log : List ℕ} → CutOf b (corners xs) (length (rows t)) log →
+      ((k : ℕ) (T : List Row) → First (recover-refusals (asked o) xs t (length l) b) Passes → Followed (replaying (corners xs) t log) (Stopped k) T → recoveries.told a ≡ recoveries.fails-after k)
+      × ((k : ℕ) → recoveries.told a ≡ recoveries.fails-after k → First (recover-refusals (asked o) xs t (length l) b) Passes × (T : List Row) × Followed (replaying (corners xs) t log) (Stopped k) T
+      × (t′ ≡ zeroed T t) × (l′ ≡ take (room-for k) log ++ drop (room-for k) l))
   pub open-log : {b : List ℕ} {a : Opened} → OpenedLog b a → Refuses (open-refusals b) (told-opened a)
   -- 12 exactly where a byte follows the place and no record's line stands there; by a reader too, at its own place
   pub next-record : {b : List ℕ} {at : ℕ} {a : Next} → NextRecord b at a → (at < length b → ((ns : List ℕ) → ¬ LineStands b at ns) → told-next a ≡ refused-as 12)

@@ -135,15 +135,15 @@ module _ {a : Asked} {xs : List ℤ} {t l b : List ℕ} where
   pub stopped-run : {k : ℕ} {t′ l′ : List ℕ} → RecoveredAs a xs t l b (Stopped k) t′ l′ → StoppedOf xs t l b k t′ l′
   stopped-run (refused f er et el) = stopped-refused er
   stopped-run (done f s c w eb q er et el) = done-stopped (sym er)
-  stopped-run {k} {t′} {l′} (stopped {kept = kept} {k = k₁} {reached = reached} f s c w er et el) = go w
+  stopped-run {k} {t′} {l′} (stopped {log = log} {k = k₁} {reached = reached} f s c w er et el) = go w
     where
       ek : k ≡ k₁
       ek = cc
 
-      go : Followed (replaying (corners xs) t kept) (following.Stopped k₁) reached → StoppedOf xs t l b k t′ l′
+      go : Followed (replaying (corners xs) t log) (following.Stopped k₁) reached → StoppedOf xs t l b k t′ l′
       go (all v e) = absurd (regrown-apart .finished-stopped {r = RecordFails} (sym e))
       go (some front next rest {r = r} q v g e) = record {
-        kept = kept;
+        log = log;
         front = front;
         next = next;
         rest = rest;
@@ -156,7 +156,7 @@ module _ {a : Asked} {xs : List ℤ} {t l b : List ℕ} where
         led = v;
         fails = g .0;
         table = et;
-        logged = el ∙ (λ i. take (room-for (sym ek i)) kept ++ drop (room-for (sym ek i)) l);
+        logged = el ∙ (λ i. take (room-for (sym ek i)) log ++ drop (room-for (sym ek i)) l);
       }
 
   -- the answer tells the first refusal that holds; else 0 and two counts, or 13 and the records done

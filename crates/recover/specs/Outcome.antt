@@ -34,14 +34,14 @@ abbrev pub recover-refusals : Asked → List ℤ → List ℕ → ℕ → List �
 recover-refusals a xs t room b = thin-refusals a xs t room ++ cut-refusals b (corners xs) (length (rows t))
 
 -- the answer r to recovering, as a asks, the skin with the table t over the corners xs from the bytes b with the log room l, and what then stands in table
--- and room. The records kept are those of `kept`, the log of b's whole lines; they are followed as replay follows a log
+-- and room. The records of b's whole lines are followed as replay follows a log
 pub data RecoveredAs (a : Asked) (xs : List ℤ) (t l b : List ℕ) (r : Recovered) (t′ l′ : List ℕ) : Type 0 where
   -- "on all but 13 nothing is changed"
   refused : {e : Refusal} → First (recover-refusals a xs t (length l) b) (verdict.Refused e) → r ≡ Refused e → t′ ≡ t → l′ ≡ l → RecoveredAs a xs t l b r t′ l′
   -- "a record that will not replay is 13, as in 01, leaving the stage reached and its records"
-  stopped : {kept : List ℕ} {k : ℕ} {reached : List Row} → First (recover-refusals a xs t (length l) b) verdict.Passes → Skin (corners xs) (rows t) xs →
-      CutOf b (corners xs) (length (rows t)) kept → Followed (replaying (corners xs) t kept) (following.Stopped k) reached →
-      r ≡ Stopped k → t′ ≡ zeroed reached t → l′ ≡ take (room-for k) kept ++ drop (room-for k) l → RecoveredAs a xs t l b r t′ l′
+  stopped : {log : List ℕ} {k : ℕ} {reached : List Row} → First (recover-refusals a xs t (length l) b) verdict.Passes → Skin (corners xs) (rows t) xs →
+      CutOf b (corners xs) (length (rows t)) log → Followed (replaying (corners xs) t log) (following.Stopped k) reached →
+      r ≡ Stopped k → t′ ≡ zeroed reached t → l′ ≡ take (room-for k) log ++ drop (room-for k) l → RecoveredAs a xs t l b r t′ l′
   -- all replay: the stage is handed over, and "Recovery then goes on thinning under the order that the caller lends again"
   done : {kept : List ℕ} {k : ℕ} {handed : List Row} {bound : Bound} {added : List Record} {last : List Row} → First (recover-refusals a xs t (length l) b) verdict.Passes →
       Skin (corners xs) (rows t) xs → CutOf b (corners xs) (length (rows t)) kept → Followed (replaying (corners xs) t kept) (following.Done k) handed →

@@ -36,19 +36,19 @@ pub record RecoveryOf (a : Asked) (xs : List ℤ) (t l b : List ℕ) (k all : �
   pub table : t′ ≡ zeroed last t
   pub logged : l′ ≡ kept ++ (log-of added ++ drop (room-for all) l)
 
--- stopped at 13: the first k records kept lead to the stage reached, and the next one does not replay there
+-- stopped at 13: the first k records of the whole lines lead to the stage reached, and the next one does not replay there
 pub record StoppedOf (xs : List ℤ) (t l b : List ℕ) (k : ℕ) (t′ l′ : List ℕ) : Type 0 where
-  pub kept : List ℕ
+  pub log : List ℕ
   pub front : List Record
   pub next : Record
   pub rest : List Record
   pub reached : List Row
   pub whole : length t % 3 ≡ 0
   pub skin : Skin (corners xs) (rows t) xs
-  pub cut : CutOf b (corners xs) (length (rows t)) kept
-  pub parts : records kept ≡ front ++ next ∷ rest
+  pub cut : CutOf b (corners xs) (length (rows t)) log
+  pub parts : records log ≡ front ++ next ∷ rest
   pub many : length front ≡ k
   pub led : Replayed (rows t) front reached
   pub fails : (T : List Row) → ¬ Replays reached next T
   pub table : t′ ≡ zeroed reached t
-  pub logged : l′ ≡ take (room-for k) kept ++ drop (room-for k) l
+  pub logged : l′ ≡ take (room-for k) log ++ drop (room-for k) l
