@@ -23,6 +23,8 @@ const MOST_RECORDS: usize = 60;
 /// So many are longer, and so many places are drawn in each, besides the end of each line.
 const LONGER: usize = 4;
 const DRAWN: usize = 200;
+/// A skin of more rows than this is large.
+const LARGE: usize = 400;
 /// So many recoveries of a log are followed by what is asked of the table and log that they leave.
 const ASKED: usize = 6;
 
@@ -39,30 +41,39 @@ pub fn run(bench: &mut Bench, chance: &mut Chance) {
 }
 
 fn after_every_byte(bench: &mut Bench, number: usize, chance: &mut Chance) {
-    let log = Written::new(number, short_skin, 1..=MOST_RECORDS, chance);
+    let least = if is_small(number) { 1 } else { MOST_RECORDS / 2 };
+    let log = Written::new(number, short_skin, least..=MOST_RECORDS, chance);
     bench.tally.meet("a log cut after every byte");
-    recovered(bench, &log, (0..=log.text.len()).collect(), &EVERY_BYTE, chance);
+    recovered(bench, &log, (0..=log.text.len()).flat_map(both).collect(), &EVERY_BYTE, chance);
 }
 
-/// A longer log: the end of each line, and places drawn.
+/// A cut with each of the two orders.
+fn both(cut: usize) -> [(usize, usize); 2] {
+    [(cut, 0), (cut, 1)]
+}
+
+/// A longer log: the end of each line, and places drawn. On a large skin the ends are left to the order that wrote it.
 fn anywhere(bench: &mut Bench, number: usize, chance: &mut Chance) {
     let log = Written::new(number, long_skin, MOST_RECORDS + 1..=usize::MAX, chance);
     bench.tally.meet("a longer log cut");
-    let mut cuts = line_starts(&log.text);
-    cuts.extend((0..DRAWN).map(|_| chance.below(log.text.len() + 1)));
-    recovered(bench, &log, cuts, &LONGER_LOGS, chance);
+    let orders = if log.skin.rows.len() > LARGE { 1 } else { 2 };
+    let ends = line_starts(&log.text).into_iter().flat_map(|cut| both(cut).into_iter().take(orders));
+    let drawn = (0..DRAWN).flat_map(|_| both(chance.below(log.text.len() + 1)));
+    recovered(bench, &log, ends.chain(drawn).collect(), &LONGER_LOGS, chance);
 }
 
 /// The kinds of cuts, under the order that wrote the log and under another.
 const EVERY_BYTE: [&str; 2] = ["cuts: every byte, the same order", "cuts: every byte, another order"];
 const LONGER_LOGS: [&str; 2] = ["cuts: longer logs, the same order", "cuts: longer logs, another order"];
 
+/// All but one in 25: a large one has many bytes, and each costs more.
+fn is_small(number: usize) -> bool {
+    number % 25 != 24
+}
+
 /// Spheres, tori and shafts in turn, most of them small.
 fn short_skin(number: usize, chance: &mut Chance) -> Skin {
-    let records = match number % 25 {
-        24 => MOST_RECORDS - chance.below(20),
-        _ => 2 + chance.below(14),
-    };
+    let records = if is_small(number) { 2 + chance.below(14) } else { MOST_RECORDS - chance.below(20) };
     let corners = records + FEWEST;
     match number % 3 {
         0 => make::skin_of_genus(0, 2 * corners - 4, chance),
@@ -72,13 +83,26 @@ fn short_skin(number: usize, chance: &mut Chance) -> Skin {
     }
 }
 
-/// A sphere that has the most records there can be, a shaft, a torus, and a larger shaft.
+/// A sphere that has the most records there can be, a torus of nearly as many, and shafts.
 fn long_skin(number: usize, chance: &mut Chance) -> Skin {
     match number {
         0 => make::skin_of_genus(0, MOST_ROWS, chance),
         1 => make::shaft(300, chance),
-        2 => make::skin_of_genus(1, 200, chance),
-        _ => make::shaft(640, chance),
+        2 => make::skin_of_genus(1, MOST_ROWS, chance),
+        _ => make::shaft(600, chance),
+    }
+}
+
+/// Another order: a limit where the first has none, none or another where it has one. On a large skin it is a short one,
+/// as each of some hundred stages is thinned on under it here.
+fn another(order: Order, skin: &Skin, chance: &mut Chance) -> Order {
+    let drawn = if skin.rows.len() > LARGE { 8 } else { 1 };
+    let limits: Vec<Order> = (0..drawn).map(|_| typed::parting(skin, chance)).collect();
+    let shortest = limits.into_iter().min_by_key(|&limit| limit_of(limit)).unwrap_or(NO_LIMIT);
+    if order != NO_LIMIT && skin.rows.len() <= LARGE && chance.one_in(2) {
+        NO_LIMIT
+    } else {
+        shortest
     }
 }
 
@@ -96,8 +120,7 @@ struct Written {
 }
 
 impl Written {
-    /// A log of so many records: without a limit, or, every other one, under a limit that parts the edges. The other
-    /// order has a limit where this has none, and none or another where this has one.
+    /// A log of so many records: without a limit, or, every other one, under a limit that parts the edges.
     fn new(
         number: usize,
         some_skin: fn(usize, &mut Chance) -> Skin,
@@ -106,11 +129,8 @@ impl Written {
     ) -> Written {
         loop {
             let skin = some_skin(number, chance);
-            let parting = typed::parting(&skin, chance);
-            let (order, other) = match number % 2 {
-                0 => (NO_LIMIT, parting),
-                _ => (parting, if chance.one_in(2) { NO_LIMIT } else { typed::parting(&skin, chance) }),
-            };
+            let order = if number.is_multiple_of(2) { NO_LIMIT } else { typed::parting(&skin, chance) };
+            let other = another(order, &skin, chance);
             let (Some(limit), Some(other_limit)) = (limit_of(order), limit_of(other)) else { continue };
             let log = thin(skin.rows.clone(), &skin.corners, limit).1;
             if limit == other_limit || !records.contains(&log.len()) {
@@ -151,13 +171,18 @@ impl Written {
     }
 }
 
-/// Recovers a log from each cut under both orders.
-fn recovered(bench: &mut Bench, log: &Written, cuts: Vec<usize>, kinds: &[&'static str; 2], chance: &mut Chance) {
+/// Recovers a log from cuts, each under one of its two orders.
+fn recovered(
+    bench: &mut Bench,
+    log: &Written,
+    cuts: Vec<(usize, usize)>,
+    kinds: &[&'static str; 2],
+    chance: &mut Chance,
+) {
     let unbroken = unbroken(bench, log);
     let mut left = [0, 1].map(|_| vec![None; log.log.len() + 1]);
-    let pairs: Vec<(usize, usize)> = cuts.into_iter().flat_map(|cut| [(cut, 0), (cut, 1)]).collect();
-    let asked: Vec<(usize, usize)> = (0..ASKED).map(|_| chance.pick(&pairs)).collect();
-    let calls = pairs.into_iter().map(|(cut, which)| {
+    let asked: Vec<(usize, usize)> = (0..ASKED).map(|_| chance.pick(&cuts)).collect();
+    let calls = cuts.into_iter().map(|(cut, which)| {
         let request = log.request(log.orders[which], cut);
         let expected = match log_sheet::recover(&log.text[..cut]) {
             Err(number) => Rc::new(Response::untouched(&request, vec![number, 0, 0])),
