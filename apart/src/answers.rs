@@ -32,6 +32,7 @@ pub fn answer(request: &Request) -> Response {
         WRITE_LOG_SHEET => log_sheet_written(request),
         READ_LOG_SHEET => log_sheet_read(request),
         READ_RECORDS => records_read(request),
+        RECOVER => recovered(request),
         OPEN_LOG_SHEET => log_sheet_opened(request),
         RECORD_AT => record_at(request),
         _ => unreachable!("a request has one of the calls"),
@@ -41,7 +42,8 @@ pub fn answer(request: &Request) -> Response {
 /// What the call asks before it works, in its order (13, and all that a sheet is asked, come in the work).
 pub fn questions(request: &Request) -> Vec<Question<'_>> {
     match request.call {
-        THIN => thin_questions(request),
+        // Recovery is given the first skin, the room and the order as thinning is, at the same places.
+        THIN | RECOVER => thin_questions(request),
         GROW_BACK => grow_questions(request),
         REPLAY => replay_questions(request),
         VOLUME => stage_questions(request, &[0], 1),
@@ -76,6 +78,15 @@ fn whole(request: &Request, at: usize) -> usize {
 
 fn limit(request: &Request) -> Option<u64> {
     whole_centimetres(request.arguments[0][0], request.arguments[1][0] as u64)
+}
+
+/// The limit of a thinning order, where it has one; it was asked before.
+fn order(request: &Request) -> Option<u64> {
+    if request.arguments[0][0] == 0 {
+        None
+    } else {
+        limit(request)
+    }
 }
 
 /// Refused: the number, zeros, every buffer untouched.
@@ -120,8 +131,7 @@ fn thin_questions(request: &Request) -> Vec<Question<'_>> {
 }
 
 fn thinned(request: &Request) -> Response {
-    let order = if request.arguments[0][0] == 0 { None } else { limit(request) };
-    let (rows, log) = thin(rows_of(&numbers(request, 2)), &corners_of(&coordinates(request, 3)), order);
+    let (rows, log) = thin(rows_of(&numbers(request, 2)), &corners_of(&coordinates(request, 3)), order(request));
     let mut response = done(request, &[log.len() as Word]);
     over_and_zeros(&mut response.lent[0], &rows);
     over(&mut response.lent[1], &log.concat());
@@ -315,4 +325,26 @@ fn record_at(request: &Request) -> Response {
         Ok(None) => done(request, &[vec![0, request.arguments[1][0]], vec![0; WIDTH]].concat()),
         Err(number) => refused(request, number),
     }
+}
+
+/// The sheet is asked after the skin: its form (12), its counts against the skin's and its records against the corners
+/// (2). Then its records are replayed, and thinning goes on from the stage handed over, but not where one fails (13).
+fn recovered(request: &Request) -> Response {
+    let (rows, corners) = (rows_of(&numbers(request, 2)), corners_of(&coordinates(request, 3)));
+    let sheet = match log_sheet::recover(&bytes(request, 5)) {
+        Ok(sheet) => sheet,
+        Err(number) => return refused(request, number),
+    };
+    let other_counts = (sheet.corners, sheet.rows) != (corners.len(), rows.len());
+    if other_counts || sheet.log.len() > most_records(corners.len()) {
+        return refused(request, 2);
+    }
+    let stage = replay(rows, &sheet.log);
+    let mut response = reached(request, &stage);
+    let (left, added) = if stage.whole { thin(stage.rows, &corners, order(request)) } else { (stage.rows, vec![]) };
+    let log = [&sheet.log[..stage.done], &added].concat();
+    response.answer.push(log.len() as Word);
+    over_and_zeros(&mut response.lent[0], &left);
+    over(&mut response.lent[1], &log.concat());
+    response
 }

@@ -6,6 +6,8 @@ use crate::desk;
 use crate::pipe::{Driven, LATE};
 use crate::protocol::{bytes_of, Request, Response, Word};
 use crate::tally::{difference, written, Tally};
+use std::collections::VecDeque;
+use std::rc::Rc;
 use std::time::Duration;
 
 /// How long a driven program may take to answer, to end where it must, and once it has been silent a few times.
@@ -13,6 +15,17 @@ pub const PATIENCE: Duration = Duration::from_secs(60);
 pub const END: Duration = Duration::from_secs(10);
 const LITTLE_PATIENCE: Duration = Duration::from_secs(2);
 const FEW: usize = 3;
+/// The places of the kept programs: one for calls that are waited for, two for calls worked beside each other.
+const ALONE: usize = 0;
+const BESIDE: [usize; 2] = [1, 2];
+
+/// A call that is worked beside another, what it must answer, and what it is about.
+pub struct Sent<T> {
+    pub kind: &'static str,
+    pub request: Request,
+    pub expected: Rc<Response>,
+    pub about: T,
+}
 
 pub struct Bench {
     pub calls_path: String,
@@ -24,7 +37,7 @@ pub struct Bench {
     only: Option<Vec<usize>>,
     /// The command of the whole run, for what no single call shows again.
     whole: String,
-    calls: Option<Driven>,
+    calls: [Option<Driven>; 3],
     silent: usize,
 }
 
@@ -37,7 +50,7 @@ impl Bench {
             wanted,
             only: None,
             whole,
-            calls: None,
+            calls: [None, None, None],
             silent: 0,
         }
     }
@@ -85,14 +98,27 @@ impl Bench {
 
     /// The driven program's response, from a process that is kept until it fails.
     pub fn ask(&mut self, request: &Request) -> Result<Response, String> {
-        let mut calls = match self.calls.take() {
-            Some(calls) => calls,
-            None => Driven::start(&self.calls_path)?,
-        };
-        calls.send(bytes_of(&request.words()));
+        self.send(ALONE, request)?;
+        self.hear(ALONE, request)
+    }
+
+    /// Sends a request to one of the kept programs.
+    fn send(&mut self, place: usize, request: &Request) -> Result<(), String> {
+        if self.calls[place].is_none() {
+            self.calls[place] = Some(Driven::start(&self.calls_path)?);
+        }
+        if let Some(calls) = &mut self.calls[place] {
+            calls.send(bytes_of(&request.words()));
+        }
+        Ok(())
+    }
+
+    /// The response to the request that was sent there.
+    fn hear(&mut self, place: usize, request: &Request) -> Result<Response, String> {
+        let mut calls = self.calls[place].take().ok_or("the program did not start")?;
         let response = calls.response(request.shape().lent().count(), self.patience(PATIENCE));
         let response = self.heed(response)?;
-        self.calls = Some(calls);
+        self.calls[place] = Some(calls);
         Ok(response)
     }
 
@@ -118,13 +144,57 @@ impl Bench {
             return None;
         }
         self.tally.note(request, expected);
-        let (wrong, found) = match self.ask(request) {
+        let found = self.ask(request);
+        self.compare(kind, ALONE, request, expected, found)
+    }
+
+    /// Compares calls that hang on none before them, two at a time, and hands on, in their order, what was found of
+    /// those that agree.
+    pub fn try_all<T>(
+        &mut self,
+        calls: impl Iterator<Item = Sent<T>>,
+        mut then: impl FnMut(&mut Bench, Sent<T>, Response),
+    ) {
+        let mut waiting = VecDeque::new();
+        let mut heard = |bench: &mut Bench, (place, call, sent): (usize, Sent<T>, Result<(), String>)| {
+            let found = sent.and_then(|()| bench.hear(place, &call.request));
+            if let Some(found) = bench.compare(call.kind, place, &call.request, &call.expected, found) {
+                then(bench, call, found);
+            }
+        };
+        for (call, place) in calls.zip(BESIDE.into_iter().cycle()) {
+            if self.enough() || !self.drives(call.request.call) {
+                break;
+            }
+            // A program has one request at a time.
+            if waiting.len() == BESIDE.len() {
+                if let Some(first) = waiting.pop_front() {
+                    heard(self, first);
+                }
+            }
+            self.tally.note(&call.request, &call.expected);
+            let sent = self.send(place, &call.request);
+            waiting.push_back((place, call, sent));
+        }
+        waiting.into_iter().for_each(|call| heard(self, call));
+    }
+
+    /// Notes what came of a call: the response where it is what must be answered.
+    fn compare(
+        &mut self,
+        kind: &str,
+        place: usize,
+        request: &Request,
+        expected: &Response,
+        found: Result<Response, String>,
+    ) -> Option<Response> {
+        let (wrong, found) = match found {
             Ok(found) => (difference(request, expected, &found), Some(found)),
             Err(why) => (Some(format!("{}: {why}", request.named())), None),
         };
         if wrong.is_some() {
             // What a program that errs has still to write must not be read as its next answer.
-            self.calls = None;
+            self.calls[place] = None;
         }
         let path = self.calls_path.clone();
         let passed = self.tally.verdict(kind, wrong, || format!("apart again {path} '{}'", written(&request.words())));

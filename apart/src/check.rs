@@ -10,6 +10,7 @@ use crate::limit::whole_centimetres;
 use crate::mail;
 use crate::make::Skin;
 use crate::protocol::*;
+use crate::recovery;
 use crate::skin::{is_stage, rows_of, Edges, Row, MOST_CORNERS};
 use crate::step::{contract, meets_link_condition, WIDTH};
 use crate::tally::MANY_ROWS;
@@ -64,6 +65,7 @@ pub fn run(bench: &mut Bench, skin: &Skin, order: (i64, u64), chance: &mut Chanc
     if skin.rows.len() > MANY_ROWS || chance.one_in(4) {
         let counts = [skin.corners.len() as Word, skin.rows.len() as Word];
         mail::mailed(bench, "run: its log mailed", counts, &run.log, chance);
+        recovered(bench, &run, chance);
     }
 }
 
@@ -133,6 +135,21 @@ fn grown_back(bench: &mut Bench, run: &Run, chance: &mut Chance) {
     let expected = [words(&run.skin.table()), room[need as usize..].to_vec()].concat();
     let holds = found.answer == [0, run.records() as Word] && found.lent[0] == expected;
     bench.property("run: growing back gives the first table", holds, "it does not", &request);
+}
+
+/// The log's sheet cut anywhere behind its first line: recovered under the same order, the run ends where it did.
+fn recovered(bench: &mut Bench, run: &Run, chance: &mut Chance) {
+    let text = mail::some_sheet(run.skin, &numbers(&run.log));
+    let first = mail::line_starts(&text)[1];
+    let cut = first + chance.below(text.len() - first + 1);
+    let room = recovery::log_room(run.skin, chance.pick(&[0, 0, 9]), chance);
+    let request = recovery::recover_request(run.order, run.skin, room.clone(), &text[..cut]);
+    let Some(found) = bench.try_call("run: its log cut and recovered", &request) else { return };
+    let zeros = vec![0; 3 * (run.skin.rows.len() - run.left.len())];
+    let table = [words(&run.left.concat()), zeros].concat();
+    let log = [&run.log, &room[run.log.len()..]].concat();
+    let holds = found.answer[0] == 0 && found.answer[2] == run.records() as Word && found.lent == [table, log];
+    bench.property("run: recovery ends as the run did", holds, "it does not", &request);
 }
 
 /// Every table that the records lead to, step by step, is a stage of the skin's Euler number.

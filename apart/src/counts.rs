@@ -3,6 +3,7 @@
 use crate::bench::Bench;
 use crate::chance::Chance;
 use crate::harm::{scribble, words};
+use crate::mail::{text_of, text_words};
 use crate::make::{octahedron, tetrahedron};
 use crate::protocol::*;
 use crate::skin::{FEWEST, MOST_CORNERS, MOST_ROWS};
@@ -22,6 +23,7 @@ pub fn run(bench: &mut Bench, chance: &mut Chance) {
     records_grown(bench, chance);
     records_replayed(bench);
     log_lengths(bench, chance);
+    table_lengths(bench, chance);
 }
 
 fn t() -> Vec<Word> {
@@ -39,6 +41,9 @@ fn corners(bench: &mut Bench, chance: &mut Chance) {
             let coordinates: Vec<Word> = (0..3 * count + over).map(|_| chance.between(-300, 300)).collect();
             let room = scribble(WIDTH as i64 * (count - FEWEST as i64), chance);
             attempt(bench, THIN, [&[0], &[0], &t(), &coordinates, &room]);
+            // A sheet of the counts that are given: where they pass, the rows are asked next.
+            let sheet = text_words(&text_of([count, FEWEST as Word], &[]));
+            attempt(bench, RECOVER, [&[0], &[0], &t(), &coordinates, &room, &sheet]);
             attempt(bench, VOLUME, [&t(), &coordinates]);
             attempt(bench, CHANGE, [&t(), &t(), &coordinates]);
             attempt(bench, SHIFT, [&[0], &coordinates, &[]]);
@@ -94,5 +99,17 @@ fn log_lengths(bench: &mut Bench, chance: &mut Chance) {
         attempt(bench, REPLAY, [&[6], &words(&octahedron().concat()), &log]);
         let room = [t(), scribble(12, chance)].concat();
         attempt(bench, GROW_BACK, [&[4], &[6], &room, &log]);
+    }
+}
+
+/// Tables of every small length, and at the most rows, for thinning and for recovery.
+fn table_lengths(bench: &mut Bench, chance: &mut Chance) {
+    let most = 3 * MOST_ROWS;
+    for length in (0..=14).chain(most - 1..=most + 3) {
+        let table: Vec<Word> = t().into_iter().cycle().take(length).collect();
+        let room = scribble(chance.pick(&[0, 0, 1]), chance);
+        let sheet = text_words(&text_of([FEWEST as Word, length as Word / 3], &[]));
+        attempt(bench, THIN, [&[0], &[0], &table, &[7; 12], &room]);
+        attempt(bench, RECOVER, [&[0], &[0], &table, &[7; 12], &room, &sheet]);
     }
 }

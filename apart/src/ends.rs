@@ -31,7 +31,8 @@ pub fn run(bench: &mut Bench, chance: &mut Chance) {
 fn small_request(call: usize, chance: &mut Chance) -> Request {
     let skin = make::skin_of_genus(0, 10, chance);
     if !asked(call).is_empty() {
-        let log = if LOG_SHEET_CALLS.contains(&call) { steps(&skin.rows, 2, chance).1 } else { vec![] };
+        let on_sheet = call == RECOVER || LOG_SHEET_CALLS.contains(&call);
+        let log = if on_sheet { steps(&skin.rows, 2, chance).1 } else { vec![] };
         let mut input = Input::new(&skin, &log);
         input.order = (3, 100f64.to_bits());
         return input.request(call, chance);
@@ -56,7 +57,8 @@ fn must_end(bench: &mut Bench, kind: &str, bad: &[u8], behind: Behind, chance: &
     if bench.enough() {
         return;
     }
-    let honest = small_request(bench.some_call(&[THIN, VOLUME, LIMIT, CATCH_UP, READ_LOG_SHEET], chance), chance);
+    let calls = [THIN, VOLUME, LIMIT, CATCH_UP, READ_LOG_SHEET, RECOVER];
+    let honest = small_request(bench.some_call(&calls, chance), chance);
     let words = bytes_of(&honest.words());
     let more: &[u8] = if behind == Behind::More { &words } else { &[] };
     let sent = [&words, bad, more].concat();

@@ -29,6 +29,8 @@ pub enum Harm {
     SheetSize,
     SheetFirstLine,
     SheetLines,
+    /// A first line of a log sheet whose counts are not the skin's.
+    OtherCounts,
 }
 
 use Harm::*;
@@ -38,7 +40,7 @@ impl Harm {
     pub fn number(self) -> i64 {
         match self {
             Limit => 1,
-            Counts | Records => 2,
+            Counts | Records | OtherCounts => 2,
             Room => 3,
             Coordinate => 4,
             Number => 5,
@@ -73,6 +75,10 @@ pub fn asked(call: usize) -> Vec<Harm> {
         // All lines before any count.
         READ_LOG_SHEET => vec![SheetSize, SheetFirstLine, SheetLines, Counts, Records, Room],
         READ_RECORDS => form.to_vec(),
+        RECOVER => {
+            let sheet = [SheetSize, SheetFirstLine, SheetLines, OtherCounts, Records];
+            [&asked(THIN)[..], &sheet, &[Log]].concat()
+        }
         OPEN_LOG_SHEET => vec![SheetSize, SheetFirstLine, Counts],
         RECORD_AT => vec![SheetLines],
         _ => vec![],
@@ -120,9 +126,11 @@ impl Input {
         let [count, told] = self.counts().map(|n| n as Word);
         let (unit, bits) = (self.order.0, self.order.1 as Word);
         let arguments = match call {
-            THIN => {
+            THIN | RECOVER => {
                 let need = WIDTH as i64 * (self.coordinates.len() as i64 / 3 - FEWEST as i64);
-                vec![vec![unit], vec![bits], table, coordinates, scribble(need + self.spare, chance)]
+                let room = scribble(need + self.spare, chance);
+                let sheet = (call == RECOVER).then(|| self.log_sheet(&OF_CUT_LOG_SHEETS, chance));
+                [vec![vec![unit], vec![bits], table, coordinates, room], sheet.into_iter().collect()].concat()
             }
             GROW_BACK => {
                 let need = 3 * (self.table.len() / 3 + 2 * (log.len() / WIDTH)) as i64;
@@ -145,10 +153,12 @@ impl Input {
                 let need = log_sheet::write(count as u64, told as u64, &self.log).len() as i64;
                 vec![vec![count], vec![told], log, scribble_bytes((need + self.spare).max(0) as usize, chance)]
             }
-            READ_LOG_SHEET => vec![self.log_sheet(chance), scribble(log.len() as i64 + self.spare, chance)],
-            READ_RECORDS | OPEN_LOG_SHEET => vec![self.log_sheet(chance)],
+            READ_LOG_SHEET => {
+                vec![self.log_sheet(&OF_LOG_SHEETS, chance), scribble(log.len() as i64 + self.spare, chance)]
+            }
+            READ_RECORDS | OPEN_LOG_SHEET => vec![self.log_sheet(&OF_LOG_SHEETS, chance)],
             RECORD_AT => {
-                let sheet = self.log_sheet(chance);
+                let sheet = self.log_sheet(&OF_LOG_SHEETS, chance);
                 let place = self.record_place(&sheet, chance) as Word;
                 vec![sheet, vec![place]]
             }
@@ -164,11 +174,14 @@ impl Input {
     }
 
     /// The log's sheet as words, its harms done.
-    fn log_sheet(&self, chance: &mut Chance) -> Vec<Word> {
-        let [count, rows] = self.counts();
-        let mut text = log_sheet::write(count, rows, &self.log);
+    fn log_sheet(&self, most: &Most, chance: &mut Chance) -> Vec<Word> {
+        let mut counts = self.counts();
+        if self.text.contains(&OtherCounts) {
+            counts = other_counts(counts, chance);
+        }
+        let mut text = log_sheet::write(counts[0], counts[1], &self.log);
         for &harm in &self.text {
-            harm_text(&mut text, &OF_LOG_SHEETS, harm, chance);
+            harm_text(&mut text, most, harm, chance);
         }
         text.into_iter().map(Word::from).collect()
     }
@@ -225,7 +238,9 @@ pub fn scribble_bytes(length: usize, chance: &mut Chance) -> Vec<Word> {
 /// Does one harm. Harms of one input touch different rows, so that none undoes another.
 pub fn harm(input: &mut Input, call: usize, harm: Harm, chance: &mut Chance) {
     let on_sheet = matches!(call, READ_SHEET | DESK_ANSWER);
-    let counts_on_sheet = call_of(call).is_some_and(Call::reads_sheet);
+    // Recovery is given a skin in lists and a log on a sheet.
+    let counts_on_sheet = call != RECOVER && call_of(call).is_some_and(Call::reads_sheet);
+    let first_table = on_sheet || matches!(call, THIN | RECOVER);
     let count = input.coordinates.len() as u32 / 3;
     match harm {
         Limit => input.order = typed::unusable(chance),
@@ -247,7 +262,7 @@ pub fn harm(input: &mut Input, call: usize, harm: Harm, chance: &mut Chance) {
         Reverse => drop(input.table.drain(9..12)),
         Unused => add_unused(input, chance),
         Rings => {
-            if chance.one_in(2) || !pinch(input, on_sheet || call == THIN) {
+            if chance.one_in(2) || !pinch(input, first_table) {
                 add_tetrahedron(input, 3, chance);
             }
         }
@@ -256,8 +271,8 @@ pub fn harm(input: &mut Input, call: usize, harm: Harm, chance: &mut Chance) {
             let more = WIDTH * (most_records(count as usize) + 1 + chance.pick(&[0, 0, 1, 50]));
             input.log = input.log.iter().copied().cycle().take(more).collect();
         }
-        Log => harm_record(&mut input.log, count, chance),
-        SheetSize | SheetFirstLine | SheetLines => input.text.push(harm),
+        Log => harm_record(&mut input.log, count, call == RECOVER, chance),
+        SheetSize | SheetFirstLine | SheetLines | OtherCounts => input.text.push(harm),
     }
 }
 
@@ -341,10 +356,10 @@ fn add_tetrahedron(input: &mut Input, new: u32, chance: &mut Chance) {
 
 /// A length or count outside its limits, by one of the ways the call has.
 fn harm_counts(input: &mut Input, call: usize, chance: &mut Chance) {
-    let lists = matches!(call, THIN | VOLUME | CHANGE | SHIFT);
+    let lists = matches!(call, THIN | VOLUME | CHANGE | SHIFT | RECOVER);
     let logs = matches!(call, GROW_BACK | REPLAY | SHIFT | WRITE_LOG_SHEET);
     let told = matches!(call, GROW_BACK | WRITE_LOG_SHEET);
-    let tables = matches!(call, THIN | REPLAY | VOLUME | CHANGE);
+    let tables = matches!(call, THIN | REPLAY | VOLUME | CHANGE | RECOVER);
     loop {
         match chance.below(10) {
             0 if tables => drop(input.table.split_off(input.table.len() - 1 - chance.below(2))),
@@ -377,14 +392,14 @@ fn hostile_count(honest: u64, chance: &mut Chance) -> u64 {
     chance.pick(&[0, 1, 3, most + 1, cut[0], cut[1], 1 << 62, 1 << 63, third + honest, u64::MAX])
 }
 
-/// Spoils the kept or removed number of a record so that it can't be accepted.
-fn harm_record(log: &mut [u32], count: u32, chance: &mut Chance) {
+/// Spoils the kept or removed number of a record so that it can't be accepted; on a sheet it stays a number.
+fn harm_record(log: &mut [u32], count: u32, on_sheet: bool, chance: &mut Chance) {
     let at = WIDTH * chance.below(log.len() / WIDTH);
     match chance.below(4) {
         0 => log.swap(at, at + 1),
         1 => log[at] = log[at + 1],
         2 => log[at + 1] = log[at],
-        _ => log[at + 1] = number_outside(count, false, chance),
+        _ => log[at + 1] = number_outside(count, on_sheet, chance),
     }
 }
 
@@ -413,10 +428,43 @@ struct Most {
     corners: usize,
     rows: usize,
     bytes: usize,
+    /// Whether the last newline may go for a line in bad form: of a log sheet that was cut, only a tail would be left.
+    last_newline: bool,
 }
 
-const OF_SHEETS: Most = Most { corners: sheet::MOST_CORNERS, rows: sheet::MOST_ROWS, bytes: sheet::MOST_BYTES };
-const OF_LOG_SHEETS: Most = Most { corners: MOST_CORNERS, rows: MOST_ROWS, bytes: log_sheet::MOST_BYTES };
+const OF_SHEETS: Most =
+    Most { corners: sheet::MOST_CORNERS, rows: sheet::MOST_ROWS, bytes: sheet::MOST_BYTES, last_newline: true };
+const OF_LOG_SHEETS: Most =
+    Most { corners: MOST_CORNERS, rows: MOST_ROWS, bytes: log_sheet::MOST_BYTES, last_newline: true };
+const OF_CUT_LOG_SHEETS: Most = Most { last_newline: false, ..OF_LOG_SHEETS };
+
+/// Counts that are not these: beside them, the other way round, at the limits, past them, and some that come back when
+/// cut to 8 or 16 bits.
+pub fn other_counts(honest: [u64; 2], chance: &mut Chance) -> [u64; 2] {
+    let [corners, rows] = honest;
+    let (most_corners, most_rows) = (MOST_CORNERS as u64, MOST_ROWS as u64);
+    loop {
+        let other = chance.pick(&[
+            [corners + 1, rows],
+            [corners.saturating_sub(1), rows],
+            [corners, rows + 1],
+            [corners, rows.saturating_sub(2)],
+            [corners + 1, rows + 2],
+            [rows, corners],
+            [corners + 256, rows],
+            [corners, rows + (1 << 16)],
+            [most_corners, most_rows],
+            [most_corners + 1, rows],
+            [corners, most_rows + 1],
+            [3, rows],
+            [0, 0],
+            [sheet::GREATEST as u64, rows],
+        ]);
+        if other != honest {
+            return other;
+        }
+    }
+}
 
 /// Harm to the text of a sheet.
 fn harm_text(text: &mut Vec<u8>, most: &Most, harm: Harm, chance: &mut Chance) {
@@ -437,8 +485,11 @@ fn harm_text(text: &mut Vec<u8>, most: &Most, harm: Harm, chance: &mut Chance) {
             let (corners, rows) = chance.pick(&counts);
             text.splice(name..first, format!("\t{corners}\t{rows}\n").bytes());
         }
+        // It was written with them.
+        OtherCounts => {}
         _ => {
-            let at = first + chance.below(text.len() - first);
+            let end = if most.last_newline { text.len() } else { text.len() - 1 };
+            let at = first + chance.below(end - first);
             text[at] = chance.pick(b" +xX\r,.\0");
         }
     }

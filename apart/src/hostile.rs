@@ -24,16 +24,16 @@ pub fn tables(bench: &mut Bench, chance: &mut Chance) {
     let corners = (0..count as i32).map(|n| [n, n * n, -n]).collect();
     let skin = Skin { rows: all[..rows.min(all.len())].to_vec(), corners, genus: 0, name: "any rows" };
     let input = Input::new(&skin, &[]);
-    for call in [THIN, VOLUME, REPLAY] {
+    for call in [THIN, VOLUME, REPLAY, RECOVER] {
         bench.try_call("chance: tables of any rows", &input.request(call, chance));
     }
 }
 
 /// The calls that are given any words.
 #[rustfmt::skip]
-pub const WORDS: [usize; 14] = [
+pub const WORDS: [usize; 15] = [
     THIN, GROW_BACK, REPLAY, VOLUME, CHANGE, SHIFT, LIMIT, READ_SHEET, DESK_ANSWER, WRITE_LOG_SHEET, READ_LOG_SHEET,
-    READ_RECORDS, OPEN_LOG_SHEET, RECORD_AT,
+    READ_RECORDS, RECOVER, OPEN_LOG_SHEET, RECORD_AT,
 ];
 
 /// Any words of the right type, up to the type's ends.

@@ -1,5 +1,5 @@
 //! The log sheet of 02's request 1: its form, read strictly by lines and fields, whole and record by record, and
-//! written.
+//! written; and what request 3 still reads of one that was cut.
 
 use crate::desk;
 use crate::refusal::BAD_FORM;
@@ -60,6 +60,21 @@ pub fn read(bytes: &[u8]) -> Result<LogSheet, i64> {
         return Err(2);
     }
     Ok(sheet)
+}
+
+/// The bytes up to the last newline: what follows it is the unfinished tail.
+pub fn whole_lines(bytes: &[u8]) -> &[u8] {
+    let end = bytes.iter().rposition(|&byte| byte == b'\n').map_or(0, |last| last + 1);
+    &bytes[..end]
+}
+
+/// A sheet cut after any byte: size, then the form of the lines that end in a newline, a first line among them (12).
+/// Its counts are held against the skin's, and by no limit of their own.
+pub fn recover(bytes: &[u8]) -> Result<LogSheet, i64> {
+    if bytes.len() > MOST_BYTES {
+        return Err(BAD_FORM);
+    }
+    in_form(whole_lines(bytes)).ok_or(BAD_FORM)
 }
 
 /// Size, first line (12), its counts (2): corners, rows, and the place after the line. No other line is looked at.

@@ -120,7 +120,7 @@ fn records(bench: &mut Bench, chance: &mut Chance) {
 
 /// First lines to put in place of O's; a few of them are honest.
 #[rustfmt::skip]
-const FIRST_LINES: [&str; 42] = [
+pub const FIRST_LINES: [&str; 42] = [
     "LOG\t6\t8\t", "LOG\t6", "LOG\t6\t8\t8", "LOG", "LOG\t", "", "\t", "LOG\t-6\t8", "LOG\t6\t-8", "LOG\t06\t8",
     "LOG\t6\t08", "LOG\t+6\t8", "LOG\t6\t+8", "LOG\t000006\t8", "LOG\t0000006\t8", "LOG\t1000000\t8", "LOG\t6\t1000000",
     "LOG\t999999\t8", "LOG\t-0\t8", "LOG\t5\t8", "LOG\t7\t8", "LOG\t6\t9", " LOG\t6\t8", "LOG \t6\t8", "LOG\t 6\t8",
@@ -130,13 +130,13 @@ const FIRST_LINES: [&str; 42] = [
 ];
 /// Fields to put in place of one of a record's; a few of them are honest.
 #[rustfmt::skip]
-const FIELDS: [&str; 24] = [
+pub const FIELDS: [&str; 24] = [
     "", "00", "01", "-1", "-0", "+1", " 1", "1 ", "1\r", "1\t", "\t1", "999999", "1000000", "0999999", "000001",
     "0000001", "4294967296", "18446744073709551617", "1e3", "1.0", "x", "1\0", "1-", "\u{661}",
 ];
 /// Lines to put in place of a record's; one of them is honest.
 #[rustfmt::skip]
-const LINES: [&str; 18] = [
+pub const LINES: [&str; 18] = [
     "", "K", "K\t", "\t0\t0\t0\t0\t0\t0\t0\t0\t0\t0", "0\t0\t0\t0\t0\t0\t0\t0\t0\t0", "K\t0\t0\t0\t0\t0\t0\t0\t0\t0",
     "K\t0\t0\t0\t0\t0\t0\t0\t0\t0\t0", "K\t0\t0\t0\t0\t0\t0\t0\t0\t0\t0\t0", "K\t0\t0\t0\t0\t0\t0\t0\t0\t0\t0\t",
     "k\t0\t0\t0\t0\t0\t0\t0\t0\t0\t0", "KK\t0\t0\t0\t0\t0\t0\t0\t0\t0\t0", "R\t0\t0\t0\t0\t0\t0\t0\t0\t0\t0",
@@ -211,7 +211,7 @@ fn bytes(bench: &mut Bench, chance: &mut Chance) {
 }
 
 /// A sheet in form of just so many bytes: records of one digit a number, and more digits in the first as it needs.
-fn in_form(counts: [Word; 2], length: usize) -> Vec<u8> {
+pub fn in_form(counts: [Word; 2], length: usize) -> Vec<u8> {
     let first = text_of(counts, &[]).len();
     let records = (length - first) / SHORTEST_LINE;
     let mut log = vec![0; WIDTH * records];

@@ -177,7 +177,7 @@ fn skin_log(skin: &Skin, chance: &mut Chance) -> Vec<u32> {
     some_log(skin, chance).1.concat()
 }
 
-fn counts_of(skin: &Skin) -> [Word; 2] {
+pub fn counts_of(skin: &Skin) -> [Word; 2] {
     [skin.corners.len() as Word, skin.rows.len() as Word]
 }
 
@@ -187,13 +187,20 @@ pub fn honest(bench: &mut Bench, skin: &Skin, chance: &mut Chance) {
     mailed(bench, "chance: logs mailed", counts_of(skin), &log, chance);
 }
 
-fn some_sheet(skin: &Skin, log: &[u32]) -> Vec<u8> {
+/// The sheet of a skin's log, whatever its numbers are.
+pub fn some_sheet(skin: &Skin, log: &[u32]) -> Vec<u8> {
     log_sheet::write(skin.corners.len() as u64, skin.rows.len() as u64, log)
 }
 
 /// A round with one to three bytes of a log sheet spoiled anywhere.
 pub fn spoiled(bench: &mut Bench, skin: &Skin, chance: &mut Chance) {
     let mut text = some_sheet(skin, &skin_log(skin, chance));
+    spoil_text(&mut text, chance);
+    read(bench, "chance: spoiled log sheets", &text, chance);
+}
+
+/// Spoils one to three bytes of a log sheet.
+pub fn spoil_text(text: &mut Vec<u8>, chance: &mut Chance) {
     for _ in 0..1 + chance.below(3) {
         // An early byte as often as any: the first line is short.
         let end = chance.pick(&[20, text.len()]).min(text.len());
@@ -205,7 +212,6 @@ pub fn spoiled(bench: &mut Bench, skin: &Skin, chance: &mut Chance) {
             _ => text[at] = chance.pick(b"0123456789\t\n-KLOG \r\0\xff"),
         }
     }
-    read(bench, "chance: spoiled log sheets", &text, chance);
 }
 
 /// A round over every byte of a small log sheet, by one call: all replaced, dropped, doubled, or cut off there.

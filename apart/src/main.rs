@@ -6,7 +6,8 @@ use apart::chance::Chance;
 use apart::protocol::{bytes_of, call_of, Request, CALLS};
 use apart::spoil::Spoiler;
 use apart::tally::{difference, words_of};
-use apart::{answers, counts, desk, ends, lines, log_sheets, order, round, serve, sheets, sums, sweep, trial};
+use apart::{answers, counts, cuts, desk, ends, lines, log_sheets, order, recovery, round};
+use apart::{serve, sheets, sums, sweep, trial};
 use std::io::Read;
 use std::process::ExitCode;
 
@@ -91,8 +92,9 @@ fn calls_of(text: &str) -> Option<Vec<usize>> {
 type Part = fn(&mut Bench, u64);
 
 /// The parts after the lines of `trials`: 01's cases, the order of refusals, the sweeps, the ends, then rounds of
-/// chance up to the count.
-const PARTS: [(&str, Part); 12] = [
+/// chance up to the count. Those behind them come to more calls than a run is asked for: a whole run makes them beside
+/// its count.
+const PARTS: [(&str, Part); 14] = [
     ("trial", |bench, seed| trial::run(bench, &mut own(seed, 0))),
     ("alone", |bench, seed| order::alone(bench, &mut own(seed, 1))),
     ("order", |bench, seed| order::run(bench, 3, &mut own(seed, 2))),
@@ -105,7 +107,11 @@ const PARTS: [(&str, Part); 12] = [
     ("returning", |bench, seed| round::returning(bench, &mut own(seed, 8))),
     ("greatest", |bench, seed| round::greatest(bench, &mut own(seed, 9))),
     ("rounds", rounds),
+    ("recovery", |bench, seed| recovery::run(bench, &mut own(seed, 11))),
+    ("cuts", |bench, seed| cuts::run(bench, &mut own(seed, 12))),
 ];
+/// So many of them are made up to the count.
+const COUNTED: usize = 12;
 
 /// A part has chance of its own, so that it does not hang on those before it.
 fn own(seed: u64, part: u64) -> Chance {
@@ -136,7 +142,10 @@ fn run([calls, desk, trials]: [&str; 3], count: usize, seed: u64) -> bool {
 
 /// Every part in turn up to the count; a whole run must have met each call that it drives.
 fn every_part(bench: &mut Bench, count: usize, seed: u64) {
-    for (_, part) in PARTS {
+    for (at, (_, part)) in PARTS.into_iter().enumerate() {
+        if at == COUNTED && count >= WHOLE_RUN {
+            bench.wanted = usize::MAX;
+        }
         if !bench.enough() {
             part(bench, seed);
         }

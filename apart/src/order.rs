@@ -85,9 +85,13 @@ fn holding(request: &Request) -> Vec<i64> {
 fn compare(bench: &mut Bench, kind: &str, request: &Request, harms: &[Harm]) {
     let holding = holding(request);
     let seen = |harm: &Harm| holding.contains(&harm.number());
-    // A length outside its limits may cut another harm off; 13 and a sheet's lines are seen in the work alone.
-    let apart = harms[0] == Harm::Counts || request.shape().reads_sheet();
-    let there = apart || harms.iter().all(|harm| *harm == Harm::Log || seen(harm));
+    // 13 and what a sheet is asked are seen in the work alone; recovery is given its skin beside its sheet.
+    let in_work = |harm: &Harm| match request.call {
+        RECOVER => !asked(THIN).contains(harm),
+        _ => *harm == Harm::Log || request.shape().reads_sheet(),
+    };
+    // A length outside its limits may cut another harm off.
+    let there = harms[0] == Harm::Counts || harms.iter().all(|harm| in_work(harm) || seen(harm));
     let status = refusal_told(&answer(request));
     if !there || status != harms[0].number() {
         let what = format!("harms {harms:?} on call {} were not done: {holding:?}, answer {status}", request.call);
@@ -112,7 +116,7 @@ fn refusal_told(response: &Response) -> i64 {
 /// Honest skins with one thing that alone calls for 5, 6, 7 or 8, and nothing else wrong.
 pub fn alone(bench: &mut Bench, chance: &mut Chance) {
     for number in [5, 6, 7, 8] {
-        for call in [THIN, GROW_BACK, REPLAY, VOLUME, CHANGE, READ_SHEET] {
+        for call in [THIN, GROW_BACK, REPLAY, VOLUME, CHANGE, READ_SHEET, RECOVER] {
             let mut input = Input::new(&make::skin_of_genus(0, 16, chance), &[]);
             lone_harm(&mut input, number);
             let request = input.request(call, chance);

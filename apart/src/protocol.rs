@@ -103,6 +103,7 @@ pub const DESK_ANSWER: usize = 12;
 pub const WRITE_LOG_SHEET: usize = 13;
 pub const READ_LOG_SHEET: usize = 14;
 pub const READ_RECORDS: usize = 15;
+pub const RECOVER: usize = 16;
 pub const OPEN_LOG_SHEET: usize = 24;
 pub const RECORD_AT: usize = 25;
 pub const LOG_SHEET_CALLS: [usize; 5] = [WRITE_LOG_SHEET, READ_LOG_SHEET, READ_RECORDS, OPEN_LOG_SHEET, RECORD_AT];
@@ -110,7 +111,7 @@ pub const LOG_SHEET_CALLS: [usize; 5] = [WRITE_LOG_SHEET, READ_LOG_SHEET, READ_R
 use Kind::*;
 
 /// The calls in the order of their numbers; the numbers between are kept for later requests.
-pub static CALLS: [Call; 17] = [
+pub static CALLS: [Call; 18] = [
     call(
         THIN,
         "thin",
@@ -152,6 +153,19 @@ pub static CALLS: [Call; 17] = [
     ),
     call(READ_LOG_SHEET, "read a log sheet", 4, &[read("bytes", Bytes), lent("log", Numbers)]),
     call(READ_RECORDS, "log records one at a time", 4, &[read("bytes", Bytes)]),
+    call(
+        RECOVER,
+        "recover",
+        3,
+        &[
+            read("unit", OrderUnit),
+            read("bits", Whole),
+            lent("table", Numbers),
+            read("corners", Coordinates),
+            lent("log", Numbers),
+            read("bytes", Bytes),
+        ],
+    ),
     call(OPEN_LOG_SHEET, "open a log sheet", 4, &[read("bytes", Bytes)]),
     call(RECORD_AT, "the record at a place", 3 + WIDTH, &[read("bytes", Bytes), read("place", Whole)]),
 ];

@@ -4,7 +4,7 @@
 pub const BAD_FORM: i64 = 12;
 /// A record that does not grow back or replay.
 pub const FAILS: i64 = 13;
-/// Those that come before the rows are looked at.
+/// Those that come before the rows are looked at, but for recovery's 12, and 2 after it.
 pub const BEFORE_ROWS: [i64; 4] = [1, 2, 3, BAD_FORM];
 /// All that there are: a whole run must meet each.
 pub const ALL: [i64; 13] = [1, 2, 3, 4, 5, 6, 7, 8, 9, 10, 11, BAD_FORM, FAILS];

@@ -10,6 +10,7 @@ use crate::mail;
 use crate::make::{self, Skin};
 use crate::place;
 use crate::protocol::*;
+use crate::recovery;
 use crate::sheets;
 use crate::skin::{FARTHEST, MOST_CORNERS, MOST_ROWS};
 use crate::step::{contract, EARLIER, LATER, WIDTH};
@@ -33,7 +34,7 @@ struct Round {
     run: fn(&mut Bench, &Skin, &mut Chance),
 }
 
-static ROUNDS: [Round; 21] = [
+static ROUNDS: [Round; 23] = [
     Round { share: 12, calls: &[THIN], run: whole_run },
     Round { share: 20, calls: &[THIN], run: thinned },
     Round { share: 12, calls: &DAMAGED, run: damaged },
@@ -47,15 +48,20 @@ static ROUNDS: [Round; 21] = [
     Round { share: 4, calls: &[READ_SHEET, DESK_ANSWER], run: sheets::honest },
     Round { share: 4, calls: &[READ_SHEET], run: sheets::spoiled },
     Round { share: 4, calls: &[], run: sheets::on_the_desk },
-    Round { share: 4, calls: &[THIN, VOLUME, REPLAY], run: |bench, _, chance| hostile::tables(bench, chance) },
-    Round { share: 4, calls: &[THIN, READ_SHEET, DESK_ANSWER], run: stage_for_first },
+    Round { share: 4, calls: &[THIN, VOLUME, REPLAY, RECOVER], run: |bench, _, chance| hostile::tables(bench, chance) },
+    Round { share: 4, calls: &FIRST_TABLES, run: stage_for_first },
     Round { share: 4, calls: &hostile::WORDS, run: |bench, _, chance| hostile::words(bench, chance) },
     Round { share: 2, calls: &LOG_SHEET_CALLS, run: mail::honest },
     Round { share: 4, calls: &mail::READING, run: mail::spoiled },
     Round { share: 1, calls: &mail::READING, run: mail::byte_by_byte },
     Round { share: 2, calls: &LOG_SHEET_CALLS, run: |bench, _, chance| mail::any_numbers(bench, chance) },
     Round { share: 2, calls: &mail::READING, run: |bench, _, chance| mail::of_pieces(bench, chance) },
+    Round { share: 12, calls: &[RECOVER], run: recovery::honest },
+    Round { share: 12, calls: &[RECOVER], run: recovery::spoiled },
 ];
+
+/// The calls that ask for a first table.
+const FIRST_TABLES: [usize; 4] = [THIN, READ_SHEET, DESK_ANSWER, RECOVER];
 
 /// The kinds of round that make a call which is driven; the desk's alone makes none.
 fn rounds(bench: &Bench) -> impl Iterator<Item = &'static Round> + '_ {
@@ -81,7 +87,7 @@ fn large_call(bench: &mut Bench, skin: &Skin, chance: &mut Chance) {
     let mut input = Input::new(skin, &log);
     input.order = order;
     let kind = "chance: large skins";
-    match chance.below(7) {
+    match chance.below(8) {
         0 | 1 => bench.try_call(kind, &input.request(THIN, chance)),
         2 => bench.try_call(kind, &input.request(READ_SHEET, chance)),
         3 => bench.try_call(kind, &input.request(REPLAY, chance)),
@@ -93,6 +99,7 @@ fn large_call(bench: &mut Bench, skin: &Skin, chance: &mut Chance) {
             input.later = left.concat();
             bench.try_call(kind, &input.request(CHANGE, chance))
         }
+        6 => bench.try_call(kind, &input.request(RECOVER, chance)),
         _ => bench.try_call(kind, &input.request(DESK_ANSWER, chance)),
     };
 }
@@ -110,16 +117,16 @@ fn stage_for_first(bench: &mut Bench, skin: &Skin, chance: &mut Chance) {
     let (left, _) = some_log(skin, chance);
     let mut input = Input::new(skin, &[]);
     input.table = left.concat();
-    for call in [THIN, READ_SHEET, DESK_ANSWER] {
+    for call in FIRST_TABLES {
         bench.try_call("chance: stages for a first table", &input.request(call, chance));
     }
 }
 
-/// The calls that are harmed, thinning twice as often.
+/// The calls that are harmed, thinning and recovery twice as often.
 #[rustfmt::skip]
-const DAMAGED: [usize; 14] = [
+const DAMAGED: [usize; 16] = [
     THIN, THIN, GROW_BACK, REPLAY, VOLUME, CHANGE, SHIFT, READ_SHEET, DESK_ANSWER, WRITE_LOG_SHEET, READ_LOG_SHEET,
-    READ_RECORDS, OPEN_LOG_SHEET, RECORD_AT,
+    READ_RECORDS, RECOVER, RECOVER, OPEN_LOG_SHEET, RECORD_AT,
 ];
 
 /// One to three harms at once on any call that can refuse.
@@ -191,7 +198,8 @@ fn spoiled(bench: &mut Bench, skin: &Skin, chance: &mut Chance) {
     bench.try_call("chance: spoiled logs", &input.request(call, chance));
 }
 
-fn spoil(log: &mut Vec<u32>, count: u32, chance: &mut Chance) {
+/// Spoils a log of at least one record.
+pub fn spoil(log: &mut Vec<u32>, count: u32, chance: &mut Chance) {
     let records = log.len() / WIDTH;
     let at = WIDTH * chance.below(records);
     let record = &mut log[at..at + WIDTH];

@@ -38,6 +38,8 @@ impl Spoiler {
     /// Counts a response; spoils it, and says how, where its turn has come.
     fn in_turn(&self, spoil: impl FnOnce(&mut Chance) -> String) -> io::Result<()> {
         let mut answered = OpenOptions::new().create(true).append(true).open(self.folder.join("answered"))?;
+        // Two programs may answer at the same time; the lock ends with the file.
+        answered.lock()?;
         let before = answered.metadata()?.len();
         answered.write_all(b".")?;
         if self.place != Some(before) {

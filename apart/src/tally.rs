@@ -28,7 +28,7 @@ pub struct Tally {
 }
 
 /// What a whole run must have met at least once, besides every refusal.
-const MUST_MEET: [&str; 21] = [
+const MUST_MEET: [&str; 28] = [
     "a sphere",
     "a torus",
     "genus 2",
@@ -50,6 +50,13 @@ const MUST_MEET: [&str; 21] = [
     "more records one at a time than the corners allow",
     "a log sheet of the most bytes",
     "the longest answer",
+    "recovery that did some records before 13",
+    "recovery that replayed some records and went on",
+    "recovery that replayed the most records",
+    "recovery from a sheet of the most bytes",
+    "a log cut after every byte",
+    "a longer log cut",
+    "another order that ended elsewhere",
 ];
 
 impl Tally {
@@ -92,6 +99,7 @@ impl Tally {
         let partly = status == refusal::FAILS && expected.answer[1] > 0;
         self.meet_if(partly && request.call == GROW_BACK, "growing back that did some records before 13");
         self.meet_if(partly && request.call == REPLAY, "replay that did some records before 13");
+        self.meet_if(partly && request.call == RECOVER, "recovery that did some records before 13");
         if status == 0 {
             self.note_log_sheet(request, expected);
         }
@@ -109,6 +117,13 @@ impl Tally {
                 let bytes = request.arguments[0].len();
                 self.meet_if(bytes == log_sheet::MOST_BYTES, "a log sheet of the most bytes");
                 self.meet_if(expected.answer.len() == LONGEST_ANSWER, "the longest answer");
+            }
+            RECOVER => {
+                let [replayed, all] = [expected.answer[1], expected.answer[2]];
+                self.meet_if(0 < replayed && replayed < all, "recovery that replayed some records and went on");
+                self.meet_if(replayed == most as Word, "recovery that replayed the most records");
+                let bytes = request.arguments[5].len();
+                self.meet_if(bytes == log_sheet::MOST_BYTES, "recovery from a sheet of the most bytes");
             }
             _ => {}
         }
@@ -192,7 +207,7 @@ impl Tally {
 fn rows_worked(request: &Request) -> usize {
     let length = |at: usize| request.arguments[at].len() / 3;
     match request.call {
-        THIN => length(2),
+        THIN | RECOVER => length(2),
         GROW_BACK => (request.arguments[0][0] as usize).saturating_add(2 * (request.arguments[3].len() / WIDTH)),
         REPLAY => length(1),
         VOLUME => length(0),

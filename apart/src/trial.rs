@@ -1,5 +1,6 @@
-//! 01's own cases: its trial skins, its slips, its limits and its sheet; and its O as the log sheet of 02. What is
-//! expected here is copied from them, and both the driven programs and this program's own rules are held to it.
+//! 01's own cases: its trial skins, its slips, its limits and its sheet; and its O as the log sheet of 02, cut and
+//! recovered. What is expected here is copied from them, or worked by hand on O, and both the driven programs and this
+//! program's own rules are held to it.
 
 use crate::answers::answer;
 use crate::bench::Bench;
@@ -20,7 +21,10 @@ const T_CORNERS: [Corner; 4] = [[0, 0, 0], [300, 0, 0], [0, 300, 0], [0, 0, 300]
 pub const O_CORNERS: [Corner; 6] = [[0, 0, 100], [100, 0, 0], [0, 100, 0], [-100, 0, 0], [0, -100, 0], [0, 0, -100]];
 pub const O_LEFT: [Row; 4] = [[0, 3, 4], [5, 3, 0], [5, 4, 3], [5, 0, 4]];
 pub const O_LOG: [Record; 2] = [[0, 1, 0, 0, 1, 2, 3, 0, 4, 1], [0, 2, 0, 0, 2, 3, 2, 5, 2, 0]];
+/// After the first record: rows 0 and 3 have left, and 0 stands where 1 stood.
+const O_AFTER_ONE: [Row; 6] = [[0, 2, 3], [0, 3, 4], [5, 2, 0], [5, 3, 2], [5, 4, 3], [5, 0, 4]];
 const REQUEST_1: &str = "02, request 1";
+const REQUEST_3: &str = "02, request 3";
 /// `LOG`, corners, rows; then O's two `K` lines, as 01 has them.
 const O_LOG_SHEET: &str = "LOG\t6\t8\nK\t0\t1\t0\t0\t1\t2\t3\t0\t4\t1\nK\t0\t2\t0\t0\t2\t3\t2\t5\t2\t0\n";
 const O_TEXT: &str = "OK\t4\t2\t1\t0\nR\t0\t3\t4\nR\t5\t3\t0\nR\t5\t4\t3\nR\t5\t0\t4\n\
@@ -34,6 +38,7 @@ pub fn run(bench: &mut Bench, chance: &mut Chance) {
     sheets(bench, chance);
     the_trial_ring(bench, chance);
     log_sheets(bench, chance);
+    recovery(bench, chance);
 }
 
 pub fn coordinates(corners: &[Corner]) -> Vec<Word> {
@@ -252,4 +257,88 @@ fn log_sheets_refused(bench: &mut Bench, log: &[Word], chance: &mut Chance) {
         let expected = Response::untouched(&request, vec![number, 0, 0, 0]);
         hold_to(bench, REQUEST_1, "not read, 12, 2 or 3", &request, &expected);
     }
+}
+
+/// O's sheet, cut or not, and room for one number more than O's log has.
+fn recover(order: (i64, f64), text: &[u8], chance: &mut Chance) -> Request {
+    let mut request = thin(order, &octahedron(), &O_CORNERS, chance);
+    request.call = RECOVER;
+    request.arguments[4].push(7);
+    request.arguments.push(text_words(text));
+    request
+}
+
+/// What a recovery of O leaves: a stage and zeros behind it, so many records and then the room as it was.
+fn o_recovered(request: &Request, answer: [Word; 3], rows: &[Row]) -> Response {
+    let mut table = words(&rows.concat());
+    table.resize(24, 0);
+    let log = words(&O_LOG[..answer[2] as usize].concat());
+    let log = [&log, &request.arguments[4][log.len()..]].concat();
+    Response { answer: answer.to_vec(), lent: vec![table, log] }
+}
+
+/// O's sheet cut after every byte: its lines end at 8, 30 and 52. Without a limit and at 142 cm it ends as an unbroken
+/// run does; at 141 cm no step is added to those that survived.
+fn recovery(bench: &mut Bench, chance: &mut Chance) {
+    let stages: [&[Row]; 3] = [&octahedron(), &O_AFTER_ONE, &O_LEFT];
+    for cut in 0..=O_LOG_SHEET.len() {
+        let text = &O_LOG_SHEET.as_bytes()[..cut];
+        for (order, goes_on) in [((0, 0.0), true), ((CENTIMETRES, 142.0), true), ((CENTIMETRES, 141.0), false)] {
+            let request = recover(order, text, chance);
+            let survived = match cut {
+                0..8 => None,
+                8..30 => Some(0),
+                30..52 => Some(1),
+                _ => Some(2),
+            };
+            let expected = match survived {
+                None => Response::untouched(&request, vec![12, 0, 0]),
+                Some(lines) if goes_on => o_recovered(&request, [0, lines, 2], &O_LEFT),
+                Some(lines) => o_recovered(&request, [0, lines, lines], stages[lines as usize]),
+            };
+            hold_to(bench, REQUEST_3, "O's log cut after every byte", &request, &expected);
+        }
+    }
+    recovery_refused(bench, chance);
+}
+
+/// "A cut inside the first line or a whole line in bad form is 12, and a record that will not replay is 13 [...]. A first
+/// line whose counts are not the skin's is 2, as are more than corners - 4 whole `K` lines. [...] then 12, 2, 13; on all
+/// but 13 nothing is changed."
+fn recovery_refused(bench: &mut Bench, chance: &mut Chance) {
+    let [one, two] = [&O_LOG_SHEET[8..30], &O_LOG_SHEET[30..]];
+    let sheets = [
+        (12, "LOG\t6\t08\n".to_string()),
+        (12, format!("LOG\t5\t8\n{one}K\n")),
+        (12, format!("LOG\t6\t8\n{two}{}", two.replace('\t', " "))),
+        (12, format!("{O_LOG_SHEET}{}", "\0".repeat(65_537 - 52))),
+        (2, format!("LOG\t5\t8\n{one}")),
+        (2, format!("LOG\t6\t9\n{one}")),
+        (2, format!("LOG\t8\t6\n{two}")),
+        (2, format!("LOG\t515\t8\n{two}")),
+        (2, format!("LOG\t6\t8\n{two}{two}{two}")),
+    ];
+    for (number, sheet) in sheets {
+        let request = recover((0, 0.0), sheet.as_bytes(), chance);
+        let expected = Response::untouched(&request, vec![number, 0, 0]);
+        hold_to(bench, REQUEST_3, "not recovered, 12 or 2", &request, &expected);
+    }
+    let failing = [(0, two.to_string()), (1, format!("{one}{one}"))];
+    for (done, lines) in failing {
+        let request = recover((0, 0.0), format!("LOG\t6\t8\n{lines}K\t").as_bytes(), chance);
+        let rows: &[Row] = if done == 0 { &octahedron() } else { &O_AFTER_ONE };
+        hold_to(bench, REQUEST_3, "not replayed, 13", &request, &o_recovered(&request, [13, done, done], rows));
+    }
+    // The greatest size, of which most is the tail; and what thinning refuses comes first.
+    let long = format!("{O_LOG_SHEET}{}", "\0".repeat(65_536 - 52));
+    let request = recover((0, 0.0), long.as_bytes(), chance);
+    hold_to(bench, REQUEST_3, "65,536 bytes", &request, &o_recovered(&request, [0, 2, 2], &O_LEFT));
+    let mut request = recover((CENTIMETRES, -1.0), b"LOG", chance);
+    request.arguments[4].truncate(19);
+    hold_to(bench, REQUEST_3, "the limit before all", &request, &Response::untouched(&request, vec![1, 0, 0]));
+    request.arguments[0] = vec![0];
+    hold_to(bench, REQUEST_3, "room before the sheet", &request, &Response::untouched(&request, vec![3, 0, 0]));
+    request.arguments[4].push(0);
+    request.arguments[2][0] = 1;
+    hold_to(bench, REQUEST_3, "the skin before the sheet", &request, &Response::untouched(&request, vec![6, 0, 0]));
 }
