@@ -80,7 +80,7 @@ extern "C" {
 enum {
     FLAXGLIMMER_DONE = 0,
     FLAXGLIMMER_LIMIT_UNUSABLE = 1,          /* limit unusable */
-    FLAXGLIMMER_COUNTS_OUTSIDE = 2,          /* counts outside limits; a length no multiple; rows that would pass the limits; too many records or digits for a log sheet, or one of another skin */
+    FLAXGLIMMER_COUNTS_OUTSIDE = 2,          /* counts outside limits; a length no multiple; rows that would pass the limits; too many records or digits for a log sheet, or counts that are not the skin's */
     FLAXGLIMMER_ROOM_SHORT = 3,              /* lent room short */
     FLAXGLIMMER_COORDINATE_OUT_OF_RANGE = 4, /* a coordinate out of range */
     FLAXGLIMMER_NUMBER_NOT_BELOW = 5,        /* a corner number not below the count */

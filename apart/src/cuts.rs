@@ -52,12 +52,11 @@ fn both(cut: usize) -> [(usize, usize); 2] {
     [(cut, 0), (cut, 1)]
 }
 
-/// A longer log: the end of each line, and places drawn. On a large skin the ends are left to the order that wrote it.
+/// A longer log: the end of each line, and places drawn.
 fn anywhere(bench: &mut Bench, number: usize, chance: &mut Chance) {
     let log = Written::new(number, long_skin, MOST_RECORDS + 1..=usize::MAX, chance);
     bench.tally.meet("a longer log cut");
-    let orders = if log.skin.rows.len() > LARGE { 1 } else { 2 };
-    let ends = line_starts(&log.text).into_iter().flat_map(|cut| both(cut).into_iter().take(orders));
+    let ends = line_starts(&log.text).into_iter().flat_map(both);
     let drawn = (0..DRAWN).flat_map(|_| both(chance.below(log.text.len() + 1)));
     recovered(bench, &log, ends.chain(drawn).collect(), &LONGER_LOGS, chance);
 }

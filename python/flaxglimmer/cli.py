@@ -26,7 +26,7 @@ EXITS = """
 Exit: 0  done; and, if a least mean diameter was asked, shown to be met
       1  the library refused: number, meaning, places, hint
       2  wrong usage: no unit, no such option, a limit that is no figure and unit,
-         a log of another skin
+         a log of another skin (for recover 1)
       3  the file cannot be turned into points and rows: line or byte, and why
       4  done, but the least mean diameter is not shown to be met
       5  our fault: no library or one of another version, places and number disagree

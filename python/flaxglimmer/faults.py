@@ -24,7 +24,7 @@ HINTS = {
     10: "parts of the skin touch in this corner alone: MeshLab 'Repair non Manifold Vertices by splitting'",
     11: "keep one part: CloudCompare 'Label connected components', or MeshLab 'Remove Isolated pieces'",
     12: "`./run --help` has the form of a sheet; `flaxglimmer sheet` writes one from a scan",
-    13: "sheet and log do not belong together, or one of them was changed",
+    13: "scan and log do not belong together, or one of them was changed",
 }
 
 

@@ -179,12 +179,19 @@ def in_cut(refused: Refused, sheet: bytes, name: str, skin: str, here: tuple[int
         return _cut_record(refused, sheet, name)
     whole, _ = parted(sheet)
     corners, rows, _, _ = held(whole)
-    return _counts(whole, name) if (corners, rows) == here else (LineFault(of_another(name, (corners, rows), skin, here)), SAME)
+    if (corners, rows) == here:
+        return _counts(whole, name)
+    refused.meaning = "the log's counts are not the skin's"
+    return LineFault(of_another(name, (corners, rows), skin, here)), SAME
 
 
 def _cut_form(sheet: bytes, name: str) -> tuple[LineFault, str]:
     """A cut within the first line, or the first whole line that is not in its form."""
     whole, tail = parted(sheet)
+    if len(sheet) > LIMITS.MOST_LOG_BYTES >= len(whole) > 0 and held(whole).place is None:
+        lines = whole.count(b"\n")
+        fault = LineFault(f"{name} has over {LIMITS.MOST_LOG_BYTES:,} bytes, {len(tail):,} of them behind its last whole line")
+        return fault, f"its whole lines can be recovered: {_first_lines(lines, name)}"
     if not whole and (CUT[b"LOG"].fullmatch(tail) or b"LOG".startswith(tail)):
         what = f"the log was cut within its first line: {quoted(tail)}" if tail else "the file is empty"
         return LineFault(f"{name}, line 1, byte 0: {what}"), f"it has no record; {ANEW}"
@@ -205,7 +212,12 @@ def _before(records: int, name: str) -> str:
     """What can be had of a log before its first bad line."""
     if records == 0:
         return f"no record stands before it; {ANEW}"
-    return f"what stands before it can be recovered: head -n {1 + records} <{shlex.quote(name)} >shorter.log"
+    return f"what stands before it can be recovered: {_first_lines(1 + records, name)}"
+
+
+def _first_lines(lines: int, name: str) -> str:
+    """The command that keeps the first lines of a file alone."""
+    return f"head -n {lines} <{shlex.quote(name)} >shorter.log"
 
 
 # What a log sheet holds, in words

@@ -65,11 +65,14 @@ def meaning(number: int) -> str:
 
 class Refused(ValueError):
     """The library said no. `number` is the refusal; `records` and `rows` are, for 13, how many records were done and the stage that they led to, and
-    `log` those records, where a cut log sheet had them; `faults` are the places, where they were looked for, `hint` what to do about them, where
-    that is not the number's own, and `notes` what was done to the file before."""
+    `log` those records, where a cut log sheet had them; `faults` are the places, where they were looked for, `hint` what to do about them and `meaning` what it
+    says, where these are not the number's own, and `notes` what was done to the file before."""
 
     def __init__(self, number: int, records: int = 0, rows=None, faults: tuple[Fault, ...] = ()):
         self.number, self.records, self.rows, self.faults, self.notes = int(number), int(records), rows, tuple(faults), []
         self.log = None
         self.meaning, self.hint = meaning(self.number), None
-        super().__init__(f"refused, {self.number}: {self.meaning}")
+        super().__init__(self.number)
+
+    def __str__(self) -> str:
+        return f"refused, {self.number}: {self.meaning}"

@@ -1,4 +1,5 @@
-// Thinning taken up from a cut log sheet: document 01's octahedron and its trial ring, cut after each byte. Expected: 01's own log, and 02's refusals.
+// Thinning taken up from a cut log sheet: document 01's octahedron and its trial ring, cut after each byte. Expected: 01's own log, of the trial
+// ring the unbroken run's, and 02's refusals.
 use flaxglimmer::*;
 
 const CORNERS: [i32; 18] = [0, 0, 100, 100, 0, 0, 0, 100, 0, -100, 0, 0, 0, -100, 0, 0, 0, -100];

@@ -2,7 +2,7 @@
 use mathlib.Core.Path.{_≡_, refl, sym, _∙_, ap, subst}
 use mathlib.Core.Logic.{_≢_}
 use mathlib.Core.List.{List, [], _∷_, _++_}
-use Prim.Native.Nat.{ℕ, suc, _≤_}
+use Prim.Native.Nat.{ℕ, suc, _-_, _≤_}
 use native.Mathlib.Omega.{arith}
 use lib.IntN.{ℤ}
 use lib.ListN.{length, length-append, take, drop}
@@ -15,6 +15,7 @@ use Rattle.surface.specs.Record.{Record, Replayed}
 use Rattle.refusal.specs.declared.Refusal.{Refusal}
 use Rattle.refusal.specs.declared.Refusal.the-variants.{RecordFails}
 use Rattle.refusal.specs.declared.Verdict.the-variants.{Passes}
+use Rattle.refusal.specs.First.{First}
 use Rattle.refusal.proofs.Laws.{verdicts, first-one, refused-passes}
 use Rattle.run.specs.Run.{Run}
 use Rattle.run.proofs.Main.{taken-allowed, taken-cut, taken-replayed}
@@ -29,6 +30,7 @@ use Rattle.least.specs.Limited.{Allowed}
 use Rattle.thin.specs.declared.Asked.{Asked}
 use Rattle.thin.specs.Order.{asked}
 use Rattle.thin.specs.Run.{RunOf}
+use Rattle.thin.specs.Thin.{thin-refusals}
 use Rattle.thin.proofs.Main.{thin-passes, thinned-run, under-one}
 use Rattle.thin.proofs.Judging.{under-usable}
 use Rattle.regrow.specs.declared.Regrown.the-variants as following
@@ -36,7 +38,7 @@ use Rattle.regrow.proofs.Counted.{regrown-apart}
 use Rattle.replay.specs.Outcome.{replaying}
 use Rattle.replay.proofs.Main.{replaying-plain}
 use Rattle.logform.specs.LogSheet.{most-log-bytes, log-text}
-use Rattle.logcut.specs.Cut.{newlines, CutOf}
+use Rattle.logcut.specs.Cut.{newlines, CutOf, NoCut}
 use Rattle.logcut.proofs.Ending.{one-cut, cut-passes}
 use Rattle.recover.specs.declared.Recovered.the-variants.{Done, Stopped, Refused}
 use Rattle.recover.specs.Outcome.{RecoveredBy, refused, stopped, done}
@@ -120,27 +122,37 @@ module _ {b : List ℕ} (cut : CutOf b 6 8 O-first) {u m : List ℕ} where
       let e = one-cut (w .cut) cut .numbers in
       omega (arith, in-room (O-run .1) w (O-second ∷ []) (O-begins ∙ ap (λ q. records q ++ (O-second ∷ [])) (sym e)) .0)
 
-  -- one that stops at a record that replays, as where it asks of the records kept that they were least or within the limit lent
-  pub stops-at-a-good-record : (o : Order) {k : ℕ} → ¬ RecoveredBy o O-corners O (lent (room-for 2)) b (Stopped k) u m
-  stops-at-a-good-record o (refused f er et el) = stopped-refused er
-  stops-at-a-good-record o (done f s c w eb q er et el) = done-stopped (sym er)
-  stops-at-a-good-record o (stopped {log = log} f s c w er et el) =
-      let e = one-cut c cut .numbers in
-      let led : Replayed (rows O) (records log) (O-rest .0) = rw (ap records e) (O-rest .1) in
-      let g = followed-one (replaying (corners O-corners) O log) (replaying-plain (corners O-corners) O log) w (all led refl) in
-      regrown-apart .finished-stopped {r = RecordFails} (sym (g .0))
-
-  -- one that refuses every sheet that was cut: this one, within a log sheet's size, is not refused
-  pub refuses-every-cut : length b ≤ most-log-bytes → (r : Refusal) → ¬ RecoveredBy NoLimit O-corners O (lent (room-for 2)) b (Refused r) u m
-  unfolding rows
-  refuses-every-cut size r (refused f er et el) =
-      refused-passes (first-one verdicts _ f (cut-decides (asked NoLimit) O-corners O (lent (room-for 2)) b (thin-passes O (under-usable refl) refl O-skin (omega arith)) Passes (cut-passes cut size (omega arith))))
-  refuses-every-cut size r (stopped f s c w er et el) = stopped-refused (sym er)
-  refuses-every-cut size r (done f s c w eb q er et el) = done-refused (sym er)
-
 -- ---- for any skin, order, room and bytes
 
 module _ (o : Order) {xs : List ℤ} {t l b t′ l′ : List ℕ} where
+  -- one that refuses every sheet that was cut: one of the skin's counts, within its size and the records that its corners allow, is not refused where
+  -- thinning would not be
+  pub refuses-every-cut : {log : List ℕ} → CutOf b (corners xs) (length (rows t)) log → First (thin-refusals (asked o) xs t (length l)) Passes → length b ≤ most-log-bytes → count log ≤ corners xs - 4 →
+      (r : Refusal) → ¬ RecoveredBy o xs t l b (Refused r) t′ l′
+  refuses-every-cut cut p size few r (refused f er et el) = refused-passes (first-one verdicts _ f (cut-decides (asked o) xs t l b p Passes (cut-passes cut size few)))
+  refuses-every-cut cut p size few r (stopped f s c w er et el) = stopped-refused (sym er)
+  refuses-every-cut cut p size few r (done f s c w eb q er et el) = done-refused (sym er)
+
+  -- one that stops at records that replay, as where it asks of them that they were least or within the limit lent
+  pub stops-at-a-good-record : {log : List ℕ} {T : List Row} → CutOf b (corners xs) (length (rows t)) log → Replayed (rows t) (records log) T → {k : ℕ} → ¬ RecoveredBy o xs t l b (Stopped k) t′ l′
+  stops-at-a-good-record cut led (refused f er et el) = stopped-refused er
+  stops-at-a-good-record cut led (done f s c w eb q er et el) = done-stopped (sym er)
+  stops-at-a-good-record {T = T} cut led (stopped {log = log} f s c w er et el) =
+      let on : Replayed (rows t) (records log) T = rw (ap records (one-cut c cut .numbers)) led in
+      let g = followed-one (replaying (corners xs) t log) (replaying-plain (corners xs) t log) w (all on refl) in
+      regrown-apart .finished-stopped {r = RecordFails} (sym (g .0))
+
+  -- one that drops a record that does not replay, or a whole line in bad form, as it drops the tail, and thins on
+  pub bad-record-dropped : {n m k i j : ℕ} {log : List ℕ} {T : List Row} → CutOf b n m log → Followed (replaying (corners xs) t log) (following.Stopped k) T → ¬ RecoveredBy o xs t l b (Done i j) t′ l′
+  bad-record-dropped cut f (refused g er et el) = done-refused er
+  bad-record-dropped cut f (stopped g s c w er et el) = done-stopped er
+  bad-record-dropped cut f (done {kept = kept} g s c w eb q er et el) =
+      let z = followed-one (replaying (corners xs) t kept) (replaying-plain (corners xs) t kept) (rw (one-cut cut c .numbers) at f) w in
+      regrown-apart .finished-stopped {r = RecordFails} (sym (z .0))
+
+  pub bad-line-dropped : {i j : ℕ} → NoCut b → ¬ RecoveredBy o xs t l b (Done i j) t′ l′
+  bad-line-dropped none h = let w = recovery-run h in none (corners xs) (length (rows t)) (w .kept) (w .cut)
+
   -- one that takes the log of a skin with other counts, to its end or to a record that fails
   pub another-skins-log : {n m k j : ℕ} {log : List ℕ} → CutOf b n m log → ¬ ((n ≡ corners xs) × (m ≡ length (rows t))) → ¬ RecoveredBy o xs t l b (Done k j) t′ l′
   another-skins-log c apart h = let e = one-cut c (recovery-run h .cut) in apart (e .corners, e .rows)

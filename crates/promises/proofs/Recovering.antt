@@ -285,11 +285,11 @@ recovery = record {
       (r .0, r .1, r .2 ∙ (λ i. whole-log u i ++ drop (room-for (u .count i)) l) ∙ sym (u .logged));
   any-room = λ o d c w. as-written (thinned-run (as-done d)) c (as-recovery w);
   begun-alike = λ o u w rest h. in-room u w rest h;
-  stages-kept = λ o w h. replayed-kept (w .skin .stage) h;
+  stages-kept = λ s h. replayed-kept (s .stage) h;
   keeps = λ o w p q e. keeps w p q e;
   shifts-within = λ d read w p q e v h a r. added-shifts d read w p q e v h a r;
-  volumes-near = λ o w h a r. log-volume (w .skin) h a r;
-  changes-near = λ o w h i a r. log-change (w .skin) h i a r;
+  volumes-near = λ s h a r. log-volume s h a r;
+  changes-near = λ s h i a r. log-change s h i a r;
   restores = λ o w g. let r = as-recovery w in led-restored (whole-led r) (whole-many r) (whole-stands r) g;
   restores-from = λ o w p q e h g. led-restored-from (whole-led w) p q e h (whole-many w) (rest-of (whole-stands w) p q e) g;
   stops-restores = λ o w g. let s = as-stopped w in led-restored (front-led s) (s .many) (front-stands s) g;

@@ -6,6 +6,7 @@ use lib.IntN.{ℤ, pos, _-ℤ_}
 use lib.ListN.{length, take, drop}
 use Rattle.surface.specs.Rows.{Row, rows, flat}
 use Rattle.surface.specs.Record.{Record, Replayed}
+use Rattle.corners.specs.Skin.{Skin}
 use Rattle.refusal.specs.Told as answers
 use Rattle.refusal.specs.First.{First}
 use Rattle.refusal.specs.declared.Verdict.the-variants.{Passes}
@@ -87,7 +88,7 @@ pub record Recovery : Type 0 where
   -- and on 13 the records in the log give just what stands in the table
   pub stops-there : (o : Order) {xs : List ℤ} {t l b : List ℕ} {k : ℕ} {t′ l′ : List ℕ} → StoppedWith o xs t l b k t′ l′ → {a : Regrown} {r : List ℕ} →
       ReplayedAs (corners xs) t (take (room-for k) l′) a r → (regrowths.told a ≡ answers.done (pos k ∷ [])) × (r ≡ t′)
-  -- as many `K` lines as newlines less one are whole, in any bytes
+  -- done, it kept as many records as newlines survived, less one for the first line
   pub counts-lines : (o : Order) {xs : List ℤ} {t l b : List ℕ} {k j : ℕ} {t′ l′ : List ℕ} → RecoveredWith o xs t l b k j t′ l′ → newlines b ≡ suc k
   -- "A cut inside the first line": no newline survived; where order, skin and room pass, it is 12
   pub first-line-cut : (o : Order) {xs : List ℤ} {t l b : List ℕ} {a : Recovered} {t′ l′ : List ℕ} → newlines b ≡ 0 → First (thin-refusals (asked o) xs t (length l)) Passes →
@@ -116,22 +117,21 @@ pub record Recovery : Type 0 where
   -- and so does every recovery that is done from records that are the first of that order's own run, whoever wrote them
   pub begun-alike : (o : Order) {xs : List ℤ} {t r : List ℕ} {n : ℕ} {t₁ r₁ : List ℕ} (u : RunOf (asked o) xs t r n t₁ r₁) {l b : List ℕ} {k j : ℕ} {t′ l′ : List ℕ} (w : RecoveryOf (asked o) xs t l b k j t′ l′) (rest : List Record) →
       u .log ≡ records (w .kept) ++ rest → (j ≡ n) × (t′ ≡ t₁) × (l′ ≡ take (room-for n) r₁ ++ drop (room-for n) l)
-  -- after any records of the first skin that replay, as those of the log and its beginnings do, a closed oriented stage stands, of its Euler number, with two
-  -- rows and one used corner fewer for each
-  pub stages-kept : (o : Order) {xs : List ℤ} {t l b : List ℕ} {k j : ℕ} {t′ l′ : List ℕ} → RecoveryOf (asked o) xs t l b k j t′ l′ → {p : List Record} {T₁ : List Row} → Replayed (rows t) p T₁ →
-      KeptAfter (corners xs) (rows t) p T₁
+  -- after any records of a skin that replay, as those of the log that is left do, done or on 13, and its beginnings, a closed oriented stage stands, of its
+  -- Euler number, with two rows and one used corner fewer for each
+  pub stages-kept : {n : ℕ} {T : List Row} {xs : List ℤ} → Skin n T xs → {p : List Record} {T₁ : List Row} → Replayed T p T₁ → KeptAfter n T p T₁
   -- after each beginning p of the records added a closed oriented stage stands, of the first table's Euler number, with two rows and one used corner fewer for
   -- each record, whoever wrote it
   pub keeps : (o : Order) {xs : List ℤ} {t l b : List ℕ} {k j : ℕ} {t′ l′ : List ℕ} (w : RecoveryOf (asked o) xs t l b k j t′ l′) (p q : List Record) → w .added ≡ p ++ q →
       (T₁ : List Row) × Taken (Allowed (w .bound) xs) (w .handed) p T₁ × KeptAfter (corners xs) (rows t) (records (w .kept) ++ p) T₁
   -- "demand 3's shift bound ... only for the steps that recovery adds, with stand-ins and counts started afresh at the stage handed over": by the added part of
-  -- the log, or a beginning of it, every corner lies within k x L of its stand-in; one that left before stands for itself, with count 0
+  -- the log, or a beginning of it, every corner lies within k x L of its stand-in
   pub shifts-within : (d : Length) {L : ℕ} → limit-of d ≡ Whole L → {xs : List ℤ} {t l b : List ℕ} {k j : ℕ} {t′ l′ : List ℕ} (w : RecoveryOf (asked (Limit d)) xs t l b k j t′ l′) (p q : List Record) → w .added ≡ p ++ q →
       (v : ℕ) → v < corners xs → (a : Shifted) → ShiftReport xs (take (room-for (length p)) (drop (room-for k) l′)) v (shifts.told a) → Bounded L a
-  -- the volume of each stage that records of the first skin lead to is within half a cubic metre of exact, and each change too, whoever wrote them
-  pub volumes-near : (o : Order) {xs : List ℤ} {t l b : List ℕ} {k j : ℕ} {t′ l′ : List ℕ} → RecoveryOf (asked o) xs t l b k j t′ l′ → {p : List Record} {T₁ : List Row} → Replayed (rows t) p T₁ →
+  -- the volume of each stage that records of a skin lead to is within half a cubic metre of exact, and each change too, whoever wrote them
+  pub volumes-near : {n : ℕ} {T : List Row} {xs : List ℤ} → Skin n T xs → {p : List Record} {T₁ : List Row} → Replayed T p T₁ →
       (a : Measured) → VolumeReport xs (flat T₁) (volumes.told a) → Near (sixfold xs T₁) a
-  pub changes-near : (o : Order) {xs : List ℤ} {t l b : List ℕ} {k j : ℕ} {t′ l′ : List ℕ} → RecoveryOf (asked o) xs t l b k j t′ l′ → {p q : List Record} {T₁ T₂ : List Row} → Replayed (rows t) p T₁ → Replayed (rows t) q T₂ →
+  pub changes-near : {n : ℕ} {T : List Row} {xs : List ℤ} → Skin n T xs → {p q : List Record} {T₁ T₂ : List Row} → Replayed T p T₁ → Replayed T q T₂ →
       (a : Measured) → ChangeReport xs (flat T₁) (flat T₂) (volumes.told a) → Near (sixfold xs T₂ -ℤ sixfold xs T₁) a
   -- growing back the whole log that recovery leaves restores the first table, number for number, whoever wrote its beginning
   pub restores : (o : Order) {xs : List ℤ} {t l b : List ℕ} {k j : ℕ} {t′ l′ : List ℕ} → RecoveredWith o xs t l b k j t′ l′ → {a : Regrown} {r : List ℕ} →
