@@ -12,6 +12,7 @@ from .header import LIMITS
 from .refusals import LineFault, OurFault, Refused
 
 LINES = {b"LOG": 2, b"K": LIMITS.WIDTH}  # the numbers after each word
+LONGEST = 1 + 7 * LIMITS.WIDTH  # bytes of a line: K, and for each number a tab and six digits
 FORMS = {word: re.compile(rb"%b(?:\t%b){%d}" % (word, COUNT, count)) for word, count in LINES.items()}
 CUT = {word: re.compile(rb"%b(?:\t%b){0,%d}\t?" % (word, COUNT, count)) for word, count in LINES.items()}
 ORDERED = {word: f"{word.decode()} and {count} numbers, parted by tabs" for word, count in LINES.items()}
@@ -188,9 +189,9 @@ def in_cut(refused: Refused, sheet: bytes, name: str, skin: str, here: tuple[int
 def _cut_form(sheet: bytes, name: str) -> tuple[LineFault, str]:
     """A cut within the first line, or the first whole line that is not in its form."""
     whole, tail = parted(sheet)
-    if len(sheet) > LIMITS.MOST_LOG_BYTES >= len(whole) > 0 and held(whole).place is None:
+    if len(sheet) > LIMITS.MOST_LOG_BYTES and len(tail) > LONGEST and held(whole).place is None:  # filled up, as with zeros
         lines = whole.count(b"\n")
-        fault = LineFault(f"{name} has over {LIMITS.MOST_LOG_BYTES:,} bytes, {len(tail):,} of them behind its last whole line")
+        fault = LineFault(f"{name} has over {LIMITS.MOST_LOG_BYTES:,} bytes; what follows its line {lines:,} is no line of a log")
         return fault, f"its whole lines can be recovered: {_first_lines(lines, name)}"
     if not whole and (CUT[b"LOG"].fullmatch(tail) or b"LOG".startswith(tail)):
         what = f"the log was cut within its first line: {quoted(tail)}" if tail else "the file is empty"

@@ -311,7 +311,7 @@ REFUSED = [  # the lines of the octahedron's log begin at bytes 0, 8 and 30
     (LINES[0] + b"K\t0\t1\n" + LINES[1] + b"K", 12, "a.log, line 2, byte 8: 2 numbers and not 10: 'K\\t0\\t1'; 0 whole records before it", "no record stands before it; `flaxglimmer thin` begins anew"),
     (O_SHEET + b"K\t01" + b"\t1" * 9 + b"\nK\t0", 12, "a.log, line 4, byte 52: number 1 is '01', and not one to six digits", "can be recovered: head -n 3 <a.log >shorter.log"),
     (LINES[0] + LINES[1] + b"\n" + LINES[2] + b"K\t0", 12, "a.log, line 3, byte 30: an empty line; 1 whole record before it", "without empty lines: sed"),
-    (O_SHEET.ljust(65_537, b"\0"), 12, "a.log has over 65,536 bytes, 65,485 of them behind its last whole line", "its whole lines can be recovered: head -n 3 <a.log >shorter.log"),
+    (O_SHEET.ljust(65_537, b"\0"), 12, "a.log has over 65,536 bytes; what follows its line 3 is no line of a log", "its whole lines can be recovered: head -n 3 <a.log >shorter.log"),
     (LINES[0] + LINES[1] * 3_000, 12, "a.log has over 65,536 bytes", "no log is so long"),
     (O_SHEET.replace(b"6\t8", b"7\t8", 1) + b"K", 2, "a.log is the log of a skin of 7 corners and 8 rows, and o.sheet has 6 corners and 8 rows", "is it that scan, read with the same options?"),
     (b"LOG\t514\t1024\n", 2, "a.log is the log of a skin of 514 corners and 1,024 rows, and o.sheet has 6 corners and 8 rows", "is it that scan"),
@@ -322,7 +322,7 @@ REFUSED = [  # the lines of the octahedron's log begin at bytes 0, 8 and 30
 ]  # fmt: skip
 
 
-@pytest.mark.parametrize("data,number,place,hint", REFUSED)
+@pytest.mark.parametrize("data,number,place,hint", REFUSED, ids=[str(place) for _, _, place, _ in REFUSED])
 def test_each_refusal_by_its_place_and_nothing_is_written(data, number, place, hint, folder, run):
     log, out = put(folder, data), [folder / name for name in ("out.log", "out.answer", "r.html")]
     asked = ["recover", folder / "o.sheet", log, "--limit", "none", "--log", out[0], "--answer", out[1], "--report", out[2]]
