@@ -111,7 +111,7 @@ static void recovery(void)
     recover("a record that fails", FLAXGLIMMER_NO_LIMIT, 0, spoilt, strlen(spoilt));
     recover("cut at 7", FLAXGLIMMER_NO_LIMIT, 0, sheet, 7);
     recover("another skin's", FLAXGLIMMER_NO_LIMIT, 0, "LOG\t6\t10\n", 9);
-    recover("another unit's", 4, 0.3, sheet, 52);
+    recover("another unit's", 5, 0.3, sheet, 52);
 }
 
 /* Every list that may be empty, as NULL: first in calls that are done, on document 01's tetrahedron, which has no record; then everywhere. */
@@ -203,8 +203,10 @@ int main(void)
 
     limit("0.3 m", FLAXGLIMMER_METRES, 0.3);
     limit("no number", FLAXGLIMMER_METRES, NAN);
-    limit("another unit", 4, 0.3);
-    counted("another unit's limit", flaxglimmer_thin(4, 0.3, table, 24, corners, 18, log, 20));
+    limit("6,561.25 ft", FLAXGLIMMER_FEET, 6561.25);
+    limit("6,561.25 international ft", FLAXGLIMMER_INTERNATIONAL_FEET, 6561.25);
+    limit("another unit", 5, 0.3);
+    counted("another unit's limit", flaxglimmer_thin(5, 0.3, table, 24, corners, 18, log, 20));
     counted("a short log", flaxglimmer_thin(FLAXGLIMMER_FEET, 1, table, 24, corners, 18, log, 19));
     empty();
 

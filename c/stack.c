@@ -79,7 +79,7 @@ static void shift(void)
 static void limit(void)
 {
     status = 0;
-    for (uint32_t unit = FLAXGLIMMER_METRES; unit <= FLAXGLIMMER_CENTIMETRES; unit++)
+    for (uint32_t unit = FLAXGLIMMER_METRES; unit <= FLAXGLIMMER_INTERNATIONAL_FEET; unit++)
         status |= flaxglimmer_limit(unit, 4.75).status;
 }
 

@@ -94,12 +94,14 @@ enum {
     FLAXGLIMMER_RECORD_FAILS = 13            /* a record does not grow back or replay */
 };
 
-/* Units of a limit. Any other number stands for a limit that is unusable, as does FLAXGLIMMER_NO_LIMIT where a limit is read. */
+/* Units of a limit. Feet are survey feet, 1200/3937 of a metre; international feet have 30.48 centimetres. Any other number stands for a limit that
+ * is unusable, as does FLAXGLIMMER_NO_LIMIT where a limit is read. */
 enum {
     FLAXGLIMMER_NO_LIMIT = 0,
     FLAXGLIMMER_METRES = 1,
     FLAXGLIMMER_FEET = 2,
-    FLAXGLIMMER_CENTIMETRES = 3
+    FLAXGLIMMER_CENTIMETRES = 3,
+    FLAXGLIMMER_INTERNATIONAL_FEET = 4
 };
 
 /* How many records were written, grown back or replayed. */

@@ -3,6 +3,7 @@
 pub const METRES: i64 = 1;
 pub const FEET: i64 = 2;
 pub const CENTIMETRES: i64 = 3;
+pub const INTERNATIONAL_FEET: i64 = 4;
 
 const HIGHEST: u128 = 200_000;
 
@@ -27,8 +28,10 @@ fn exact(bits: u64) -> Option<Exact> {
 pub fn whole_centimetres(unit: i64, bits: u64) -> Option<u64> {
     let (over, under) = match unit {
         METRES => (100, 1),
-        FEET => (3_048, 100),
+        // 02: 1200/3937 of a metre
+        FEET => (1_200 * 100, 3_937),
         CENTIMETRES => (1, 1),
+        INTERNATIONAL_FEET => (3_048, 100),
         _ => panic!("no such unit"),
     };
     let figure = exact(bits)?;
@@ -39,7 +42,7 @@ pub fn whole_centimetres(unit: i64, bits: u64) -> Option<u64> {
     if figure.power >= 0 {
         return None;
     }
-    // The number over the line is below 2^65, so past 2^100 below it the whole part is 0.
+    // The number over the line is below 2^70, so past 2^100 below it the whole part is 0.
     let halvings = -figure.power as u32;
     let rounded = if halvings > 100 { 0 } else { figure.whole * over / (under << halvings) };
     (rounded <= HIGHEST).then_some(rounded as u64)

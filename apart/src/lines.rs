@@ -3,7 +3,7 @@
 use crate::answers::answer;
 use crate::bench::{Bench, PATIENCE};
 use crate::harm::words;
-use crate::limit::{CENTIMETRES, FEET, METRES};
+use crate::limit::{CENTIMETRES, FEET, INTERNATIONAL_FEET, METRES};
 use crate::make::{octahedron, seven_corner_torus, tetrahedron};
 use crate::parts::{grid, MOST_ROWS_GRID};
 use crate::place::largest_sum;
@@ -49,8 +49,10 @@ fn limits() -> Vec<String> {
         let said = if found[0] == 0 { format!("{} cm", found[1]) } else { "unusable".to_string() };
         format!("limit {figure} {}: {said}", unit.0)
     };
-    let (m, ft) = (("m", METRES), ("ft", FEET));
-    vec![line(1.5, m), line(1.375, m), line(4.75, ft), line(0.29, m), line(0.3, m)]
+    let (m, ft, ift) = (("m", METRES), ("ft", FEET), ("ift", INTERNATIONAL_FEET));
+    let metres = [line(1.5, m), line(1.375, m), line(4.75, ft), line(0.29, m), line(0.3, m), line(4.75, ift)];
+    let parted = [6_561.25, 6_561.7].map(|figure| [line(figure, ft), line(figure, ift)]);
+    [metres.as_slice(), parted.as_flattened()].concat()
 }
 
 fn volume(name: &str, rows: &[Row], corners: &[Corner]) -> String {

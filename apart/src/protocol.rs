@@ -8,7 +8,7 @@ pub type Word = i64;
 pub const LONGEST_LIST: usize = 16_384;
 const LONGEST_BYTES: usize = 131_072;
 /// The highest unit so far.
-pub const LAST_UNIT: Word = 3;
+pub const LAST_UNIT: Word = 4;
 
 #[derive(Clone, Copy, PartialEq, Debug)]
 pub enum Kind {

@@ -5,7 +5,7 @@ use crate::answers::answer;
 use crate::bench::Bench;
 use crate::chance::Chance;
 use crate::harm::{asked, harm, other_counts, scribble, words, Input};
-use crate::limit::{whole_centimetres, CENTIMETRES, FEET, METRES};
+use crate::limit::{whole_centimetres, CENTIMETRES, FEET, INTERNATIONAL_FEET, METRES};
 use crate::log_sheet::{self, most_records, whole_lines, MOST_BYTES};
 use crate::log_sheets::{in_form, FIELDS, FIRST_LINES, LINES};
 use crate::logs::{some_log, steps};
@@ -130,7 +130,9 @@ fn orders(bench: &mut Bench, chance: &mut Chance) {
     let mut orders = vec![NO_LIMIT, (0, f64::NAN.to_bits()), (0, u64::MAX), (0, (-1.0f64).to_bits())];
     orders.extend([0.0, -0.0, 1.0, 141.0, 141.999, 142.0, 200_000.0, 200_000.9, 200_001.0].map(centimetres));
     orders.extend([1.41, 1.42, -1.42, f64::NAN, f64::INFINITY, 2_000.0].map(|figure: f64| (METRES, figure.to_bits())));
-    orders.extend([4.62, 4.66, 6_561.67, 6_561.68, 6_561.8].map(|figure: f64| (FEET, figure.to_bits())));
+    for unit in [FEET, INTERNATIONAL_FEET] {
+        orders.extend([4.62, 4.66, 6_561.67, 6_561.68, 6_561.7, 6_561.8].map(|figure: f64| (unit, figure.to_bits())));
+    }
     orders.extend((0..8).map(|_| typed::unusable(chance)));
     for order in orders {
         for start in line_starts(&text) {

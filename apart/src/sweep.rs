@@ -4,7 +4,6 @@
 use crate::bench::Bench;
 use crate::chance::Chance;
 use crate::harm::{scribble, words};
-use crate::limit::{CENTIMETRES, FEET, METRES};
 use crate::logs::placed;
 use crate::make::{self, octahedron, seven_corner_torus, shaft_rows, tetrahedron, turned};
 use crate::protocol::*;
@@ -47,7 +46,7 @@ fn limits(bench: &mut Bench) {
     }
     figures.sort_unstable();
     figures.dedup();
-    for unit in [METRES, FEET, CENTIMETRES] {
+    for unit in UNITS {
         for &bits in &figures {
             bench.try_call("sweep: limits", &request(LIMIT, [&[unit], &[bits as Word]]));
         }

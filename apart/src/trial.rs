@@ -8,7 +8,7 @@ use crate::chance::Chance;
 use crate::figures::sixfold_volume;
 use crate::grow::records_of;
 use crate::harm::{scribble, words};
-use crate::limit::{CENTIMETRES, FEET, METRES};
+use crate::limit::{CENTIMETRES, FEET, INTERNATIONAL_FEET, METRES};
 use crate::mail::{read_request, text_words, write_request};
 use crate::make::{octahedron, seven_corner_torus, shaft_rows, tetrahedron};
 use crate::protocol::*;
@@ -145,7 +145,9 @@ fn figures(bench: &mut Bench) {
 
 fn limits(bench: &mut Bench) {
     let cases = [(METRES, 1.5, 150), (METRES, 1.375, 137), (FEET, 4.75, 144), (METRES, 0.29, 28), (METRES, 0.3, 29)];
-    for (unit, figure, centimetres) in cases {
+    // 02's feet, and one figure that is usable in international feet alone
+    let feet = [(FEET, 6_561.25, 199_987), (INTERNATIONAL_FEET, 6_561.25, 199_986), (INTERNATIONAL_FEET, 4.75, 144)];
+    for (unit, figure, centimetres) in cases.into_iter().chain(feet).chain([(INTERNATIONAL_FEET, 6_561.7, 200_000)]) {
         let request = Request { call: LIMIT, arguments: vec![vec![unit], vec![f64::to_bits(figure) as Word]] };
         hold_untouched(bench, "typed limits", &request, &[0, centimetres]);
     }
@@ -154,8 +156,8 @@ fn limits(bench: &mut Bench) {
         hold_untouched(bench, "zero and minus zero", &request, &[0, 0]);
     }
     let unusable = [f64::NAN, f64::INFINITY, f64::NEG_INFINITY, -1.0, -f64::MIN_POSITIVE / 4.0, 200_001.0];
-    for figure in unusable {
-        let request = Request { call: LIMIT, arguments: vec![vec![CENTIMETRES], vec![figure.to_bits() as Word]] };
+    for (unit, figure) in unusable.map(|figure| (CENTIMETRES, figure)).into_iter().chain([(FEET, 6_561.7)]) {
+        let request = Request { call: LIMIT, arguments: vec![vec![unit], vec![figure.to_bits() as Word]] };
         hold_untouched(bench, "unusable limits", &request, &[1, 0]);
     }
 }

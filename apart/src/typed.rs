@@ -2,12 +2,12 @@
 //! Floats serve to aim here; what a figure means is worked out from its bits alone.
 
 use crate::chance::Chance;
-use crate::limit::{CENTIMETRES, FEET, METRES};
+use crate::limit::{CENTIMETRES, FEET, INTERNATIONAL_FEET, METRES};
 use crate::logs::some_edge;
 use crate::make::Skin;
 use crate::step::squared_distance;
 
-pub const UNITS: [i64; 3] = [METRES, FEET, CENTIMETRES];
+pub const UNITS: [i64; 4] = [METRES, FEET, CENTIMETRES, INTERNATIONAL_FEET];
 const INFINITY: u64 = 0x7ff0_0000_0000_0000;
 const MINUS: u64 = 1 << 63;
 
@@ -15,7 +15,8 @@ const MINUS: u64 = 1 << 63;
 pub fn figure_near(unit: i64, centimetres: f64) -> u64 {
     match unit {
         METRES => centimetres / 100.0,
-        FEET => centimetres / 30.48,
+        FEET => centimetres * 3_937.0 / 120_000.0,
+        INTERNATIONAL_FEET => centimetres / 30.48,
         _ => centimetres,
     }
     .to_bits()

@@ -14,7 +14,7 @@ import numpy as np
 
 from . import calls, faults, files, lengths, logs, skins
 from .diameter import of_skin
-from .refusals import Fault, FileFault, LibraryMissing, OurFault, Refused, UsageFault
+from .refusals import FileFault, LibraryMissing, OurFault, Refused, UsageFault
 
 DONE, REFUSED, USAGE, NO_FILE, NOT_SHOWN, OURS = range(6)
 INTERRUPTED = 130  # as shells have it
@@ -115,6 +115,8 @@ def main():
 
 # Options that several commands share
 
+FEET = "; ".join(f"{unit}: {which}" for unit, which in lengths.FEET.items()) + "."
+
 
 def with_file(function):
     for option in (
@@ -122,7 +124,7 @@ def with_file(function):
         click.option("--drop-flat", is_flag=True, help="Leave out rows that have one corner twice."),
         click.option("--weld", type=click.Choice(files.WELDS), default="auto", show_default=True, help="Join equal points; auto: those of an STL."),
         click.option("--origin", metavar="X,Y,Z|auto", help="Whole metres, taken off before rounding; auto: nearest the middle."),
-        click.option("--unit", type=click.Choice(list(lengths.CENTIMETRES)), help="The file's unit: no format tells it."),
+        click.option("--unit", type=click.Choice(list(lengths.CENTIMETRES)), help=f"The file's unit: no format tells it. {FEET}"),
         click.argument("file"),
     ):
         function = option(function)
@@ -209,7 +211,7 @@ def with_order(function):
         click.option("--mean-at-least", help="As '3000 mm': whether the mean diameter is shown to be as much."),
         click.option("--length", help="The shaft's, as '30 m', for the mean diameter of the skin."),
         to_write("report", "Write the report, one HTML file."),
-        click.option("--limit", required=True, help="As '0.8 m', '4.75 ft', '30 cm', or none."),
+        click.option("--limit", required=True, help=f"As '0.8 m', '4.75 ft', '30 cm', or none. {FEET}"),
     ):
         function = option(function)
     return function
@@ -271,8 +273,7 @@ def thinned_outcome(thinned: skins.Thinned, first: int, last: int, diameter) -> 
     """The table of facts."""
     skin, change, farthest = thinned.skin, thinned.change(), thinned.farthest()
     used = [len(np.unique(rows)) for rows in (skin.rows, thinned.rows)]
-    limit = "no limit" if thinned.limit is None else f"limit {thinned.typed} = {thinned.limit:,} cm"
-    lines = [f"{skin.name}: {limit}", f"{'':24}{'scanned':>10}{'thinned':>10}"]
+    lines = [f"{skin.name}: {thinned.under()}", f"{'':24}{'scanned':>10}{'thinned':>10}"]
     for what, before, after in (
         ("rows", len(skin.rows), len(thinned.rows)),
         ("corners used", *used),
@@ -478,9 +479,10 @@ def limit(typed):
     try:
         whole = calls.limit(typed)
     except Refused as refused:
-        refused.faults = (Fault(f"the limit {typed!r}"),)
+        refused.faults = (faults.unusable(typed),)
         raise
-    return Outcome({"status": 0, "limit": whole}, [f"{whole} cm"])
+    feet = lengths.which(typed)
+    return Outcome({"status": 0, "limit": whole}, [f"{whole} cm"], notes=[typed.strip() + feet] if feet else [])
 
 
 def entry(arguments: list | None = None) -> int:

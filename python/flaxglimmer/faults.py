@@ -7,6 +7,7 @@ from collections import defaultdict
 import numpy as np
 
 from .header import LIMITS
+from .lengths import which
 from .refusals import Fault, OurFault
 
 SOME = 8  # most rows that one line names
@@ -32,6 +33,11 @@ def _listed(numbers) -> str:
     return ", ".join(map(str, numbers[:SOME])) + (f" and {len(numbers) - SOME} more" if len(numbers) > SOME else "")
 
 
+def unusable(limit) -> Fault:
+    """The place of refusal 1."""
+    return Fault(f"the limit {limit!r}{which(limit)}")
+
+
 class Finder:
     """The places of faults in a table. Rows are told by their numbers in the file, corners with their place in the file's unit."""
 
@@ -46,7 +52,7 @@ class Finder:
         """The places of this refusal, one at least: that there is none would be our fault."""
         finders = {2: self.counts, 4: self.ranges, 5: self.past, 6: self.twice, 7: self.edges_twice, 8: self.holes, 9: self.unused, 10: self.rings, 11: self.parts}
         if number == 1:
-            return (Fault(f"the limit {limit!r}"),)
+            return (unusable(limit),)
         found = tuple(finders[number]()) if number in finders else ()
         if not found:
             raise OurFault(f"the library refuses by {number}, and no place of it is found")

@@ -13,7 +13,7 @@ import numpy as np
 from . import calls, lent, logs, readers
 from .faults import in_sheet, quoted
 from .header import LIMITS
-from .lengths import CENTIMETRES
+from .lengths import CENTIMETRES, FEET, which
 from .refusals import Fault, FileFault, Refused, UsageFault
 from .skins import Skin
 
@@ -150,7 +150,8 @@ def _skin(scan: Scan, unit: str, origin, single: bool, name: str, digest: str) -
     """A prepared scan rounded to a skin, with what has to be told."""
     origin = _origin(origin, scan.points, unit)
     rounded = to_centimetres(scan.points, unit, origin)
-    notes = scan.notes + [f"coordinates were rounded once to whole centimetres; the largest move is {_told_move(rounded)} cm, at corner {rounded.corner}"]
+    notes = [f"the file is read in {FEET[unit]}"] if unit in FEET else []
+    notes += scan.notes + [f"coordinates were rounded once to whole centimetres; the largest move is {_told_move(rounded)} cm, at corner {rounded.corner}"]
     if any(origin):
         told = ", ".join(f"{metres:,}" for metres in origin)
         notes.append(f"the origin ({told}) m was taken off before rounding; halves of a centimetre may round otherwise without it")
@@ -178,7 +179,7 @@ def _prepared(points, rows, unit, origin, joined, flat, turned, single=False, na
     if len(rows) == 0:
         raise FileFault("it has no triangles")
     if unit not in CENTIMETRES:
-        raise UsageFault(no_unit(points, name) if unit is None else f"{unit!r} is no unit: these are {', '.join(CENTIMETRES)}")
+        raise UsageFault(no_unit(points, name) if unit is None else f"{unit!r} is no unit: these are {', '.join(name + which(name) for name in CENTIMETRES)}")
     scan = Scan(points, rows, np.arange(len(rows)), [])
     _finite(scan)
     for asked, act in ((joined, weld), (flat, drop_flat), (True, drop_unused), (turned, turn)):
@@ -196,7 +197,7 @@ def no_unit(points: np.ndarray, name: str) -> str:
     finite = points[np.isfinite(points).all(1)]
     with np.errstate(over="ignore"):
         sizes = np.ptp(finite, axis=0).tolist() if len(finite) else (0, 0, 0)
-    lines = [f"  --unit {unit:2}: {' x '.join(f'{size * float(factor) / 100:,.4g}' for size in sizes)} m" for unit, factor in CENTIMETRES.items()]
+    lines = [f"  --unit {unit:3}: {' x '.join(f'{size * float(factor) / 100:,.4g}' for size in sizes)} m{which(unit)}" for unit, factor in CENTIMETRES.items()]
     return "\n".join([f"{name}: the file does not tell its unit. It would measure", *lines])
 
 

@@ -4,8 +4,10 @@ from fractions import Fraction
 
 from .refusals import UsageFault
 
-CENTIMETRES = {"mm": Fraction(1, 10), "cm": Fraction(1), "m": Fraction(100), "ft": Fraction(3048, 100)}  # in each unit of a file
-UNITS = {"m": 1, "ft": 2, "cm": 3}  # of a limit, by the header's numbers
+# in each unit of a file
+CENTIMETRES = {"mm": Fraction(1, 10), "cm": Fraction(1), "m": Fraction(100), "ft": Fraction(120_000, 3937), "ift": Fraction(3048, 100)}
+UNITS = {"m": 1, "ft": 2, "cm": 3, "ift": 4}  # of a limit, by the header's numbers
+FEET = {"ft": "survey feet of 1200/3937 m", "ift": "international feet of 30.48 cm"}
 NO_LIMIT = 0
 
 FIGURE = re.compile(r"\s*([+-]?(?:\d{1,40}(?:\.\d{0,40})?|\.\d{1,40})(?:[eE][+-]?\d{1,4})?)\s*([a-z]+)\s*", re.ASCII)
@@ -23,15 +25,21 @@ def order(limit) -> tuple[int, float]:
     else:
         unit, figure = limit if isinstance(limit, tuple) and len(limit) == 2 else (None, 0)
     if unit not in UNITS:
-        raise UsageFault(f"{limit!r} is no limit: a figure and its unit, as '0.3 m', '4.75 ft' or '30 cm', or none")
+        raise UsageFault(f"{limit!r} is no limit: a figure and its unit, as '0.3 m', '30 cm', '4.75 ft' in survey feet or '4.75 ift' in international feet, or none")
     return UNITS[unit], float(figure)
+
+
+def which(typed) -> str:
+    """Behind a limit or a length in feet, which feet they are."""
+    unit = typed[0] if isinstance(typed, tuple) else re.search(r"([a-z]*)\s*$", typed or "")[1]
+    return f" ({FEET[unit]})" if unit in FEET else ""
 
 
 def millimetres(text: str) -> Fraction:
     """A typed decimal and its unit, as '30 m', taken exactly."""
     typed = DECIMAL.fullmatch(text)
     if not typed or typed[2] not in CENTIMETRES:
-        raise UsageFault(f"{text!r} is no length: a decimal and its unit, as '30 m', '3000 mm', '98.5 ft'")
+        raise UsageFault(f"{text!r} is no length: a decimal and its unit, as '30 m', '3000 mm', '98.5 ft' in survey feet or '98.5 ift' in international feet")
     if Fraction(typed[1]) == 0:
         raise UsageFault(f"{text!r}: a length above zero is needed")
     return Fraction(typed[1]) * CENTIMETRES[typed[2]] * 10

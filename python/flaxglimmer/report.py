@@ -11,11 +11,12 @@ from markupsafe import Markup
 from . import calls, painter
 from .diameter import of_skin
 from .files import answer_text, sheet_text
+from .lengths import FEET
 from .skins import Recovered, Skin, Thinned
 
 STAGES = 257  # most stages that the plot asks about
 ACROSS, TALL, EDGE = 300, 560, 12  # of a picture
-UNITS = {"mm": "millimetres", "cm": "centimetres", "m": "metres", "ft": "feet of 30.48 cm"}
+UNITS = {"mm": "millimetres", "cm": "centimetres", "m": "metres", **FEET}
 
 
 def stages(thinned: Thinned) -> list[tuple[int, int]]:

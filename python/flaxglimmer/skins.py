@@ -8,7 +8,7 @@ import numpy as np
 from . import calls, logs
 from .faults import Finder
 from .lent import Shift
-from .lengths import order
+from .lengths import order, which
 from .refusals import OurFault, Refused
 
 
@@ -59,6 +59,10 @@ class Thinned:
     log: np.ndarray
     limit: int | None
     typed: str
+
+    def under(self) -> str:
+        """The limit as it was typed, of feet with which they are, and as it was read."""
+        return "no limit" if self.limit is None else f"limit {self.typed}{which(self.typed)} = {self.limit:,} cm"
 
     def volumes(self) -> tuple[int, int]:
         return self.skin.volume(), calls.volume(self.rows, self.skin.corners)

@@ -2,6 +2,7 @@
 import json
 import math
 import time
+from html import unescape
 
 import numpy as np
 import pytest
@@ -12,6 +13,7 @@ import flaxglimmer as fg
 from flaxglimmer import calls, cli, faults, files, refusals
 
 POINTS, ROWS = shaft(12, 20)
+FEET = {"ft": "(survey feet of 1200/3937 m)", "ift": "(international feet of 30.48 cm)"}
 
 
 def sheet(rows=O_ROWS, corners=O_CORNERS):
@@ -64,6 +66,8 @@ TWO = np.concatenate([T_ROWS, [[0, 4, 5], [0, 5, 6], [0, 6, 4], [4, 6, 5]]])
 REFUSALS = [
     (1, "limit unusable", lambda f: ["limit", "-1 m"], "the limit '-1 m'"),
     (1, "limit unusable", lambda f: ["thin", f / "shaft.off", "--unit", "m", "--limit", "2001 m"], "the limit '2001 m'"),
+    (1, "limit unusable", lambda f: ["limit", "6561.7 ft"], "the limit '6561.7 ft' (survey feet of 1200/3937 m)"),
+    (1, "limit unusable", lambda f: ["thin", f / "shaft.off", "--unit", "m", "--limit", "6561.8 ift"], "the limit '6561.8 ift' (international feet of 30.48 cm)"),
     (2, "counts outside limits: 4 to 1,024 rows, 4 to 514 corners", lambda f: scan(f, ROWS[:3]), f"3 rows and {len(np.unique(ROWS[:3]))} corners; so few enclose nothing"),
     (2, "counts outside limits", lambda f: scan(f, np.arange(3 * len(ROWS)).reshape(-1, 3), POINTS[ROWS].reshape(-1, 3)), "480 rows and 1,440 corners; no row shares a corner, and --weld equal"),
     (2, "counts outside limits", lambda f: scan(f, np.concatenate([ROWS] * 3)), "1,440 rows in a.off"),
@@ -231,6 +235,8 @@ USAGE = [
     (["check", "o.sheet", "--turn"], "a sheet is in whole centimetres"),
     (["shift", "o.sheet", "o.log", "-1"], "-1"),
     (["limit", "fast"], "is no limit"),
+    (["limit", "4.75 feet"], "'4.75 ft' in survey feet or '4.75 ift' in international feet"),
+    (["limit", "4.75 FT"], "is no limit"),
     (["melt", "shaft.off"], "No such command"),
 ]
 
@@ -247,8 +253,27 @@ def test_wrong_usage_ends_with_2_and_writes_nothing(arguments, message, run, fol
 def test_without_a_unit_the_size_is_shown_in_each(run, folder):
     told = run("check", folder / "shaft.off")
     size = np.ptp(POINTS, axis=0)
-    for unit, metres in (("mm", 0.001), ("cm", 0.01), ("m ", 1), ("ft", 0.3048)):
-        assert f"--unit {unit}: " + " x ".join(f"{side * metres:,.4g}" for side in size) + " m" in told.err
+    for unit, metres, which in (("mm ", 0.001, ""), ("cm ", 0.01, ""), ("m  ", 1, ""), ("ft ", 1200 / 3937, f" {FEET['ft']}"), ("ift", 0.3048, f" {FEET['ift']}")):
+        assert f"--unit {unit}: " + " x ".join(f"{side * metres:,.4g}" for side in size) + f" m{which}\n" in told.err
+
+
+@pytest.mark.parametrize("unit,other", [("ft", "ift"), ("ift", "ft")])
+def test_where_feet_were_typed_it_is_told_which(unit, other, run, folder):
+    report = folder / "r.html"
+    asked = ["--unit", unit, "--limit", f"3.5 {unit}", "--length", f"98.5 {unit}", "--mean-at-least", f"3 {unit}"]
+    told = run("thin", folder / "shaft.off", *asked, "--report", report)
+    figures, page = " ".join(told.out.split()), " ".join(unescape(report.read_text()).split())
+    for words in (f"limit 3.5 {unit} {FEET[unit]} = 106 cm", f"over 98.5 {unit} {FEET[unit]}: ", f"at least 3 {unit} {FEET[unit]} asked"):
+        assert words in figures and words in page
+    assert f"the file is read in {FEET[unit][1:-1]}" in told.err and f"the file is in {FEET[unit][1:-1]}" in page
+    assert FEET[other] not in told.out + told.err + page
+    told = run("limit", f"4.75 {unit}")
+    assert told.exit == 0 and told.out == "144 cm\n" and f"4.75 {unit} {FEET[unit]}" in told.err
+
+
+def test_no_foot_is_told_where_none_was_typed(run, folder):
+    told = run("thin", folder / "shaft.off", "--unit", "m", "--limit", "1 m", "--length", "30 m", "--report", folder / "r.html")
+    assert told.exit == 0 and "feet" not in told.out + told.err + (folder / "r.html").read_text() and run("limit", "1 m").err == ""
 
 
 @pytest.mark.parametrize("off_it,ended,verdict", [(-10, 0, "met"), (0, 4, "undecided"), (10, 4, "not met")])

@@ -54,7 +54,7 @@ def test_a_figure_below_one_gives_none_and_meets_nothing(figure):
     assert diameter.of_skin(figure, "0", "30 m", None).verdict is None
 
 
-@pytest.mark.parametrize("typed,exact", [("30 m", 30_000), ("3000mm", 3000), (" 12.5 cm ", 125), ("10 ft", 3048), ("0.1 m", 100)])
+@pytest.mark.parametrize("typed,exact", [("30 m", 30_000), ("3000mm", 3000), (" 12.5 cm ", 125), ("3937 ft", 1_200_000), ("10 ift", 3048), ("0.1 m", 100)])
 def test_lengths_are_taken_exactly(typed, exact):
     assert millimetres(typed) == exact
 

@@ -41,8 +41,9 @@ def test_every_function_of_the_header_is_called_with_its_types():
 
 
 def test_units_are_the_headers():
-    units = dict(re.findall(r"^    FLAXGLIMMER_(NO_LIMIT|METRES|FEET|CENTIMETRES) = (\d)", HEADER, re.M))
-    assert [lengths.NO_LIMIT, *(lengths.UNITS[unit] for unit in ("m", "ft", "cm"))] == [int(units[name]) for name in ("NO_LIMIT", "METRES", "FEET", "CENTIMETRES")]
+    names = {"NO_LIMIT": lengths.NO_LIMIT, **{name: lengths.UNITS[unit] for name, unit in (("METRES", "m"), ("FEET", "ft"), ("CENTIMETRES", "cm"), ("INTERNATIONAL_FEET", "ift"))}}
+    enum = re.search(r"Units of a limit.*?enum \{(.*?)\}", HEADER, re.S)[1]
+    assert names == {name: int(number) for name, number in re.findall(r"FLAXGLIMMER_(\w+) = (\d+)", enum)} and len(lengths.UNITS) == 4
 
 
 def test_every_refusal_has_the_headers_words():
@@ -67,6 +68,14 @@ def test_the_tetrahedron_and_limits_are_01s():
     assert calls.volume(T_ROWS, T_CORNERS) == -5 and len(calls.thin(T_ROWS, T_CORNERS, "none")[1]) == 0
     for typed, whole in (("1.5 m", 150), ("1.375 m", 137), ("4.75 ft", 144), ("0.29 m", 28), ("0.3 m", 29), (("m", 0.3), 29), ("200000 cm", 200_000), ("0 m", 0), ("-0 m", 0)):
         assert calls.limit(typed) == whole
+
+
+def test_feet_are_02s():
+    for typed, whole in (("4.75 ft", 144), ("4.75 ift", 144), ("6561.25 ft", 199_987), ("6561.25 ift", 199_986), (("ift", 6561.25), 199_986), ("6561.7 ift", 200_000)):
+        assert calls.limit(typed) == whole
+    with pytest.raises(fg.Refused) as refused:
+        calls.limit("6561.7 ft")
+    assert refused.value.number == 1
 
 
 def test_the_trial_ring_is_01s():

@@ -12,7 +12,8 @@ import flaxglimmer as fg
 from flaxglimmer import files
 from flaxglimmer.lengths import CENTIMETRES
 
-EXACT = {"mm": Fraction(1, 10), "cm": 1, "m": 100, "ft": Fraction("30.48")}  # 01: 100 to a metre, 30.48 to a foot
+# 01: 100 to a metre; 02: 1200/3937 of a metre to a foot, 30.48 to an international foot
+EXACT = {"mm": Fraction(1, 10), "cm": 1, "m": 100, "ft": 100 * Fraction(1200, 3937), "ift": Fraction("30.48")}
 
 
 def exact(value, unit, metres=0):
@@ -26,8 +27,13 @@ def clipped(whole):
     return max(-(2**31 - 1), min(2**31 - 1, whole))
 
 
-def test_units_are_01s():
+def test_units_are_01s_and_02s():
     assert CENTIMETRES == EXACT
+
+
+def test_the_two_feet_part():
+    for unit, centimetres in (("ft", 12_000_000), ("ift", 11_999_976)):
+        assert files.to_centimetres(np.array([[0.0, 0.0, 393_700.0]]), unit).corners.tolist() == [[0, 0, centimetres]]
 
 
 @pytest.mark.parametrize("unit", EXACT)

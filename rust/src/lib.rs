@@ -63,12 +63,15 @@ mod proved {
     }
 }
 
-/// A length limit: a figure in metres, feet or centimetres.
+/// A length limit: a figure in its unit.
 #[derive(Clone, Copy, Debug, PartialEq)]
 pub enum Length {
     Metres(f64),
+    /// Survey feet, 1200/3937 of a metre.
     Feet(f64),
     Centimetres(f64),
+    /// 30.48 centimetres.
+    InternationalFeet(f64),
 }
 
 impl Length {
@@ -77,6 +80,7 @@ impl Length {
             Length::Metres(v) => (1, v),
             Length::Feet(v) => (2, v),
             Length::Centimetres(v) => (3, v),
+            Length::InternationalFeet(v) => (4, v),
         }
     }
 }

@@ -60,7 +60,10 @@ fn shifts_a_removed_corner_to_its_stand_in() {
 #[test]
 fn reads_limits() {
     assert_eq!(read_limit(Length::Metres(0.3)), Ok(29));
-    assert_eq!(read_limit(Length::Feet(4.75)), Ok(144));
+    for (figure, survey, international) in [(4.75, Ok(144), Ok(144)), (6561.25, Ok(199_987), Ok(199_986)), (6561.7, Err(Refusal::LimitUnusable), Ok(200_000))] {
+        assert_eq!(read_limit(Length::Feet(figure)), survey);
+        assert_eq!(read_limit(Length::InternationalFeet(figure)), international);
+    }
     assert_eq!(read_limit(Length::Centimetres(-0.0)), Ok(0));
     for unusable in [f64::NAN, f64::from_bits(0xfff0_0000_0000_0001), f64::INFINITY, -1.0, 2001.0] {
         assert_eq!(read_limit(Length::Metres(unusable)), Err(Refusal::LimitUnusable));

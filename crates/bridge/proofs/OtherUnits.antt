@@ -1,4 +1,4 @@
--- A unit past 3 is none: its limit is unusable, so the answer is 1 and nothing is written.
+-- A unit past 4 is none: its limit is unusable, so the answer is 1 and nothing is written.
 use mathlib.Core.Path.{_≡_, refl}
 use mathlib.Core.List.{List}
 use Prim.Native.Nat.{ℕ, _<_}
@@ -25,10 +25,10 @@ use Rattle.across.specs.Units.{length-of, order-of}
 use Rattle.bridge.specs.Calls.{ThinShown, LimitShown, RecoverShown}
 use Rattle.bridge.proofs.Main.{thin-crosses, limit-crosses, recover-crosses}
 
-module _ (u : ℕ) (v : Float) (other : 3 < u) where
+module _ (u : ℕ) (v : Float) (other : 4 < u) where
   no-length : length-of u v ≡ Centimetres nan
   unfolding length-of
-  no-length = rw (ne-eqb u 1 (λ e. omega (arith, other, e)), ne-eqb u 2 (λ e. omega (arith, other, e)), ne-eqb u 3 (λ e. omega (arith, other, e))) refl
+  no-length = rw (ne-eqb u 1 (λ e. omega (arith, other, e)), ne-eqb u 2 (λ e. omega (arith, other, e)), ne-eqb u 3 (λ e. omega (arith, other, e)), ne-eqb u 4 (λ e. omega (arith, other, e))) refl
 
   no-number : limit-of (Centimetres nan) ≡ Unusable
   unfolding limit-of reading

@@ -6,7 +6,7 @@ use ring::Trial;
 const RING: usize = 384;
 
 // The greatest unit of a limit; 0 stands for no limit.
-const LAST_UNIT: u64 = 3;
+const LAST_UNIT: u64 = 4;
 
 // The figure of a pattern. A NaN's has an exponent of ones and digits that are not all 0; every NaN is one figure here.
 fn figure_of(bits: u64) -> f64 {

@@ -21,15 +21,16 @@ use Rattle.length.proofs.Quotient.{capped-usable, capped-above}
 pub reading-one : (l : Length) {r s : Reading} → r ≡ limit-of l → s ≡ limit-of l → r ≡ s
 reading-one l p q = p ∙ sym q
 
-usable : {c : ℕ} → Unusable ≢ Whole c
+-- usable is not unusable
+pub usable : {c : ℕ} → Unusable ≢ Whole c
 usable p = let z : _≡_ {A = ℕ} 0 1 = cc in omega arith
 
 -- c centimetres are a limit or too many
-data Cap (c : ℕ) : Type 0 where
+pub data Cap (c : ℕ) : Type 0 where
   within : c ≤ most-limit → capped c ≡ Whole c → Cap c
   beyond : most-limit < c → capped c ≡ Unusable → Cap c
 
-cap : (c : ℕ) → Cap c
+pub cap : (c : ℕ) → Cap c
 cap c = go (decLe c most-limit)
   where
     go : Dec (c ≤ most-limit) → Cap c

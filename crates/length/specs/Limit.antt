@@ -8,7 +8,7 @@ use lib.Dec.{leb}
 use lib.IntN.{ℤ}
 use lib.Ieee.{Float, nan, inf, fin, up, down}
 use Rattle.length.specs.declared.Length.{Length}
-use Rattle.length.specs.declared.Length.the-variants.{Metres, Feet, Centimetres}
+use Rattle.length.specs.declared.Length.the-variants.{Metres, Feet, Centimetres, InternationalFeet}
 use Rattle.length.specs.declared.Reading.{Reading}
 use Rattle.length.specs.declared.Reading.the-variants.{Whole, Unusable}
 
@@ -18,11 +18,13 @@ pub record Typed : Type 0 where
   pub num : ℕ
   pub den : ℕ
 
--- a length limit is a figure in metres, feet or centimetres: 100 to a metre, 30.48 to a foot
+-- a length limit is a figure in metres, feet, centimetres or international feet: 100 to a metre; a foot is a survey foot, 1200 / 3937 of a metre;
+-- 30.48 to an international foot
 abbrev pub typed : Length → Typed
 typed (Metres v) = record { figure = v; num = 100; den = 1 }
-typed (Feet v) = record { figure = v; num = 3048; den = 100 }
+typed (Feet v) = record { figure = v; num = 1200 * 100; den = 3937 }
 typed (Centimetres v) = record { figure = v; num = 1; den = 1 }
+typed (InternationalFeet v) = record { figure = v; num = 3048; den = 100 }
 
 -- the exact value m * 2 ^ e turned to centimetres and rounded down once: the whole part of a quotient of two whole numbers
 abbrev pub rounded-down : ℕ → ℤ → ℕ → ℕ → ℕ

@@ -6,11 +6,12 @@ ghost use lib.Ieee.{binary64, ofBits};
 ghost use Rattle.length.specs.Limit.{reading, limit-of};
 ghost use Rattle.length.specs.InnerSmall.{Small};
 
-// A length limit: a binary64 figure in metres, feet or centimetres.
+// A length limit: a binary64 figure in metres, feet, centimetres or international feet. Feet are survey feet.
 pub enum Length {
     Metres(f64),
     Feet(f64),
     Centimetres(f64),
+    InternationalFeet(f64),
 }
 
 // A thinning order has no limit, or a length limit. Thinning matches this one, the limit reader the length inside.
@@ -34,14 +35,16 @@ const SIGN: u64 = 0x8000_0000_0000_0000;
 // The weight of the exponent's field, and of the leading digit, which the bits leave out.
 const LEADING: u64 = 0x10_0000_0000_0000;
 
-// The limit in whole centimetres: a line for each unit. The power of two keeps num small: 3048 / 100 is 381 x 2^3 / 100.
+// The limit in whole centimetres: a line for each unit. The power of two keeps num small: 120000 / 3937 is 1875 x 2^6 / 3937, and 3048 / 100 is
+// 381 x 2^3 / 100.
 pub fn read_limit(l: Length) -> Reading
     ensures { λ r. ⌜ r ≡ limit-of l ⌝ }
 {
     match l {
         Length::Metres(v) => read_figure(v, 100, 0, 1),
-        Length::Feet(v) => read_figure(v, 381, 3, 100),
+        Length::Feet(v) => read_figure(v, 1875, 6, 3937),
         Length::Centimetres(v) => read_figure(v, 1, 0, 1),
+        Length::InternationalFeet(v) => read_figure(v, 381, 3, 100),
     }
 }
 

@@ -166,13 +166,18 @@ fn show_limit(name: &[u8], l: Length) {
     }
 }
 
-// 01's typed limits.
+// 01's typed limits, and 02's in survey feet, ft, and international feet, ift.
 fn limits() {
     show_limit(b"limit 1.5 m: ", Length::Metres(1.5));
     show_limit(b"limit 1.375 m: ", Length::Metres(1.375));
     show_limit(b"limit 4.75 ft: ", Length::Feet(4.75));
     show_limit(b"limit 0.29 m: ", Length::Metres(0.29));
     show_limit(b"limit 0.3 m: ", Length::Metres(0.3));
+    show_limit(b"limit 4.75 ift: ", Length::InternationalFeet(4.75));
+    show_limit(b"limit 6561.25 ft: ", Length::Feet(6561.25));
+    show_limit(b"limit 6561.25 ift: ", Length::InternationalFeet(6561.25));
+    show_limit(b"limit 6561.7 ft: ", Length::Feet(6561.7));
+    show_limit(b"limit 6561.7 ift: ", Length::InternationalFeet(6561.7));
 }
 
 // A line of a thinning's answer.

@@ -19,8 +19,12 @@ unfolding length-of
 returns-3 c = rw (ne-eqb _ _ (c .before .before .if1 .left), ne-eqb _ _ (c .before .if2 .left), eq-eqb _ _ (c .if3 .taken)) refl
 
 returns-4 : tie.Need-returns-4
+unfolding length-of
+returns-4 c = rw (ne-eqb _ _ (c .before .before .before .if1 .left), ne-eqb _ _ (c .before .before .if2 .left), ne-eqb _ _ (c .before .if3 .left), eq-eqb _ _ (c .if4 .taken)) refl
+
+returns-5 : tie.Need-returns-5
 unfolding div length-of ofBits
-returns-4 c = rw (ne-eqb _ _ (c .before .before .if1 .left), ne-eqb _ _ (c .before .if2 .left), ne-eqb _ _ (c .if3 .left)) refl
+returns-5 c = rw (ne-eqb _ _ (c .before .before .before .if1 .left), ne-eqb _ _ (c .before .before .if2 .left), ne-eqb _ _ (c .before .if3 .left), ne-eqb _ _ (c .if4 .left)) refl
 
 pub length-of-spec : {M : Type 1} → statement M
-length-of-spec = tie.close (tie.spec returns returns-2 returns-3 returns-4)
+length-of-spec = tie.close (tie.spec returns returns-2 returns-3 returns-4 returns-5)

@@ -23,6 +23,12 @@ enum-known-l-3 c = search needs
 read-figure-requires-3 : tie.Need-read-figure-requires-3
 read-figure-requires-3 c κs = search needs
 
+enum-known-l-4 : tie.Need-enum-known-l-4
+enum-known-l-4 c = search needs
+
+read-figure-requires-4 : tie.Need-read-figure-requires-4
+read-figure-requires-4 c κs = search needs
+
 returns : tie.Need-returns
 unfolding limit-of
 returns c = c .read-figure .ensures ∙ sym (ap limit-of (c .before .before .l .given .1))
@@ -35,6 +41,10 @@ returns-3 : tie.Need-returns-3
 unfolding limit-of
 returns-3 c = c .read-figure3 .ensures ∙ sym (ap limit-of (c .before .before .l3 .given .1))
 
+returns-4 : tie.Need-returns-4
+unfolding limit-of
+returns-4 c = c .read-figure4 .ensures ∙ sym (ap limit-of (c .before .before .l4 .given .1))
+
 pub read-limit-spec : {M : Type 1} → statement M
 read-limit-spec =
     tie.close
@@ -45,6 +55,9 @@ read-limit-spec =
     read-figure-requires-2
     enum-known-l-3
     read-figure-requires-3
+    enum-known-l-4
+    read-figure-requires-4
     returns
     returns-2
-    returns-3)
+    returns-3
+    returns-4)
