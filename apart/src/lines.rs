@@ -50,9 +50,9 @@ fn limits() -> Vec<String> {
         format!("limit {figure} {}: {said}", unit.0)
     };
     let (m, ft, ift) = (("m", METRES), ("ft", FEET), ("ift", INTERNATIONAL_FEET));
-    let metres = [line(1.5, m), line(1.375, m), line(4.75, ft), line(0.29, m), line(0.3, m), line(4.75, ift)];
-    let parted = [6_561.25, 6_561.7].map(|figure| [line(figure, ft), line(figure, ift)]);
-    [metres.as_slice(), parted.as_flattened()].concat()
+    let of_01 = [line(1.5, m), line(1.375, m), line(4.75, ft), line(0.29, m), line(0.3, m)];
+    let of_02 = [line(4.75, ift), line(6_561.25, ft), line(6_561.25, ift), line(6_561.7, ft), line(6_561.7, ift)];
+    [of_01, of_02].concat()
 }
 
 fn volume(name: &str, rows: &[Row], corners: &[Corner]) -> String {

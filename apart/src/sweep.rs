@@ -34,7 +34,10 @@ fn limits(bench: &mut Bench) {
     let mut figures: Vec<u64> = exponent_ends.into_iter().chain(nans).collect();
     figures.extend(figures.clone().iter().map(|bits| bits | 1 << 63));
     for unit in UNITS {
-        for whole in [0, 1, 2, 28, 29, 30, 100, 144, 145, 3_048, 65_536, 199_999, 200_000, 200_001, 200_002] {
+        // 120 cm, 1,875 cm and 120,000 cm are 3.937, 61.515625 and 3,937 survey feet.
+        for whole in
+            [0, 1, 2, 28, 29, 30, 100, 120, 144, 145, 1_875, 3_048, 65_536, 120_000, 199_999, 200_000, 200_001, 200_002]
+        {
             let near = figure_near(unit, f64::from(whole));
             figures.extend((0..5).map(|step| (near + step).saturating_sub(2)));
         }

@@ -1,6 +1,7 @@
 //! What was tried and what came of it: counts for the summary, failures printed with the call that shows them again.
 
 use crate::harm::asked;
+use crate::limit::{whole_centimetres, FEET, INTERNATIONAL_FEET};
 use crate::log_sheet::{self, most_records, LONGEST_ANSWER};
 use crate::protocol::*;
 use crate::refusal;
@@ -28,7 +29,7 @@ pub struct Tally {
 }
 
 /// What a whole run must have met at least once, besides every refusal.
-const MUST_MEET: [&str; 28] = [
+const MUST_MEET: [&str; 31] = [
     "a sphere",
     "a torus",
     "genus 2",
@@ -39,6 +40,9 @@ const MUST_MEET: [&str; 28] = [
     "the most rows",
     "the most corners",
     "a limit that returned to a lower corner",
+    "a limit that parts the two feet",
+    "a limit usable in international feet alone",
+    "a thinning under a limit that parts the two feet",
     "a sum at a half above zero",
     "a sum at a half below zero",
     "growing back that did some records before 13",
@@ -102,6 +106,23 @@ impl Tally {
         self.meet_if(partly && request.call == RECOVER, "recovery that did some records before 13");
         if status == 0 {
             self.note_log_sheet(request, expected);
+        }
+        if [LIMIT, THIN].contains(&request.call) && [FEET, INTERNATIONAL_FEET].contains(&request.arguments[0][0]) {
+            self.note_feet(request, status);
+        }
+    }
+
+    /// A figure in feet, where survey feet and international feet do not give the same.
+    fn note_feet(&mut self, request: &Request, status: Word) {
+        let feet = [FEET, INTERNATIONAL_FEET].map(|unit| whole_centimetres(unit, request.arguments[1][0] as u64));
+        match (request.call, feet) {
+            (LIMIT, [None, Some(_)]) => self.meet("a limit usable in international feet alone"),
+            (LIMIT, [survey, international]) => {
+                self.meet_if(survey != international, "a limit that parts the two feet")
+            }
+            (_, [survey, international]) => {
+                self.meet_if(status == 0 && survey != international, "a thinning under a limit that parts the two feet")
+            }
         }
     }
 

@@ -1,6 +1,6 @@
-//! 01's own cases: its trial skins, its slips, its limits and its sheet; and its O as the log sheet of 02, cut and
-//! recovered. What is expected here is copied from them, or worked by hand on O, and both the driven programs and this
-//! program's own rules are held to it.
+//! 01's own cases: its trial skins, its slips, its limits and its sheet; its O as the log sheet of 02, cut and recovered;
+//! and the feet of 02. What is expected here is copied from them, or worked by hand, and both the driven programs and
+//! this program's own rules are held to it.
 
 use crate::answers::answer;
 use crate::bench::Bench;
@@ -25,6 +25,7 @@ pub const O_LOG: [Record; 2] = [[0, 1, 0, 0, 1, 2, 3, 0, 4, 1], [0, 2, 0, 0, 2, 
 const O_AFTER_ONE: [Row; 6] = [[0, 2, 3], [0, 3, 4], [5, 2, 0], [5, 3, 2], [5, 4, 3], [5, 0, 4]];
 const REQUEST_1: &str = "02, request 1";
 const REQUEST_3: &str = "02, request 3";
+const REQUEST_4: &str = "02, request 4";
 /// `LOG`, corners, rows; then O's two `K` lines, as 01 has them.
 const O_LOG_SHEET: &str = "LOG\t6\t8\nK\t0\t1\t0\t0\t1\t2\t3\t0\t4\t1\nK\t0\t2\t0\t0\t2\t3\t2\t5\t2\t0\n";
 const O_TEXT: &str = "OK\t4\t2\t1\t0\nR\t0\t3\t4\nR\t5\t3\t0\nR\t5\t4\t3\nR\t5\t0\t4\n\
@@ -143,22 +144,34 @@ fn figures(bench: &mut Bench) {
     }
 }
 
+fn limit(unit: Word, figure: f64) -> Request {
+    Request { call: LIMIT, arguments: vec![vec![unit], vec![figure.to_bits() as Word]] }
+}
+
 fn limits(bench: &mut Bench) {
     let cases = [(METRES, 1.5, 150), (METRES, 1.375, 137), (FEET, 4.75, 144), (METRES, 0.29, 28), (METRES, 0.3, 29)];
-    // 02's feet, and one figure that is usable in international feet alone
-    let feet = [(FEET, 6_561.25, 199_987), (INTERNATIONAL_FEET, 6_561.25, 199_986), (INTERNATIONAL_FEET, 4.75, 144)];
-    for (unit, figure, centimetres) in cases.into_iter().chain(feet).chain([(INTERNATIONAL_FEET, 6_561.7, 200_000)]) {
-        let request = Request { call: LIMIT, arguments: vec![vec![unit], vec![f64::to_bits(figure) as Word]] };
-        hold_untouched(bench, "typed limits", &request, &[0, centimetres]);
+    for (unit, figure, centimetres) in cases {
+        hold_untouched(bench, "typed limits", &limit(unit, figure), &[0, centimetres]);
+    }
+    // 02 gives the first three; 6,561.7 is 200,001.016 cm by its survey foot, and 200,000.616 cm by the other.
+    let feet = [
+        (FEET, 6_561.25, [0, 199_987]),
+        (INTERNATIONAL_FEET, 6_561.25, [0, 199_986]),
+        (INTERNATIONAL_FEET, 4.75, [0, 144]),
+        (FEET, 6_561.7, [1, 0]),
+        (INTERNATIONAL_FEET, 6_561.7, [0, 200_000]),
+    ];
+    for (unit, figure, answer) in feet {
+        let request = limit(unit, figure);
+        hold_to(bench, REQUEST_4, "feet", &request, &Response::untouched(&request, answer.to_vec()));
     }
     for bits in [0, Word::MIN] {
         let request = Request { call: LIMIT, arguments: vec![vec![FEET], vec![bits]] };
         hold_untouched(bench, "zero and minus zero", &request, &[0, 0]);
     }
     let unusable = [f64::NAN, f64::INFINITY, f64::NEG_INFINITY, -1.0, -f64::MIN_POSITIVE / 4.0, 200_001.0];
-    for (unit, figure) in unusable.map(|figure| (CENTIMETRES, figure)).into_iter().chain([(FEET, 6_561.7)]) {
-        let request = Request { call: LIMIT, arguments: vec![vec![unit], vec![figure.to_bits() as Word]] };
-        hold_untouched(bench, "unusable limits", &request, &[1, 0]);
+    for figure in unusable {
+        hold_untouched(bench, "unusable limits", &limit(CENTIMETRES, figure), &[1, 0]);
     }
 }
 

@@ -4,7 +4,7 @@ import os
 from functools import cache
 from pathlib import Path
 
-from .header import LIMITS
+from .header import LIMITS, UNITS
 from .refusals import LibraryMissing
 
 u32, u64, i64, size = c.c_uint32, c.c_uint64, c.c_int64, c.c_size_t
@@ -64,7 +64,7 @@ def places() -> list[Path]:
 
 
 def told(loaded: c.CDLL) -> dict[str, str]:
-    """What the library carries: the digest of its sources and the header's limits, a line each."""
+    """What the library carries: the digest of its sources and the header's limits and units, a line each."""
     start = c.addressof(c.c_char.in_dll(loaded, "flaxglimmer_told"))
     return dict(line.split(" ") for line in c.string_at(start).decode("ascii").splitlines())
 
@@ -84,6 +84,6 @@ def library() -> c.CDLL:
     except (OSError, AttributeError, ValueError) as fault:
         raise LibraryMissing(f"{place} is no library of this version: {fault}") from None
     carried.pop("sources", None)
-    if carried != {name: str(value) for name, value in vars(LIMITS).items()}:
-        raise LibraryMissing(f"{place} is of another version: its limits or record width are not this package's")
+    if carried != {name: str(value) for name, value in {**vars(LIMITS), **vars(UNITS)}.items()}:
+        raise LibraryMissing(f"{place} is of another version: its limits, units or record width are not this package's")
     return loaded

@@ -49,7 +49,7 @@ def refusal(refused: Refused) -> Outcome:
     answer = {"status": refused.number, "meaning": refused.meaning, "faults": [asdict(fault) for fault in refused.faults], "hint": hint}
     lines = [str(refused)] + [f"  {fault.text}" for fault in refused.faults[:MOST_FAULTS]]
     lines += [f"  and {len(refused.faults) - MOST_FAULTS:,} more"] if len(refused.faults) > MOST_FAULTS else []
-    warnings = [note for note in refused.notes if note.startswith("warning: ")]
+    warnings = [note for note in refused.notes if note.startswith(("warning: ", lengths.READ_IN))]
     return Outcome({**answer, "notes": refused.notes}, errors=lines, notes=warnings + ([f"hint: {hint}"] if hint else []), exit=REFUSED)
 
 
@@ -118,13 +118,21 @@ def main():
 FEET = "; ".join(f"{unit}: {which}" for unit, which in lengths.FEET.items()) + "."
 
 
+def known_unit(context, parameter, unit: str | None) -> str | None:
+    """What is no unit is told with which feet there are."""
+    try:
+        return unit and lengths.known(unit)
+    except UsageFault as fault:
+        raise click.BadParameter(str(fault))
+
+
 def with_file(function):
     for option in (
         click.option("--turn", is_flag=True, help="Turn every row over."),
         click.option("--drop-flat", is_flag=True, help="Leave out rows that have one corner twice."),
         click.option("--weld", type=click.Choice(files.WELDS), default="auto", show_default=True, help="Join equal points; auto: those of an STL."),
         click.option("--origin", metavar="X,Y,Z|auto", help="Whole metres, taken off before rounding; auto: nearest the middle."),
-        click.option("--unit", type=click.Choice(list(lengths.CENTIMETRES)), help=f"The file's unit: no format tells it. {FEET}"),
+        click.option("--unit", metavar="|".join(lengths.CENTIMETRES), callback=known_unit, help=f"The file's unit: no format tells it. {FEET}"),
         click.argument("file"),
     ):
         function = option(function)
@@ -209,9 +217,9 @@ def with_order(function):
         to_write("log", "Write the log as a log sheet, which can be mailed."),
         to_write("sheet", "Write the scanned skin as a sheet."),
         click.option("--mean-at-least", help="As '3000 mm': whether the mean diameter is shown to be as much."),
-        click.option("--length", help="The shaft's, as '30 m', for the mean diameter of the skin."),
+        click.option("--length", help="The shaft's, as '30 m', in a unit of a file, for the mean diameter of the skin."),
         to_write("report", "Write the report, one HTML file."),
-        click.option("--limit", required=True, help=f"As '0.8 m', '4.75 ft', '30 cm', or none. {FEET}"),
+        click.option("--limit", required=True, help=f"As '0.8 m', '30 cm', '4.75 ft', '4.75 ift', or none. {FEET}"),
     ):
         function = option(function)
     return function
@@ -286,7 +294,7 @@ def thinned_outcome(thinned: skins.Thinned, first: int, last: int, diameter) -> 
         corner, shift = farthest
         lines.append(f"farthest moved: corner {corner}; corner {shift.stand_in} stands in after {shift.count}, squared distance {shift.squared:,} square cm")
     answer = {
-        "status": 0, "file": skin.name, "limit": thinned.limit, "rows": [len(skin.rows), len(thinned.rows)], "corners": used, "records": len(thinned.log),
+        "status": 0, "file": skin.name, "under": thinned.under(), "limit": thinned.limit, "rows": [len(skin.rows), len(thinned.rows)], "corners": used, "records": len(thinned.log),
         "volume": [first, last], "change": change, "farthest": {"corner": farthest[0], **farthest[1]._asdict()} if farthest else None, "mean_diameter": None,
     }  # fmt: skip
     if diameter:
@@ -475,7 +483,7 @@ def log(log):
 @command("limit", ignore_unknown_options=True)  # a limit below zero is no option
 @click.argument("typed", metavar="LIMIT")
 def limit(typed):
-    """A LIMIT as '0.3 m' in whole centimetres, as the library reads it."""
+    """A LIMIT as '0.3 m' in whole centimetres, as the library reads it. In ft it is in survey feet, in ift in international feet."""
     try:
         whole = calls.limit(typed)
     except Refused as refused:

@@ -13,7 +13,7 @@ import numpy as np
 from . import calls, lent, logs, readers
 from .faults import in_sheet, quoted
 from .header import LIMITS
-from .lengths import CENTIMETRES, FEET, which
+from .lengths import CENTIMETRES, FEET, READ_IN, known, which
 from .refusals import Fault, FileFault, Refused, UsageFault
 from .skins import Skin
 
@@ -150,7 +150,7 @@ def _skin(scan: Scan, unit: str, origin, single: bool, name: str, digest: str) -
     """A prepared scan rounded to a skin, with what has to be told."""
     origin = _origin(origin, scan.points, unit)
     rounded = to_centimetres(scan.points, unit, origin)
-    notes = [f"the file is read in {FEET[unit]}"] if unit in FEET else []
+    notes = [READ_IN + FEET[unit]] if unit in FEET else []
     notes += scan.notes + [f"coordinates were rounded once to whole centimetres; the largest move is {_told_move(rounded)} cm, at corner {rounded.corner}"]
     if any(origin):
         told = ", ".join(f"{metres:,}" for metres in origin)
@@ -178,8 +178,9 @@ def from_points(points, rows, unit: str, origin=None, weld: str = "none", drop_f
 def _prepared(points, rows, unit, origin, joined, flat, turned, single=False, name="", digest="") -> Skin:
     if len(rows) == 0:
         raise FileFault("it has no triangles")
-    if unit not in CENTIMETRES:
-        raise UsageFault(no_unit(points, name) if unit is None else f"{unit!r} is no unit: these are {', '.join(name + which(name) for name in CENTIMETRES)}")
+    if unit is None:
+        raise UsageFault(no_unit(points, name))
+    known(unit)
     scan = Scan(points, rows, np.arange(len(rows)), [])
     _finite(scan)
     for asked, act in ((joined, weld), (flat, drop_flat), (True, drop_unused), (turned, turn)):

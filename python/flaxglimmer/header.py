@@ -1,4 +1,5 @@
-"""The header's limits by their names, and the one table of them in this package. A loaded library must carry the same numbers."""
+"""The header's limits and the units of a length limit by their names, and the one table of them in this package. A loaded library must carry the same
+numbers."""
 from types import SimpleNamespace
 
 LIMITS = SimpleNamespace(
@@ -14,3 +15,5 @@ LIMITS = SimpleNamespace(
     MOST_LOG_BYTES=65_536,
     MOST_TEXT=65_536,
 )
+
+UNITS = SimpleNamespace(NO_LIMIT=0, METRES=1, FEET=2, CENTIMETRES=3, INTERNATIONAL_FEET=4)

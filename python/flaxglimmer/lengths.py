@@ -2,23 +2,25 @@
 import re
 from fractions import Fraction
 
+from .header import UNITS as NUMBERS
 from .refusals import UsageFault
 
 # in each unit of a file
 CENTIMETRES = {"mm": Fraction(1, 10), "cm": Fraction(1), "m": Fraction(100), "ft": Fraction(120_000, 3937), "ift": Fraction(3048, 100)}
-UNITS = {"m": 1, "ft": 2, "cm": 3, "ift": 4}  # of a limit, by the header's numbers
+UNITS = {"m": NUMBERS.METRES, "ft": NUMBERS.FEET, "cm": NUMBERS.CENTIMETRES, "ift": NUMBERS.INTERNATIONAL_FEET}  # of a limit
 FEET = {"ft": "survey feet of 1200/3937 m", "ift": "international feet of 30.48 cm"}
-NO_LIMIT = 0
+READ_IN = "the file is read in "  # a note on a file in feet
 
-FIGURE = re.compile(r"\s*([+-]?(?:\d{1,40}(?:\.\d{0,40})?|\.\d{1,40})(?:[eE][+-]?\d{1,4})?)\s*([a-z]+)\s*", re.ASCII)
-DECIMAL = re.compile(r"\s*(\d{1,20}(?:\.\d{1,20})?)\s*([a-z]+)\s*", re.ASCII)
+UNIT = r"\s*((?<=\s)ift|(?!ift)[a-z]+)\s*"  # a blank stands before ift: 3ift and 31ft look alike
+FIGURE = re.compile(r"\s*([+-]?(?:\d{1,40}(?:\.\d{0,40})?|\.\d{1,40})(?:[eE][+-]?\d{1,4})?)" + UNIT, re.ASCII)
+DECIMAL = re.compile(r"\s*(\d{1,20}(?:\.\d{1,20})?)" + UNIT, re.ASCII)
 
 
 def order(limit) -> tuple[int, float]:
     """Unit and figure of an order: None or 'none', a text as '0.3 m', or ('m', 0.3). The figure is the binary64 nearest to the text; the library
     alone reads it."""
     if limit is None or limit == "none":
-        return NO_LIMIT, 0.0
+        return NUMBERS.NO_LIMIT, 0.0
     if isinstance(limit, str):
         typed = FIGURE.fullmatch(limit)
         figure, unit = typed.groups() if typed else (0, None)
@@ -30,9 +32,16 @@ def order(limit) -> tuple[int, float]:
 
 
 def which(typed) -> str:
-    """Behind a limit or a length in feet, which feet they are."""
-    unit = typed[0] if isinstance(typed, tuple) else re.search(r"([a-z]*)\s*$", typed or "")[1]
+    """Behind a unit, a length or a limit, where it is in feet: which feet they are."""
+    unit = typed[0] if isinstance(typed, tuple) else re.search("[a-z]*$", typed.strip())[0]
     return f" ({FEET[unit]})" if unit in FEET else ""
+
+
+def known(unit: str) -> str:
+    """A unit of a file, or UsageFault."""
+    if unit not in CENTIMETRES:
+        raise UsageFault(f"{unit!r} is no unit: these are {', '.join(one + which(one) for one in CENTIMETRES)}")
+    return unit
 
 
 def millimetres(text: str) -> Fraction:

@@ -61,7 +61,7 @@ class Thinned:
     typed: str
 
     def under(self) -> str:
-        """The limit as it was typed, of feet with which they are, and as it was read."""
+        """The limit as it was typed, where in feet with which feet they are, and as it was read."""
         return "no limit" if self.limit is None else f"limit {self.typed}{which(self.typed)} = {self.limit:,} cm"
 
     def volumes(self) -> tuple[int, int]:

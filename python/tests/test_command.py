@@ -151,7 +151,7 @@ def test_thin_tells_writes_and_ends_with_0(run, folder):
 def test_json_of_thin(run, folder):
     arguments = ["thin", folder / "shaft.off", "--unit", "m", "--limit", "1.5 m", "--length", "30 m", "--mean-at-least", "2 m", "--json"]
     told = run(*arguments).told
-    kinds = {"exit": int, "status": int, "file": str, "limit": int, "rows": list, "corners": list, "records": int, "volume": list, "change": int, "farthest": dict, "mean_diameter": dict, "notes": list}
+    kinds = {"exit": int, "status": int, "file": str, "under": str, "limit": int, "rows": list, "corners": list, "records": int, "volume": list, "change": int, "farthest": dict, "mean_diameter": dict, "notes": list}
     assert {name: type(value) for name, value in told.items()} == kinds
     assert set(told["farthest"]) == {"corner", "stand_in", "count", "squared"}
     assert told["mean_diameter"]["verdict"] == "met" and "narrowest place" in told["mean_diameter"]["line"] and len(told["mean_diameter"]["not_covered"]) == 4
@@ -219,7 +219,7 @@ USAGE = [
     (["thin", "shaft.off", "--unit", "m", "--limit", "0.8"], "is no limit: a figure and its unit"),
     (["thin", "shaft.off", "--unit", "m", "--limit", "800 mm"], "is no limit"),
     (["thin", "shaft.off", "--unit", "m", "--limit", "nan m"], "is no limit"),
-    (["thin", "shaft.off", "--unit", "yd", "--limit", "none"], "'yd' is not one of"),
+    (["thin", "shaft.off", "--unit", "yd", "--limit", "none"], "'yd' is no unit: these are mm, cm, m, ft (survey feet of 1200/3937 m), ift (international feet of 30.48 cm)"),
     (["thin", "shaft.off", "--unit", "m", "--limit", "none", "--mend"], "No such option"),
     (["thin", "shaft.off", "--unit", "m", "--limit", "none", "--length", "30"], "is no length"),
     (["thin", "shaft.off", "--unit", "m", "--limit", "none", "--mean-at-least", "3 m"], "needs --length"),
@@ -237,6 +237,8 @@ USAGE = [
     (["limit", "fast"], "is no limit"),
     (["limit", "4.75 feet"], "'4.75 ft' in survey feet or '4.75 ift' in international feet"),
     (["limit", "4.75 FT"], "is no limit"),
+    (["limit", "3ift"], "is no limit"),
+    (["thin", "shaft.off", "--unit", "m", "--limit", "none", "--length", "3ift"], "is no length"),
     (["melt", "shaft.off"], "No such command"),
 ]
 
@@ -267,6 +269,10 @@ def test_where_feet_were_typed_it_is_told_which(unit, other, run, folder):
         assert words in figures and words in page
     assert f"the file is read in {FEET[unit][1:-1]}" in told.err and f"the file is in {FEET[unit][1:-1]}" in page
     assert FEET[other] not in told.out + told.err + page
+    assert run("thin", folder / "shaft.off", *asked, "--json").told["under"] == f"limit 3.5 {unit} {FEET[unit]} = 106 cm"
+    off(folder / "open.off", POINTS, ROWS[1:])
+    told = run("check", folder / "open.off", "--unit", unit)
+    assert told.exit == 1 and f"the file is read in {FEET[unit][1:-1]}\n" in told.err
     told = run("limit", f"4.75 {unit}")
     assert told.exit == 0 and told.out == "144 cm\n" and f"4.75 {unit} {FEET[unit]}" in told.err
 

@@ -22,9 +22,9 @@ def place(tmp_path):
 
 
 def commands(document):
-    """The commands of its one console, each with what it prints."""
-    (block,) = re.findall(r"^```console\n(.*?)^```$", document, re.M | re.S)
-    return re.findall(r"^\$ (.*)\n((?:(?!\$ ).*\n)*)", block, re.M)
+    """The commands of its consoles, each with what it prints."""
+    consoles = "".join(re.findall(r"^```console\n(.*?)^```$", document, re.M | re.S))
+    return re.findall(r"^\$ (.*)\n((?:(?!\$ ).*\n)*)", consoles, re.M)
 
 
 def test_readme_shows_what_the_command_prints(place):
@@ -32,8 +32,8 @@ def test_readme_shows_what_the_command_prints(place):
     assert (place / "report.html").exists()
 
 
-def test_the_page_shows_what_becomes_of_a_mailed_log(place):
-    assert [shown(place, *one) for one in commands(FRONT_END)] == [0, 0, 1, 0, 1]
+def test_the_page_shows_the_two_feet_and_what_becomes_of_a_mailed_log(place):
+    assert [shown(place, *one) for one in commands(FRONT_END)] == [0, 0, 0, 0, 1, 0, 1]
 
 
 def shown(place, command, printed):

@@ -13,7 +13,7 @@ from tables import O_CORNERS, O_ROWS, T_CORNERS, T_ROWS, centimetres, damaged, e
 
 import flaxglimmer as fg
 from flaxglimmer import _native, calls, files, lengths, refusals
-from flaxglimmer.header import LIMITS
+from flaxglimmer.header import LIMITS, UNITS
 
 HEADER = (ROOT / "include" / "flaxglimmer.h").read_text()
 
@@ -22,11 +22,14 @@ O_LAST = [(0, 3, 4), (5, 3, 0), (5, 4, 3), (5, 0, 4)]
 O_LOG = [(0, 1, 0, 0, 1, 2, 3, 0, 4, 1), (0, 2, 0, 0, 2, 3, 2, 5, 2, 0)]
 
 
-def test_the_table_of_limits_is_the_headers():
+def test_the_tables_of_limits_and_units_are_the_headers():
     defined = dict(re.findall(r"^#define FLAXGLIMMER_((?:LEAST|MOST|WIDTH)\w*) (\d+)$", HEADER, re.M))
     assert {name: str(value) for name, value in vars(LIMITS).items()} == defined
+    units = re.search(r"Units of a limit.*?enum \{(.*?)\}", HEADER, re.S)[1]
+    numbered = dict(re.findall(r"FLAXGLIMMER_(\w+) = (\d+)", units))
+    assert {name: str(value) for name, value in vars(UNITS).items()} == numbered
     carried = _native.told(_native.library())
-    assert re.fullmatch("[0-9a-f]{64}", carried.pop("sources")) and carried == defined
+    assert re.fullmatch("[0-9a-f]{64}", carried.pop("sources")) and carried == {**defined, **numbered}
 
 
 def test_every_function_of_the_header_is_called_with_its_types():
@@ -38,12 +41,6 @@ def test_every_function_of_the_header_is_called_with_its_types():
     for result, name, arguments in declared:
         expected = [_native.number if "uint64_t *" in one else _native.lent if "*" in one else kinds[one.split()[0]] for one in re.split(r",\s*", arguments)]
         assert _native.SIGNATURES[name] == (results[result], expected), name
-
-
-def test_units_are_the_headers():
-    names = {"NO_LIMIT": lengths.NO_LIMIT, **{name: lengths.UNITS[unit] for name, unit in (("METRES", "m"), ("FEET", "ft"), ("CENTIMETRES", "cm"), ("INTERNATIONAL_FEET", "ift"))}}
-    enum = re.search(r"Units of a limit.*?enum \{(.*?)\}", HEADER, re.S)[1]
-    assert names == {name: int(number) for name, number in re.findall(r"FLAXGLIMMER_(\w+) = (\d+)", enum)} and len(lengths.UNITS) == 4
 
 
 def test_every_refusal_has_the_headers_words():
@@ -374,6 +371,10 @@ def test_a_library_that_is_missing_or_of_another_version_is_told(fresh, tmp_path
     with pytest.raises(fg.LibraryMissing, match="another version"):
         calls.limit("1 m")
     fresh.setattr(LIMITS, "WIDTH", 10)
+    fresh.delattr(UNITS, "INTERNATIONAL_FEET")
+    with pytest.raises(fg.LibraryMissing, match="another version"):
+        calls.limit("1 m")
+    fresh.setattr(UNITS, "INTERNATIONAL_FEET", 4, raising=False)
     assert calls.limit("1 m") == 100
 
 

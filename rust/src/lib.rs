@@ -70,7 +70,7 @@ pub enum Length {
     /// Survey feet, 1200/3937 of a metre.
     Feet(f64),
     Centimetres(f64),
-    /// 30.48 centimetres.
+    /// International feet, 30.48 centimetres.
     InternationalFeet(f64),
 }
 

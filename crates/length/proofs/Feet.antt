@@ -5,16 +5,15 @@ use mathlib.Core.Bool.{true, false}
 use Prim.Native.Nat.{ℕ, zero, suc, _+_, _*_, _≤_, _<_}
 use native.Mathlib.Nat.{le-div-iff-mul-le, mul-le-mul, mul-pos, le-refl}
 use native.Mathlib.Omega.{arith}
-use lib.IntN.{ℤ, pos}
-use lib.Ieee.{Float, nan, inf, fin, up, down}
+use lib.IntN.{ℤ}
+use lib.Ieee.{Float, nan, inf, fin, up, down, round, mul, div}
 use lib.Ieee.Fits.{down-pos}
-use Rattle.length.specs.declared.Length.the-variants.{Feet, InternationalFeet}
-use Rattle.length.specs.declared.Reading.{Reading}
+use Rattle.length.specs.declared.Length.the-variants.{Feet, Centimetres, InternationalFeet}
 use Rattle.length.specs.declared.Reading.the-variants.{Whole, Unusable}
 use Rattle.length.specs.Limit.{rounded-down, most-limit, capped, reading, limit-of}
 use Rattle.length.proofs.Quotient.{capped-usable, capped-above}
 use Rattle.length.proofs.Laws.{usable, Cap, within, beyond, cap}
-use Rattle.length.proofs.Figures.{nearest, feet-199987, international-199986, feet-unusable, feet-120000, feet-119}
+use Rattle.length.proofs.Figures.{nearest, slip, feet-unusable}
 
 -- a figure comes to c whole centimetres or more exactly when c is no more than its exact value
 reaches : (c m : ℕ) (e : ℤ) (num den : ℕ) → 0 < den → (c ≤ rounded-down m e num den → c * (down e * den) ≤ m * up e * num) × (c * (down e * den) ≤ m * up e * num → c ≤ rounded-down m e num den)
@@ -50,7 +49,7 @@ module _ (m : ℕ) (e : ℤ) where
           let k : c ≤ international = reaches c m e 3048 100 (omega arith) .1 (shorter c (down e) (m * up e) (reaches (c + 1) m e 120000 3937 (omega arith) .0 (omega (arith, h))) (mul-le-mul (omega arith) (le-refl (down e)))) in
           omega arith
 
--- whatever survey feet take, international feet take, as the same or as one centimetre less; what is usable in survey feet alone there is none
+-- whatever survey feet take, international feet take, as the same or as one centimetre less: nothing is usable in survey feet alone
 pub international-takes : (v : Float) {c : ℕ} → limit-of (Feet v) ≡ Whole c → (d : ℕ) × (limit-of (InternationalFeet v) ≡ Whole d) × (d ≤ c) × (c ≤ d + 1)
 unfolding limit-of reading
 international-takes nan p = absurd (usable p)
@@ -65,7 +64,7 @@ international-takes (fin false m e) {c} p = go (cap (survey m e))
         (international m e, capped-usable (omega (arith, no-less m e)), omega (arith, no-less m e), omega (arith, one-more m e h))
     go (beyond h q) = absurd (usable (sym q ∙ p))
 
--- a figure not below zero is usable in survey feet exactly below 6,561.699475, where 200,001 cm begin
+-- a finite figure with the sign clear is unusable in survey feet exactly from 6,561.699475 on, where 200,001 cm begin
 pub survey-end : (m : ℕ) (e : ℤ) → (limit-of (Feet (fin false m e)) ≡ Unusable → 6561699475 * down e ≤ m * up e * 1000000) × (6561699475 * down e ≤ m * up e * 1000000 → limit-of (Feet (fin false m e)) ≡ Unusable)
 unfolding limit-of reading
 survey-end m e = (λ p. told (cap (survey m e)) p, λ h. capped-above (survey-from m e (most-limit + 1) (scaled (down e) (m * up e) h)))
@@ -82,28 +81,29 @@ survey-end m e = (λ p. told (cap (survey m e)) p, λ h. capped-above (survey-fr
 
 -- ---- wrong readers, each by a figure on which it does not answer what `read_limit` ensures
 
-other : {r : Reading} {a b : ℕ} → r ≡ Whole a → a ≢ b → r ≢ Whole b
-other p h q = h (same (sym p ∙ q))
-  where
-    same : {a b : ℕ} → Whole a ≡ Whole b → a ≡ b
-    same e = cc
+other : (a b : ℕ) → a ≢ b → Whole a ≢ Whole b
+other a b h p = let z : a ≡ b = cc in h z
 
 -- goes on taking a foot for 30.48 cm
-pub old-foot-kept : limit-of (Feet (nearest 656125 100)) ≢ Whole 199986
-old-foot-kept = other feet-199987 (omega arith)
-
--- has the new foot, and still asks 1 of the old one
-pub asks-of-old-foot : limit-of (Feet (nearest 65617 10)) ≢ Whole 200000
-asks-of-old-foot p = usable (sym feet-unusable ∙ p)
+pub old-foot-kept : limit-of (Feet (nearest 656125 100)) ≢ reading (nearest 656125 100) 3048 100
+unfolding limit-of reading capped round
+old-foot-kept = other 199987 199986 (omega arith)
 
 -- takes international feet for survey feet too
-pub one-foot-for-both : limit-of (InternationalFeet (nearest 656125 100)) ≢ Whole 199987
-one-foot-for-both = other international-199986 (omega arith)
+pub one-foot-for-both : limit-of (InternationalFeet (nearest 656125 100)) ≢ reading (nearest 656125 100) (1200 * 100) 3937
+unfolding limit-of reading capped round
+one-foot-for-both = other 199986 199987 (omega arith)
 
--- takes a survey foot for 30.48006 cm, as tables have it: 119,999 for 120,000
-pub foot-from-a-table : (rounded-down 3937 (pos 0) 3048006 100000 ≡ 119999) × (limit-of (Feet (nearest 3937 1)) ≢ Whole 119999)
-foot-from-a-table = (refl, other feet-120000 (omega arith))
+-- has the new foot, and asks 1 of the old one, by which 6,561.7 is usable
+pub asks-of-old-foot : limit-of (Feet (nearest 65617 10)) ≢ Whole 200001
+asks-of-old-foot p = usable (sym feet-unusable ∙ p)
 
--- multiplies as a float: 120 for 119
-pub foot-as-float : limit-of (Feet (nearest 3937 1000)) ≢ Whole 120
-foot-as-float = other feet-119 (omega arith)
+-- takes a survey foot for 30.48006 cm, as tables have it
+pub foot-from-a-table : limit-of (Feet (nearest 3937 1)) ≢ reading (nearest 3937 1) 3048006 100000
+unfolding limit-of reading capped round
+foot-from-a-table = other 120000 119999 (omega arith)
+
+-- multiplies as a float: times 1200, over 3937, times 100
+pub foot-as-float : limit-of (Feet (nearest 3937 1000)) ≢ limit-of (Centimetres (slip (nearest 3937 1000)))
+unfolding limit-of reading capped round mul div
+foot-as-float = other 119 120 (omega arith)

@@ -96,8 +96,15 @@ pub feet-119 : limit-of (Feet (nearest 3937 1000)) ≡ Whole 119
 unfolding limit-of reading capped round
 feet-119 = refl
 
--- the old tool's slip again: 3.937 times 1200 over 3937, times 100, comes out as 120, which is 15 * 2 ^ 3
-pub slip-120 : mul binary64 (div binary64 (mul binary64 (nearest 3937 1000) (nearest 1200 1)) (nearest 3937 1)) (nearest 100 1) ≡ fin false 15 (pos 3)
+pub below-3937 : (nearest 3937 1000 ≡ fin false 8865335866478821 (negsuc 50)) × (8865335866478821 * 1000 < 3937 * 2 ^ 51)
+unfolding round
+below-3937 = (refl, omega arith)
+
+-- the old tool's slip on feet, multiplied as a float: 3.937 times 1200, over 3937, times 100, comes out as 120, which is 15 * 2 ^ 3
+abbrev pub slip : Float → Float
+slip v = mul binary64 (div binary64 (mul binary64 v (nearest 1200 1)) (nearest 3937 1)) (nearest 100 1)
+
+pub slip-120 : slip (nearest 3937 1000) ≡ fin false 15 (pos 3)
 unfolding mul div round
 slip-120 = refl
 

@@ -22,7 +22,7 @@ returns : tie.Need-returns
 returns c =
     let recover = c .before .before .before .before .before .recover in
     let order-of = c .before .before .before .before .before .before .before .order-of in
-    record { answer = recover .result; gives = rw (← order-of .ensures) (recover .ensures); says = c .recovery-of .ensures }
+    record { answer = recover .result; gives = rw (order-of .ensures) at (recover .ensures); says = c .recovery-of .ensures }
 
 pub flaxglimmer-recover-spec : {M : Type 1} → statement M
 flaxglimmer-recover-spec =

@@ -22,7 +22,7 @@ returns : tie.Need-returns
 returns c =
     let thin = c .before .before .before .before .before .thin in
     let order-of = c .before .before .before .before .before .before .before .order-of in
-    record { answer = thin .result; gives = rw (← order-of .ensures) (thin .ensures); says = c .counted-thinning .ensures }
+    record { answer = thin .result; gives = rw (order-of .ensures) at (thin .ensures); says = c .counted-thinning .ensures }
 
 pub flaxglimmer-thin-spec : {M : Type 1} → statement M
 flaxglimmer-thin-spec =

@@ -1,5 +1,4 @@
 -- `read_limit`: each unit's figure is read by its own line of the table. A new unit is one more such line.
-use mathlib.Core.Path.{sym, _∙_, ap}
 use Rattle.length.specs.Limit.{limit-of}
 use borrow.Author.Needs.{needs}
 use Rattle.length.proofs.read_limit.Statement.{statement}
@@ -31,19 +30,19 @@ read-figure-requires-4 c κs = search needs
 
 returns : tie.Need-returns
 unfolding limit-of
-returns c = c .read-figure .ensures ∙ sym (ap limit-of (c .before .before .l .given .1))
+returns c = rw (c .before .before .l .given .1) (c .read-figure .ensures)
 
 returns-2 : tie.Need-returns-2
 unfolding limit-of
-returns-2 c = c .read-figure2 .ensures ∙ sym (ap limit-of (c .before .before .l2 .given .1))
+returns-2 c = rw (c .before .before .l2 .given .1) (c .read-figure2 .ensures)
 
 returns-3 : tie.Need-returns-3
 unfolding limit-of
-returns-3 c = c .read-figure3 .ensures ∙ sym (ap limit-of (c .before .before .l3 .given .1))
+returns-3 c = rw (c .before .before .l3 .given .1) (c .read-figure3 .ensures)
 
 returns-4 : tie.Need-returns-4
 unfolding limit-of
-returns-4 c = c .read-figure4 .ensures ∙ sym (ap limit-of (c .before .before .l4 .given .1))
+returns-4 c = rw (c .before .before .l4 .given .1) (c .read-figure4 .ensures)
 
 pub read-limit-spec : {M : Type 1} → statement M
 read-limit-spec =
