@@ -49,8 +49,8 @@ def refusal(refused: Refused) -> Outcome:
     answer = {"status": refused.number, "meaning": refused.meaning, "faults": [asdict(fault) for fault in refused.faults], "hint": hint}
     lines = [str(refused)] + [f"  {fault.text}" for fault in refused.faults[:MOST_FAULTS]]
     lines += [f"  and {len(refused.faults) - MOST_FAULTS:,} more"] if len(refused.faults) > MOST_FAULTS else []
-    warnings = [note for note in refused.notes if note.startswith(("warning: ", lengths.READ_IN))]
-    return Outcome({**answer, "notes": refused.notes}, errors=lines, notes=warnings + ([f"hint: {hint}"] if hint else []), exit=REFUSED)
+    kept = [note for note in refused.notes if note.startswith(("warning: ", skins.READ_IN))]
+    return Outcome({**answer, "notes": refused.notes}, errors=lines, notes=kept + ([f"hint: {hint}"] if hint else []), exit=REFUSED)
 
 
 def outcome(act) -> Outcome:
@@ -115,13 +115,13 @@ def main():
 
 # Options that several commands share
 
-FEET = "; ".join(f"{unit}: {which}" for unit, which in lengths.FEET.items()) + "."
+WHICH_FEET = "; ".join(f"{unit}: {which}" for unit, which in lengths.FEET.items()) + "."
 
 
 def known_unit(context, parameter, unit: str | None) -> str | None:
     """What is no unit is told with which feet there are."""
     try:
-        return unit and lengths.known(unit)
+        return unit if unit is None else lengths.known(unit)
     except UsageFault as fault:
         raise click.BadParameter(str(fault))
 
@@ -132,7 +132,7 @@ def with_file(function):
         click.option("--drop-flat", is_flag=True, help="Leave out rows that have one corner twice."),
         click.option("--weld", type=click.Choice(files.WELDS), default="auto", show_default=True, help="Join equal points; auto: those of an STL."),
         click.option("--origin", metavar="X,Y,Z|auto", help="Whole metres, taken off before rounding; auto: nearest the middle."),
-        click.option("--unit", metavar="|".join(lengths.CENTIMETRES), callback=known_unit, help=f"The file's unit: no format tells it. {FEET}"),
+        click.option("--unit", metavar="|".join(lengths.CENTIMETRES), callback=known_unit, help=f"The file's unit: no format tells it. {WHICH_FEET}"),
         click.argument("file"),
     ):
         function = option(function)
@@ -219,7 +219,7 @@ def with_order(function):
         click.option("--mean-at-least", help="As '3000 mm': whether the mean diameter is shown to be as much."),
         click.option("--length", help="The shaft's, as '30 m', in a unit of a file, for the mean diameter of the skin."),
         to_write("report", "Write the report, one HTML file."),
-        click.option("--limit", required=True, help=f"As '0.8 m', '30 cm', '4.75 ft', '4.75 ift', or none. {FEET}"),
+        click.option("--limit", required=True, help=f"As '0.8 m', '30 cm', '4.75 ft', '4.75 ift', or none. {WHICH_FEET}"),
     ):
         function = option(function)
     return function
@@ -483,14 +483,13 @@ def log(log):
 @command("limit", ignore_unknown_options=True)  # a limit below zero is no option
 @click.argument("typed", metavar="LIMIT")
 def limit(typed):
-    """A LIMIT as '0.3 m' in whole centimetres, as the library reads it. In ft it is in survey feet, in ift in international feet."""
+    """A LIMIT as '0.3 m' in whole centimetres, as the library reads it; ft are survey feet, ift international feet."""
     try:
         whole = calls.limit(typed)
     except Refused as refused:
         refused.faults = (faults.unusable(typed),)
         raise
-    feet = lengths.which(typed)
-    return Outcome({"status": 0, "limit": whole}, [f"{whole} cm"], notes=[typed.strip() + feet] if feet else [])
+    return Outcome({"status": 0, "limit": whole}, [f"{whole} cm"], notes=[lengths.told(typed)] if lengths.which(typed) else [])
 
 
 def entry(arguments: list | None = None) -> int:

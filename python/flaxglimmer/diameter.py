@@ -6,7 +6,7 @@ from dataclasses import dataclass
 from fractions import Fraction
 from math import isqrt
 
-from .lengths import millimetres, which
+from .lengths import millimetres, told
 
 PI = Fraction(314159265358979323846, 10**20), Fraction(314159265358979323847, 10**20)  # below and above
 SAYS = "this is the mean, and says nothing of the narrowest place"
@@ -42,10 +42,9 @@ class Diameter:
     move: str
 
     def line(self) -> str:
-        told = f"mean diameter of the skin over {self.length}{which(self.length)}: "
-        told += f"{self.ends[0]:,} to {self.ends[1]:,} mm" if self.ends else f"none, a figure of {self.figure} m³ is below 1 m³"
-        asked = f"; at least {self.least}{which(self.least)} asked: {self.verdict}" if self.verdict else ""
-        return f"{told}{asked} ({SAYS})"
+        ends = f"{self.ends[0]:,} to {self.ends[1]:,} mm" if self.ends else f"none, a figure of {self.figure} m³ is below 1 m³"
+        asked = f"; at least {told(self.least)} asked: {self.verdict}" if self.verdict else ""
+        return f"mean diameter of the skin over {told(self.length)}: {ends}{asked} ({SAYS})"
 
     def not_covered(self) -> list[str]:
         return [

@@ -13,7 +13,7 @@ import numpy as np
 from . import calls, lent, logs, readers
 from .faults import in_sheet, quoted
 from .header import LIMITS
-from .lengths import CENTIMETRES, FEET, READ_IN, known, which
+from .lengths import CENTIMETRES, known, which
 from .refusals import Fault, FileFault, Refused, UsageFault
 from .skins import Skin
 
@@ -150,8 +150,7 @@ def _skin(scan: Scan, unit: str, origin, single: bool, name: str, digest: str) -
     """A prepared scan rounded to a skin, with what has to be told."""
     origin = _origin(origin, scan.points, unit)
     rounded = to_centimetres(scan.points, unit, origin)
-    notes = [READ_IN + FEET[unit]] if unit in FEET else []
-    notes += scan.notes + [f"coordinates were rounded once to whole centimetres; the largest move is {_told_move(rounded)} cm, at corner {rounded.corner}"]
+    notes = scan.notes + [f"coordinates were rounded once to whole centimetres; the largest move is {_told_move(rounded)} cm, at corner {rounded.corner}"]
     if any(origin):
         told = ", ".join(f"{metres:,}" for metres in origin)
         notes.append(f"the origin ({told}) m was taken off before rounding; halves of a centimetre may round otherwise without it")

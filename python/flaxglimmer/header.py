@@ -1,4 +1,4 @@
-"""The header's limits and the units of a length limit by their names, and the one table of them in this package. A loaded library must carry the same
+"""The header's limits, and its units of a limit, by their names, and the one table of each in this package. A loaded library must carry the same
 numbers."""
 from types import SimpleNamespace
 

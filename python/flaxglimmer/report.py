@@ -16,7 +16,7 @@ from .skins import Recovered, Skin, Thinned
 
 STAGES = 257  # most stages that the plot asks about
 ACROSS, TALL, EDGE = 300, 560, 12  # of a picture
-UNITS = {"mm": "millimetres", "cm": "centimetres", "m": "metres", **FEET}
+IN_WORDS = {"mm": "millimetres", "cm": "centimetres", "m": "metres", **FEET}
 
 
 def stages(thinned: Thinned) -> list[tuple[int, int]]:
@@ -98,7 +98,7 @@ def page(thinned: Thinned, length: str | None = None, mean_at_least: str | None 
         skin=skin,
         thinned=thinned,
         recovered=thinned if isinstance(thinned, Recovered) else None,
-        unit=UNITS[skin.unit],
+        unit=IN_WORDS[skin.unit],
         origin=", ".join(f"{metres:,}" for metres in skin.origin),
         diameter=of_skin(first, skin.move, length, mean_at_least) if length else None,
         first=first,

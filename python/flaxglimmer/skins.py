@@ -8,8 +8,10 @@ import numpy as np
 from . import calls, logs
 from .faults import Finder
 from .lent import Shift
-from .lengths import order, which
+from .lengths import FEET, order, told
 from .refusals import OurFault, Refused
+
+READ_IN = "the file is read in "  # before the feet of a file
 
 
 @dataclass
@@ -44,7 +46,8 @@ class Skin:
         return refused
 
     def told(self) -> list:
-        return [f"warning: {warning}" for warning in self.warnings] + self.notes
+        feet = [READ_IN + FEET[self.unit]] if self.unit in FEET else []
+        return [f"warning: {warning}" for warning in self.warnings] + feet + self.notes
 
     def volume(self) -> int:
         return calls.volume(self.rows, self.corners)
@@ -62,7 +65,7 @@ class Thinned:
 
     def under(self) -> str:
         """The limit as it was typed, where in feet with which feet they are, and as it was read."""
-        return "no limit" if self.limit is None else f"limit {self.typed}{which(self.typed)} = {self.limit:,} cm"
+        return "no limit" if self.limit is None else f"limit {told(self.typed)} = {self.limit:,} cm"
 
     def volumes(self) -> tuple[int, int]:
         return self.skin.volume(), calls.volume(self.rows, self.skin.corners)

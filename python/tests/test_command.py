@@ -235,10 +235,11 @@ USAGE = [
     (["check", "o.sheet", "--turn"], "a sheet is in whole centimetres"),
     (["shift", "o.sheet", "o.log", "-1"], "-1"),
     (["limit", "fast"], "is no limit"),
-    (["limit", "4.75 feet"], "'4.75 ft' in survey feet or '4.75 ift' in international feet"),
+    (["limit", "4.75 feet"], "'4.75 ft' in survey feet or, with a blank, '4.75 ift' in international feet"),
     (["limit", "4.75 FT"], "is no limit"),
-    (["limit", "3ift"], "is no limit"),
-    (["thin", "shaft.off", "--unit", "m", "--limit", "none", "--length", "3ift"], "is no length"),
+    (["limit", "3ift"], "with a blank, '4.75 ift'"),
+    (["thin", "shaft.off", "--unit", "m", "--limit", "none", "--length", "3ift"], "with a blank, '98.5 ift'"),
+    (["check", "none.off", "--unit", ""], "'' is no unit"),
     (["melt", "shaft.off"], "No such command"),
 ]
 
@@ -268,13 +269,14 @@ def test_where_feet_were_typed_it_is_told_which(unit, other, run, folder):
     for words in (f"limit 3.5 {unit} {FEET[unit]} = 106 cm", f"over 98.5 {unit} {FEET[unit]}: ", f"at least 3 {unit} {FEET[unit]} asked"):
         assert words in figures and words in page
     assert f"the file is read in {FEET[unit][1:-1]}" in told.err and f"the file is in {FEET[unit][1:-1]}" in page
-    assert FEET[other] not in told.out + told.err + page
+    assert FEET[other][1:-1] not in told.out + told.err + page
     assert run("thin", folder / "shaft.off", *asked, "--json").told["under"] == f"limit 3.5 {unit} {FEET[unit]} = 106 cm"
     off(folder / "open.off", POINTS, ROWS[1:])
     told = run("check", folder / "open.off", "--unit", unit)
     assert told.exit == 1 and f"the file is read in {FEET[unit][1:-1]}\n" in told.err
     told = run("limit", f"4.75 {unit}")
-    assert told.exit == 0 and told.out == "144 cm\n" and f"4.75 {unit} {FEET[unit]}" in told.err
+    assert told.exit == 0 and told.out == "144 cm\n" and told.err == f"  4.75 {unit} {FEET[unit]}\n"
+    assert run("limit", f" 4.75\n {unit} ").err == told.err
 
 
 def test_no_foot_is_told_where_none_was_typed(run, folder):

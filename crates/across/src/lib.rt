@@ -121,7 +121,8 @@ pub struct Stored {
 
 // ---- orders
 
-// Inner: a unit's limit: 1 metres, 2 feet, 3 centimetres, 4 international feet. Any other unit gives no limit that can be used: it stands for a figure that is no number.
+// Inner: a unit's limit: 1 metres, 2 feet, 3 centimetres, 4 international feet. Any other unit gives no limit that can be used: it stands for a
+// figure that is no number.
 pub fn length_of(unit: u32, figure: f64) -> Length
     ensures { λ l. ⌜ l ≡ length-of unit figure ⌝ }
 {

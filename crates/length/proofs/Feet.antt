@@ -5,7 +5,7 @@ use mathlib.Core.Bool.{true, false}
 use Prim.Native.Nat.{ℕ, zero, suc, _+_, _*_, _≤_, _<_}
 use native.Mathlib.Nat.{le-div-iff-mul-le, mul-le-mul, mul-pos, le-refl}
 use native.Mathlib.Omega.{arith}
-use lib.IntN.{ℤ}
+use lib.IntN.{ℤ, negsuc}
 use lib.Ieee.{Float, nan, inf, fin, up, down, round, mul, div}
 use lib.Ieee.Fits.{down-pos}
 use Rattle.length.specs.declared.Length.the-variants.{Feet, Centimetres, InternationalFeet}
@@ -13,7 +13,7 @@ use Rattle.length.specs.declared.Reading.the-variants.{Whole, Unusable}
 use Rattle.length.specs.Limit.{rounded-down, most-limit, capped, reading, limit-of}
 use Rattle.length.proofs.Quotient.{capped-usable, capped-above}
 use Rattle.length.proofs.Laws.{usable, Cap, within, beyond, cap}
-use Rattle.length.proofs.Figures.{nearest, slip, feet-unusable}
+use Rattle.length.proofs.Figures.{nearest, slip}
 
 -- a figure comes to c whole centimetres or more exactly when c is no more than its exact value
 reaches : (c m : ℕ) (e : ℤ) (num den : ℕ) → 0 < den → (c ≤ rounded-down m e num den → c * (down e * den) ≤ m * up e * num) × (c * (down e * den) ≤ m * up e * num → c ≤ rounded-down m e num den)
@@ -94,9 +94,10 @@ pub one-foot-for-both : limit-of (InternationalFeet (nearest 656125 100)) ≢ re
 unfolding limit-of reading capped round
 one-foot-for-both = other 199986 199987 (omega arith)
 
--- has the new foot, and asks 1 of the old one, by which 6,561.7 is usable
-pub asks-of-old-foot : limit-of (Feet (nearest 65617 10)) ≢ Whole 200001
-asks-of-old-foot p = usable (sym feet-unusable ∙ p)
+-- asks 1 of the old foot, by which 6,561.7 is usable, and answers by the new one
+pub asks-of-old-foot : (reading (nearest 65617 10) 3048 100 ≡ Whole 200000) × (limit-of (Feet (nearest 65617 10)) ≢ Whole (rounded-down 7214665447977779 (negsuc 39) (1200 * 100) 3937))
+unfolding limit-of reading capped round
+asks-of-old-foot = (refl, usable)
 
 -- takes a survey foot for 30.48006 cm, as tables have it
 pub foot-from-a-table : limit-of (Feet (nearest 3937 1)) ≢ reading (nearest 3937 1) 3048006 100000
