@@ -28,6 +28,8 @@ def test_the_tables_of_limits_and_units_are_the_headers():
     units = re.search(r"Units of a limit.*?enum \{(.*?)\}", HEADER, re.S)[1]
     numbered = dict(re.findall(r"FLAXGLIMMER_(\w+) = (\d+)", units))
     assert {name: str(value) for name, value in vars(UNITS).items()} == numbered
+    typed = {"m": "METRES", "cm": "CENTIMETRES", "ft": "FEET", "ift": "INTERNATIONAL_FEET"}
+    assert lengths.UNITS == {unit: int(numbered[name]) for unit, name in typed.items()} and lengths.order("none") == (int(numbered["NO_LIMIT"]), 0.0)
     carried = _native.told(_native.library())
     assert re.fullmatch("[0-9a-f]{64}", carried.pop("sources")) and carried == {**defined, **numbered}
 
