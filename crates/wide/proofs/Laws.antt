@@ -1,5 +1,5 @@
 -- Whole parts and rests over ℤ: what a carry, a borrow and a bound come to, and that every sum has one whole part and one rest.
-use mathlib.Core.Path.{_≡_, refl, sym, _∙_, ap}
+use mathlib.Core.Path.{_≡_, sym, _∙_, ap}
 use Prim.Native.Nat.{ℕ, suc, _+_, _-_, _*_, _/_, _%_, _≤_, _<_}
 use native.Mathlib.Omega.{arith}
 use lib.IntN.{ℤ, pos, negsuc, negℤ, _+ℤ_, _-ℤ_, _*ℤ_, natAbs, pos-ne-negsuc, +ℤ-comm, +ℤ-assoc, -ℤ-+ℤ-cancel}
