@@ -26,7 +26,7 @@ use Rattle.faults.proofs.Opposites.{in-or-out, below-or-not, twice-or-apart}
 use Rattle.run.specs.Run.{Run}
 use Rattle.distance.specs.Corners.{squared-distance}
 use Rattle.figure.specs.Sum.{minor, determinant, sixfold}
-use Rattle.figure.specs.Rounding.{figure, change}
+use Rattle.wide.specs.Rounding.{figure, change}
 use Rattle.volume.specs.declared.Measured.{Measured}
 use Rattle.volume.specs.declared.Measured.the-variants.{Figure}
 use Rattle.volume.specs.Answer.{told}

@@ -6,13 +6,17 @@ use native.Mathlib.Omega.{arith}
 use lib.IntN.{ℤ, _-ℤ_, natAbs}
 use lib.ListN.{length}
 use mir.Syntax.{w64}
-use mir.Val.{SFits, toZ, ofZ}
+use mir.Val.{SFits}
 use Rattle.surface.specs.Rows.{Row, row}
 use Rattle.surface.specs.Stage.{Stage}
 use Rattle.corners.specs.Limits.{most-coordinate}
 use Rattle.corners.specs.Skin.{InRange}
 use Rattle.ints.proofs.Ints.{abs-add, abs-minus}
-use Rattle.ints.proofs.Machine.{Is, var, fits, kept, times, plus, less, sfits-abs}
+use Rattle.ints.proofs.Machine.{Is, times, plus, less, sfits-abs}
+use Rattle.wide.specs.declared.Wide.{Wide}
+use Rattle.wide.specs.Wide.{Exact}
+use Rattle.wide.specs.Inner.{most-wide, Fits}
+use Rattle.wide.proofs.Laws.{fits-within}
 use Rattle.distance.specs.Corners.{coordinate}
 use Rattle.distance.proofs.Ranges.{in-range-coordinate}
 use Rattle.figure.specs.Sum.{minor, determinant, sixfold}
@@ -54,9 +58,16 @@ module _ {T : List Row} {xs : List ℤ} (c : WithCoordinates T xs) where
   pub sum-fits : SFits w64 (sixfold xs T)
   sum-fits = sfits-abs w64 _ (omega (arith, sum-size, sums-fit))
 
--- two sums as an i64 holds them
-pub difference-fits : (x y : ℤ) → SFits w64 x → SFits w64 y → natAbs x ≤ sum-bound → natAbs y ≤ sum-bound → SFits w64 (toZ w64 (ofZ w64 x) -ℤ toZ w64 (ofZ w64 y))
-difference-fits x y f g a b = fits w64 (less (var w64 f a) (var w64 g b)) changes-fit
-
 pub change-fits : {T T′ : List Row} {xs : List ℤ} → WithCoordinates T xs → WithCoordinates T′ xs → SFits w64 (sixfold xs T′ -ℤ sixfold xs T)
 change-fits {T} {T′} {xs} c c′ = sfits-abs w64 _ (omega (arith, abs-minus (sixfold xs T′) (sixfold xs T), sum-size c, sum-size c′, changes-fit))
+
+-- ---- what fits an exact sum: 32 sums of as many rows as 16 tables have
+
+pub sums-wide : 32 * (16 * sum-bound) ≤ most-wide
+sums-wide = omega arith
+
+pub sum-wide : {T : List Row} {xs : List ℤ} {w : Wide} → WithCoordinates T xs → Exact (sixfold xs T) w → Fits w
+sum-wide c e = fits-within e (omega (arith, sum-size c, sums-wide))
+
+pub change-wide : {T T′ : List Row} {xs : List ℤ} {w : Wide} → WithCoordinates T xs → WithCoordinates T′ xs → Exact (sixfold xs T′ -ℤ sixfold xs T) w → Fits w
+change-wide {T} {T′} {xs} c c′ e = fits-within e (omega (arith, abs-minus (sixfold xs T′) (sixfold xs T), sum-size c, sum-size c′, sums-wide))

@@ -1,3 +1,2 @@
 pub mod Sum
-pub mod Rounding
 pub mod Inner

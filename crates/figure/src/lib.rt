@@ -1,42 +1,16 @@
-// The figures: the volume of a stage and the change between two, each an exact sum rounded once.
-// All here is inner: the calls that report figures check the stages and their coordinates first. No sum leaves this crate.
+// The figures: the exact sum of a stage, its volume, and the change between two stages, each an exact sum rounded once.
+// All here is inner: the calls that report sums and figures check the stages and their coordinates first.
+use wide::Wide;
 ghost use mathlib.Core.Path.{_≡_};
 ghost use Prim.Native.Nat.{_<_, _≤_};
 ghost use lib.IntN.{natAbs};
 ghost use Rattle.surface.specs.Rows.{rows};
 ghost use Rattle.corners.specs.Skin.{InRange};
 ghost use Rattle.distance.specs.Inner.{Has};
+ghost use Rattle.wide.specs.Rounding.{figure, change};
+ghost use Rattle.wide.specs.Wide.{Exact};
 ghost use Rattle.figure.specs.Inner.{WithCoordinates, minor-bound, row-bound, sum-bound};
 ghost use Rattle.figure.specs.Sum.{minor, determinant, sixfold};
-ghost use Rattle.figure.specs.Rounding.{figure, change};
-
-// Six times the cubic centimetres of a cubic metre.
-const DIVISOR: i64 = 6000000;
-
-const HALF: i64 = DIVISOR / 2;
-
-// The figure in cubic metres of an exact sum, any sum at all. The remainder has the sum's sign, so a half shows on either side of zero.
-fn cubic_metres(s: i64) -> i64
-    ensures { λ r. ⌜ r ≡ figure s ⌝ }
-{
-    let q = s / DIVISOR;
-    let r = s % DIVISOR;
-    if HALF <= r {
-        return q + 1;
-    }
-    if r <= -HALF {
-        return q - 1;
-    }
-    q
-}
-
-// The change from an earlier exact sum to a later one, rounded once.
-fn change_of(earlier: i64, later: i64) -> i64
-    requires { ⌜ (natAbs earlier ≤ sum-bound) × (natAbs later ≤ sum-bound) ⌝ }
-    ensures { λ r. ⌜ r ≡ change earlier later ⌝ }
-{
-    cubic_metres(later - earlier)
-}
 
 // The determinant of two by two of the corners b and c in the coordinates j and k.
 fn minor_of(xs: &[i32], b: u32, c: u32, j: usize, k: usize) -> i64
@@ -71,12 +45,20 @@ fn sixfold_sum(t: &[u32], xs: &[i32]) -> i64
     s
 }
 
+// Inner: the exact sixfold volume of a stage, as whole part and rest.
+pub fn exact_sum_of(t: &[u32], xs: &[i32]) -> Wide
+    requires { ⌜ WithCoordinates (rows (now t)) (now xs) ⌝ }
+    ensures { λ r. ⌜ Exact (sixfold (now (xs .entry)) (rows (now (t .entry)))) r ⌝ }
+{
+    wide::enter(sixfold_sum(t, xs))
+}
+
 // Inner: the volume of a stage, in cubic metres.
 pub fn volume_of(t: &[u32], xs: &[i32]) -> i64
     requires { ⌜ WithCoordinates (rows (now t)) (now xs) ⌝ }
     ensures { λ r. ⌜ r ≡ figure (sixfold (now (xs .entry)) (rows (now (t .entry)))) ⌝ }
 {
-    cubic_metres(sixfold_sum(t, xs))
+    wide::cubic_metres(exact_sum_of(t, xs))
 }
 
 // Inner: the change from an earlier stage to a later one over the same coordinates, in cubic metres.
@@ -84,5 +66,5 @@ pub fn change_between(earlier: &[u32], later: &[u32], xs: &[i32]) -> i64
     requires { ⌜ WithCoordinates (rows (now earlier)) (now xs) × WithCoordinates (rows (now later)) (now xs) ⌝ }
     ensures { λ r. ⌜ r ≡ change (sixfold (now (xs .entry)) (rows (now (earlier .entry)))) (sixfold (now (xs .entry)) (rows (now (later .entry)))) ⌝ }
 {
-    change_of(sixfold_sum(earlier, xs), sixfold_sum(later, xs))
+    wide::cubic_metres(wide::less(exact_sum_of(later, xs), exact_sum_of(earlier, xs)))
 }

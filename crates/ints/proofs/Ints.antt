@@ -3,11 +3,11 @@ use mathlib.Core.Path.{_≡_, refl, sym, _∙_, ap}
 use mathlib.Core.Bool.{Bool, true, false, cond}
 use Prim.Native.Nat.{ℕ, zero, suc, _+_, _-_, _*_, _/_, _%_, _≤_}
 use native.Mathlib.Omega.{arith}
-use native.Mathlib.Nat.{mul-zero}
+use native.Mathlib.Nat.{mul-zero, div-add-mod}
 use lib.Dec.{ltb}
-use borrow.Author.Tests.{ltb-true, ltb-false}
+use borrow.Author.Tests.{ltb-true, ltb-false, le-ltb}
 use lib.Signed.{quotZ, remZ}
-use lib.IntN.{ℤ, pos, negsuc, negℤ, subℕ, _+ℤ_, _-ℤ_, _*ℤ_, natAbs, negℤ-negℤ, negℤ-+ℤ, +ℤ-comm, +ℤ-assoc, +ℤ-invr, -ℤ-+ℤ-cancel}
+use lib.IntN.{ℤ, pos, negsuc, sucℤ, predℤ, negℤ, subℕ, _+ℤ_, _-ℤ_, _*ℤ_, natAbs, negℤ-negℤ, negℤ-+ℤ, +ℤ-comm, +ℤ-assoc, +ℤ-idl, +ℤ-invr, -ℤ-+ℤ-cancel, sucℤ-+ℤ, predℤ-+ℤ, zero-*ℤ, sucℤ-*ℤ, predℤ-*ℤ, *ℤ-comm}
 
 pub abs-neg : (z : ℤ) → natAbs (negℤ z) ≡ natAbs z
 abs-neg (pos zero) = refl
@@ -51,6 +51,17 @@ abs-back x y = sym (abs-neg (x -ℤ y)) ∙ ap natAbs (minus-back x y)
 pub abs-through : (x y z : ℤ) → natAbs (x -ℤ z) ≤ natAbs (x -ℤ y) + natAbs (y -ℤ z)
 abs-through x y z = rw (minus-through x y z) (abs-add (x -ℤ y) (y -ℤ z))
 
+-- two sums, added by their parts
+pub plus-parts : (a b c d : ℤ) → (a +ℤ b) +ℤ (c +ℤ d) ≡ (a +ℤ c) +ℤ (b +ℤ d)
+plus-parts a b c d =
+    +ℤ-assoc a b (c +ℤ d)
+    ∙ ap (λ t. a +ℤ t) (sym (+ℤ-assoc b c d) ∙ ap (λ t. t +ℤ d) (+ℤ-comm b c) ∙ +ℤ-assoc c b d)
+    ∙ sym (+ℤ-assoc a c (b +ℤ d))
+
+-- the one taken from the other
+pub minus-parts : (a b c d : ℤ) → (a +ℤ b) -ℤ (c +ℤ d) ≡ (a -ℤ c) +ℤ (b -ℤ d)
+minus-parts a b c d = ap (λ t. (a +ℤ b) +ℤ t) (negℤ-+ℤ c d) ∙ plus-parts a b (negℤ c) (negℤ d)
+
 -- ---- products
 
 pub abs-mul : (x y : ℤ) → natAbs (x *ℤ y) ≡ natAbs x * natAbs y
@@ -71,7 +82,41 @@ times-neg (negsuc a) (pos zero) = rw (mul-zero (suc a))
 times-neg (negsuc a) (pos (suc b)) = sym (negℤ-negℤ (pos (suc a * suc b)))
 times-neg (negsuc a) (negsuc b) = refl
 
+-- the last summand of three goes to the front ones
+pub last-in : (a b c : ℤ) → (a +ℤ b) +ℤ c ≡ (a +ℤ c) +ℤ b
+last-in a b c = +ℤ-assoc a b c ∙ ap (λ t. a +ℤ t) (+ℤ-comm b c) ∙ sym (+ℤ-assoc a c b)
+
+module _ (y z x : ℤ) (h : (y +ℤ z) *ℤ x ≡ y *ℤ x +ℤ z *ℤ x) where
+  one-up : (sucℤ y +ℤ z) *ℤ x ≡ sucℤ y *ℤ x +ℤ z *ℤ x
+  one-up =
+      ap (λ t. t *ℤ x) (sucℤ-+ℤ y z) ∙ sucℤ-*ℤ (y +ℤ z) x ∙ ap (λ t. t +ℤ x) h
+      ∙ last-in (y *ℤ x) (z *ℤ x) x ∙ ap (λ t. t +ℤ z *ℤ x) (sym (sucℤ-*ℤ y x))
+
+  one-down : (predℤ y +ℤ z) *ℤ x ≡ predℤ y *ℤ x +ℤ z *ℤ x
+  one-down =
+      ap (λ t. t *ℤ x) (predℤ-+ℤ y z) ∙ predℤ-*ℤ (y +ℤ z) x ∙ ap (λ t. t -ℤ x) h
+      ∙ last-in (y *ℤ x) (z *ℤ x) (negℤ x) ∙ ap (λ t. t +ℤ z *ℤ x) (sym (predℤ-*ℤ y x))
+
+at-zero : (z x : ℤ) → (pos zero +ℤ z) *ℤ x ≡ pos zero *ℤ x +ℤ z *ℤ x
+at-zero z x = ap (λ t. t *ℤ x) (+ℤ-idl z) ∙ sym (+ℤ-idl (z *ℤ x)) ∙ ap (λ t. t +ℤ z *ℤ x) (sym (zero-*ℤ x))
+
+plus-times : (y z x : ℤ) → (y +ℤ z) *ℤ x ≡ y *ℤ x +ℤ z *ℤ x
+plus-times (pos zero) z x = at-zero z x
+plus-times (pos (suc n)) z x = one-up (pos n) z x (plus-times (pos n) z x)
+plus-times (negsuc zero) z x = one-down (pos zero) z x (at-zero z x)
+plus-times (negsuc (suc n)) z x = one-down (negsuc n) z x (plus-times (negsuc n) z x)
+
+pub times-plus : (x y z : ℤ) → x *ℤ (y +ℤ z) ≡ x *ℤ y +ℤ x *ℤ z
+times-plus x y z = *ℤ-comm x (y +ℤ z) ∙ plus-times y z x ∙ (λ i. *ℤ-comm y x i +ℤ *ℤ-comm z x i)
+
+pub times-minus : (x y z : ℤ) → x *ℤ (y -ℤ z) ≡ x *ℤ y -ℤ x *ℤ z
+times-minus x y z = times-plus x y (negℤ z) ∙ ap (λ t. x *ℤ y +ℤ t) (times-neg x z)
+
 -- ---- the distance of two naturals
+
+pub pos-minus : (a b : ℕ) → b ≤ a → pos a -ℤ pos b ≡ pos (a - b)
+pos-minus a zero h = ap pos (omega arith)
+pos-minus a (suc b) h = rw (le-ltb a (suc b) h)
 
 pub abs-diff : (a b : ℕ) → natAbs (pos a -ℤ pos b) ≡ (a - b) + (b - a)
 abs-diff a zero = omega arith
@@ -94,3 +139,10 @@ abs-quot (negsuc n) d = abs-neg (pos (suc n / d))
 pub abs-rem : (s : ℤ) (d : ℕ) → natAbs (remZ s (pos d)) ≡ natAbs s % d
 abs-rem (pos n) d = refl
 abs-rem (negsuc n) d = abs-neg (pos (suc n % d))
+
+pub quot-rem : (s : ℤ) (d : ℕ) → pos d *ℤ quotZ s (pos d) +ℤ remZ s (pos d) ≡ s
+quot-rem (pos n) d = ap pos (div-add-mod n d)
+quot-rem (negsuc n) d =
+    ap (λ t. t +ℤ negℤ (pos (suc n % d))) (times-neg (pos d) (pos (suc n / d)))
+    ∙ sym (negℤ-+ℤ (pos (d * (suc n / d))) (pos (suc n % d)))
+    ∙ ap (λ (k : ℕ). negℤ (pos k)) (div-add-mod (suc n) d)

@@ -38,6 +38,10 @@ within {B} v = subst (λ (k : ℤ). natAbs k ≤ B) (sym (v .same)) (v .size)
 pub tells : {B : ℕ} {z m : ℤ} → Is B z m → (m ≡ z) × (natAbs m ≤ B)
 tells v = (v .same, within v)
 
+-- a constant of either sign
+pub constant : (z : ℤ) → Is (natAbs z) z z
+constant z = record { same = refl; size = omega arith }
+
 -- a literal that is not below zero
 pub lit : (n : ℕ) → Is n (pos n) (pos n)
 lit n = record { same = refl; size = omega arith }

@@ -11,7 +11,7 @@ use mir.Syntax.{w64}
 use mir.Val.{SFits, toZ, ofZ}
 use Rattle.ints.proofs.Machine.{Is, any, lit, kept, plus, less, unsigned}
 
-true-false : {X : Type 0} → true ≡ false → X
+pub true-false : {X : Type 0} → true ≡ false → X
 true-false p = let z : _≡_ {A = ℕ} 0 1 = cc in absurd (omega arith)
 
 -- below zero: the number is -(k + 1)
@@ -24,7 +24,7 @@ pub below : (z : ℤ) → SFits w64 z → ltZ z (pos 0) ≡ true → Below z
 below (pos n) f t = absurd (omega (arith, leb-true (suc n) 0 t))
 below (negsuc n) f t = record { k = n; is = refl; small = f .sfits }
 
-above : (z : ℤ) → ltZ z (pos 0) ≡ false → z ≡ pos (natAbs z)
+pub above : (z : ℤ) → ltZ z (pos 0) ≡ false → z ≡ pos (natAbs z)
 above (pos n) t = refl
 above (negsuc n) t = true-false t
 

@@ -11,8 +11,8 @@ use Rattle.run.specs.Run.{Taken}
 use Rattle.run.proofs.Main.{taken-replayed}
 use Rattle.distance.specs.Corners.{Short}
 use Rattle.figure.specs.Sum.{sixfold}
-use Rattle.figure.specs.Rounding.{figure}
-use Rattle.figure.proofs.Rounded.{figure-near}
+use Rattle.wide.specs.Rounding.{figure}
+use Rattle.wide.proofs.Rounded.{figure-near}
 use Rattle.record.specs.Layout.{log-of, room-for}
 use Rattle.length.specs.declared.Length.{Length}
 use Rattle.length.specs.declared.Order.the-variants.{Limit}

@@ -11,7 +11,7 @@ use Rattle.refusal.specs.Told as answers
 use Rattle.faults.specs.Counts.{corners}
 use Rattle.run.specs.Run.{Taken, Run}
 use Rattle.figure.specs.Sum.{sixfold}
-use Rattle.figure.specs.Rounding.{WithinHalf}
+use Rattle.wide.specs.Rounding.{WithinHalf}
 use Rattle.record.specs.Layout.{room-for}
 use Rattle.record.specs.Front.{zeroed}
 use Rattle.length.specs.declared.Order.{Order}

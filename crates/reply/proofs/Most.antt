@@ -22,7 +22,7 @@ use Rattle.run.proofs.Main.{taken-replayed, replayed-stage, replayed-rows, step
 use Rattle.record.specs.Layout.{width, three, numbers, log-of}
 use Rattle.record.proofs.Log.{log-length}
 use Rattle.figure.specs.Sum.{sixfold}
-use Rattle.figure.specs.Rounding.{figure}
+use Rattle.wide.specs.Rounding.{figure}
 use Rattle.figure.proofs.Sizes.{sixfold-size}
 use Rattle.ints.proofs.Ints.{abs-neg}
 use Rattle.text.specs.Decimal.{decimal, signed}

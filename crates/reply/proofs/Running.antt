@@ -15,7 +15,7 @@ use Rattle.record.specs.Layout.{width, log-of}
 use Rattle.record.proofs.Log.{log-length}
 use Rattle.figure.specs.Sum.{sixfold}
 use Rattle.figure.specs.Inner.{WithCoordinates}
-use Rattle.figure.specs.Rounding.{figure}
+use Rattle.wide.specs.Rounding.{figure}
 use Rattle.figure.proofs.Sizes.{stage-coordinates}
 use Rattle.least.specs.declared.Bound.the-variants.{Free}
 use Rattle.least.specs.Limited.{Allowed}

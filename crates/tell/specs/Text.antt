@@ -11,7 +11,7 @@ use Rattle.record.specs.Layout.{log-of, count}
 use Rattle.lines.specs.Lines.{line}
 use Rattle.lines.specs.Kinds.{row-lines, record-lines}
 use Rattle.figure.specs.Sum.{sixfold}
-use Rattle.figure.specs.Rounding.{figure}
+use Rattle.wide.specs.Rounding.{figure}
 
 -- the words of the first lines: OK, NO
 abbrev pub OK : List ℕ

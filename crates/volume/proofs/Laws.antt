@@ -17,7 +17,7 @@ use Rattle.faults.proofs.Opposites.{coordinates-length}
 use Rattle.faults.proofs.Order.{either-stage}
 use Rattle.figure.specs.Sum.{sixfold}
 use Rattle.figure.specs.Inner.{WithCoordinates}
-use Rattle.figure.specs.Rounding.{figure, change}
+use Rattle.wide.specs.Rounding.{figure, change}
 use Rattle.figure.proofs.Sizes.{stage-coordinates}
 use Rattle.volume.specs.Report.{VolumeReport, ChangeReport}
 

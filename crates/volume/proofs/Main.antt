@@ -21,8 +21,8 @@ use Rattle.faults.specs.Order.{CheckedStageAt}
 use Rattle.faults.proofs.Opposites.{stage-rows, stage-corners}
 use Rattle.faults.proofs.Order.{one-stage-at, stage-passes-at}
 use Rattle.figure.specs.Sum.{sixfold}
-use Rattle.figure.specs.Rounding.{figure, change}
-use Rattle.figure.proofs.Rounded as rounded
+use Rattle.wide.specs.Rounding.{figure, change}
+use Rattle.wide.proofs.Rounded as rounded
 use Rattle.run.proofs.Main.{replayed-stage}
 use Rattle.volume.specs.declared.Measured.{Measured}
 use Rattle.volume.specs.declared.Measured.the-variants.{Figure, Refused}

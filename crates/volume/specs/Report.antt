@@ -16,7 +16,7 @@ use Rattle.refusal.specs.Outcome.{outcome}
 use Rattle.faults.specs.Counts.{corners}
 use Rattle.faults.specs.Order.{refusals-at, CheckedStageAt}
 use Rattle.figure.specs.Sum.{sixfold}
-use Rattle.figure.specs.Rounding.{figure, change, WithinHalf}
+use Rattle.wide.specs.Rounding.{figure, change, WithinHalf}
 use Rattle.volume.specs.declared.Measured.{Measured}
 use Rattle.volume.specs.Answer.{told}
 

@@ -6,7 +6,7 @@ use native.Mathlib.Decide.{ℕ-discrete}
 use native.Mathlib.Omega.{arith}
 use lib.IntN.{ℤ, pos, negsuc, negℤ, _-ℤ_, _*ℤ_, natAbs, negℤ-negℤ}
 use Rattle.ints.proofs.Ints.{abs-neg, abs-diff, abs-across, times-neg, minus-neg}
-use Rattle.figure.specs.Rounding.{divisor, half, to-nearest, figure, change, Nearest, WithinHalf}
+use Rattle.wide.specs.Rounding.{divisor, half, to-nearest, figure, change, Nearest, WithinHalf}
 
 -- ---- the sign
 

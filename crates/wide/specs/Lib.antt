@@ -1,0 +1,3 @@
+pub mod Rounding
+pub mod Wide
+pub mod Inner
