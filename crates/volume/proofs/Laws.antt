@@ -1,8 +1,8 @@
 -- What the calls answer, from the verdict on the stages.
-use mathlib.Core.Path.{_≡_, _∙_, ap}
+use mathlib.Core.Path.{_≡_, refl, _∙_, ap}
 use mathlib.Core.List.{List, [], _∷_}
 use Prim.Native.Nat.{ℕ}
-use lib.IntN.{ℤ}
+use lib.IntN.{ℤ, pos}
 use Rattle.surface.specs.Rows.{rows}
 use Rattle.refusal.specs.declared.Refusal.{Refusal}
 use Rattle.refusal.specs.declared.Verdict.{Verdict}
@@ -17,9 +17,11 @@ use Rattle.faults.proofs.Opposites.{coordinates-length}
 use Rattle.faults.proofs.Order.{either-stage}
 use Rattle.figure.specs.Sum.{sixfold}
 use Rattle.figure.specs.Inner.{WithCoordinates}
+use Rattle.wide.specs.declared.Wide.{Wide}
+use Rattle.wide.specs.Wide.{Exact}
 use Rattle.wide.specs.Rounding.{figure, change}
 use Rattle.figure.proofs.Sizes.{stage-coordinates}
-use Rattle.volume.specs.Report.{VolumeReport, ChangeReport}
+use Rattle.volume.specs.Report.{VolumeReport, ChangeReport, ExactReport, summed, unsummed}
 
 module _ {xs : List ℤ} {t : List ℕ} {v : Verdict} (c : CheckedStageAt xs t v) where
   -- a stage that passed has its corners in the coordinates
@@ -31,6 +33,12 @@ module _ {xs : List ℤ} {t : List ℕ} {v : Verdict} (c : CheckedStageAt xs t v
 
   pub volume-refused : {r : Refusal} → v ≡ Refused r → VolumeReport xs t (refused r)
   volume-refused e = record { verdict = v; checked = c; tells = refusing (figure (sixfold xs (rows t)) ∷ []) e }
+
+  pub exact-done : v ≡ Passes → {w : Wide} → Exact (sixfold xs (rows t)) w → ExactReport xs t (done (w .whole ∷ pos (w .rest) ∷ []))
+  exact-done e h = summed (rw e at c) h refl
+
+  pub exact-refused : {r : Refusal} → v ≡ Refused r → ExactReport xs t (refused r)
+  exact-refused e = unsummed (rw e at c) refl
 
 -- two stages over the same coordinates
 module _ {xs : List ℤ} {t s : List ℕ} {v w : Verdict} (c : CheckedStageAt xs t v) (d : CheckedStageAt xs s w) where

@@ -1,12 +1,19 @@
-// The volume of a stage and the change between two, in cubic metres. Nothing is written.
-ghost use Rattle.volume.specs.Answer.{told};
-ghost use Rattle.volume.specs.Report.{VolumeReport, ChangeReport};
+// The volume of a stage and the change between two, in cubic metres, and a stage's exact sum. Nothing is written.
+ghost use Rattle.volume.specs.Answer.{told, told-exact};
+ghost use Rattle.volume.specs.Report.{VolumeReport, ChangeReport, ExactReport};
 use refusal::Refusal;
 use refusal::Verdict;
+use wide::Wide;
 
 // What a volume or a change answers: the figure in cubic metres, or the first refusal that holds.
 pub enum Measured {
     Figure(i64),
+    Refused(Refusal),
+}
+
+// What an exact sum answers: the sum, or the first refusal that holds.
+pub enum ExactSum {
+    Sum(Wide),
     Refused(Refusal),
 }
 
@@ -31,5 +38,16 @@ pub fn change(earlier: &[u32], later: &[u32], corners: &[i32]) -> Measured
     match verdict {
         Verdict::Passes => Measured::Figure(figure::change_between(earlier, later, corners)),
         Verdict::Refused(least) => Measured::Refused(least),
+    }
+}
+
+// The exact sum of a stage with its coordinates, of which `volume` tells the figure: six times the cubic centimetres, nothing rounded.
+pub fn exact_sum(table: &[u32], corners: &[i32]) -> ExactSum
+    ensures { λ r. ⌜ ExactReport (now (corners .entry)) (now (table .entry)) (told-exact r) ⌝ }
+{
+    let verdict = skin::check_stage_at(table, corners);
+    match verdict {
+        Verdict::Passes => ExactSum::Sum(figure::exact_sum_of(table, corners)),
+        Verdict::Refused(first) => ExactSum::Refused(first),
     }
 }

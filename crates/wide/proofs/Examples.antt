@@ -1,8 +1,7 @@
--- The definitions at work on sums round a half, and on either side of zero.
+-- The rounding at work on sums round a half.
 use mathlib.Core.Path.{_≡_, refl}
 use lib.IntN.{pos, negsuc}
 use Rattle.wide.specs.Rounding.{figure, change}
-use Rattle.wide.specs.Wide.{value}
 
 -- just below a half, at it, and the same below zero
 halves : (figure (pos 2999999) ≡ pos 0) × (figure (pos 3000000) ≡ pos 1) × (figure (negsuc 2999998) ≡ pos 0) × (figure (negsuc 2999999) ≡ negsuc 0)
@@ -13,7 +12,3 @@ halves = (refl, refl, refl, refl)
 once : (figure (negsuc 1999999) ≡ pos 0) × (figure (pos 2000000) ≡ pos 0) × (change (negsuc 1999999) (pos 2000000) ≡ pos 1)
 unfolding figure
 once = (refl, refl, refl)
-
--- below zero the rest counts upwards from the whole part
-rests : (value (record { whole = negsuc 0; rest = 5999999 }) ≡ negsuc 0) × (value (record { whole = pos 1; rest = 1 }) ≡ pos 6000001)
-rests = (refl, refl)

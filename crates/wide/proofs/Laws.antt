@@ -1,6 +1,6 @@
--- Whole parts and rests over ℤ: what a carry, a borrow and a bound come to, and that a sum has one whole part and one rest.
-use mathlib.Core.Path.{_≡_, refl, sym, _∙_, ap}
-use Prim.Native.Nat.{ℕ, suc, _+_, _-_, _*_, _≤_, _<_}
+-- Whole parts and rests over ℤ: what a carry, a borrow and a bound come to, and that every sum has one whole part and one rest.
+use mathlib.Core.Path.{_≡_, sym, _∙_, ap}
+use Prim.Native.Nat.{ℕ, suc, _+_, _-_, _*_, _/_, _%_, _≤_, _<_}
 use native.Mathlib.Omega.{arith}
 use lib.IntN.{ℤ, pos, negsuc, negℤ, _+ℤ_, _-ℤ_, _*ℤ_, natAbs, pos-ne-negsuc, +ℤ-comm, +ℤ-assoc, -ℤ-+ℤ-cancel}
 use Rattle.ints.proofs.Ints.{abs-neg, plus-parts, minus-parts, minus-back, times-plus, times-minus, pos-minus}
@@ -61,7 +61,20 @@ module _ {x y : ℤ} {a b r : Wide} (p : Exact x a) (q : Exact y b) where
   pub exact-minus : Exact (value a -ℤ value b) r → Exact (x -ℤ y) r
   exact-minus e = record { is = e .is ∙ (λ i. p .is i -ℤ q .is i); below = e .below }
 
--- ---- no second whole part and rest
+-- ---- every sum has a whole part and a rest
+
+pub split : ℤ → Wide
+split (pos n) = record { whole = pos (n / divisor); rest = n % divisor }
+split (negsuc n) = record { whole = negsuc (n / divisor); rest = divisor - 1 - n % divisor }
+
+pub exact-there : (z : ℤ) → Exact z (split z)
+unfolding split
+exact-there (pos n) = record { is = ap pos (omega arith); below = omega arith }
+exact-there (negsuc n) =
+    let k : divisor * suc (n / divisor) - (divisor - 1 - n % divisor) ≡ suc n = omega arith in
+    record { is = below-zero (n / divisor) (divisor - 1 - n % divisor) (omega arith) ∙ ap (λ (m : ℕ). negℤ (pos m)) k; below = omega arith }
+
+-- ---- and no second
 
 apart : (a b : ℕ) → 0 < b → pos a ≡ negℤ (pos b) → ⊥
 apart a (suc b) h e = pos-ne-negsuc a b e
