@@ -1,3 +1,7 @@
+-- `figure_of` meets its contract.
+use mathlib.Core.Path.{_∙_, ap}
+use Rattle.wide.specs.Rounding.{figure}
+use Rattle.nest.proofs.Sizes.{net-fits}
 use native.Mathlib.Omega.{arith}
 use borrow.Author.Needs.{needs}
 use Rattle.nest.proofs.figure_of.Statement.{statement}
@@ -31,7 +35,7 @@ net-of-void-requires c κs = search needs
 
 -- src/lib.rt:191:23
 cubic-metres-requires : tie.Need-cubic-metres-requires
-cubic-metres-requires c κs = ?
+cubic-metres-requires c κs = let pre = c .before .before .before .before .before .before .before .pre in net-fits (pre .0) 7 (omega arith) 0 (pre .2) (c .net-of-void .ensures)
 
 -- src/lib.rt:192:86
 sub-net-of-solid : tie.Need-sub-net-of-solid
@@ -43,15 +47,15 @@ net-of-solid-requires c κs = search needs
 
 -- src/lib.rt:192:38
 cubic-metres-requires-2 : tie.Need-cubic-metres-requires-2
-cubic-metres-requires-2 c κs = ?
+cubic-metres-requires-2 c κs = let pre = c .before .before .before .before .before .before .pre in net-fits (pre .0) 7 (omega arith) 0 (pre .2) (c .net-of-solid .ensures)
 
 -- src/lib.rt:185:1
 returns : tie.Need-returns
-returns c = ?
+returns c = c .cubic-metres .ensures ∙ ap figure (c .before .net-of-void .ensures .is)
 
 -- src/lib.rt:185:1
 returns-2 : tie.Need-returns-2
-returns-2 c = ?
+returns-2 c = c .cubic-metres2 .ensures ∙ ap figure (c .before .net-of-solid .ensures .is)
 
 pub figure-of-spec : {M : Type 1} → statement M
 figure-of-spec =
