@@ -20,7 +20,7 @@ use Rattle.nest.specs.Limits.{most-depth}
 use Rattle.nest.specs.Questions.{kind, At, Every, Marked, NameGood, Named, Alternates, Deep, top, below, Shallow}
 use Rattle.nest.specs.Net.{is-void, is-solid, names, stands, added, Nets, told-sum}
 use Rattle.nest.specs.Inner.{kept-in, net-within}
-use Rattle.nest.proofs.Entries.{at-below, found, kept-number, name-at}
+use Rattle.nest.proofs.Entries.{at-below, Found, found, kept-number, name-at}
 
 -- ---- sums over what stands somewhere
 
@@ -89,16 +89,9 @@ module _ (es : List Entry) where
   kept-at : (i k : ℕ) (e : Entry) → At es k e → kept-in their-names i k ≡ names i (e .name)
   kept-at i k e a = ap (λ (n : ℕ). eqb n (suc i)) (name-at es k e a) ∙ sym (names-kept i (e .name))
 
-  -- an entry that is kept with the name of entry i
-  record Child (i k : ℕ) : Type 0 where
-    pub e : Entry
-    pub here : At es k e
-    pub name : e .name ≡ Number i
-
-  child : (i k : ℕ) → k < length es → kept-in their-names i k ≡ true → Child i k
-  child i k h t =
-      let f = found es k h in
-      record { e = f .e; here = f .here; name = kept-number (f .e .name) i (sym (name-at es k (f .e) (f .here)) ∙ is-equal (getD their-names k 0) (suc i) t) }
+  -- who is kept with the name of entry i, names it
+  named-by : (i k : ℕ) (e : Entry) → At es k e → kept-in their-names i k ≡ true → e .name ≡ Number i
+  named-by i k e a t = kept-number (e .name) i (sym (name-at es k e a) ∙ is-equal (getD their-names k 0) (suc i) t)
 
 module _ {es : List Entry} (s : Sound es) where
   -- of another kind than entry i, so a solid in a void and a void in a solid
@@ -124,8 +117,128 @@ module _ {es : List Entry} (s : Sound es) where
       let f = found es k h in
       let mine = kept-at es i k (f .e) (f .here) in
       stands-at is es i k (f .e) (f .here)
-      ∙ only-second (is (kind (f .e))) (names i (f .e .name)) (λ t. (let c = child es i k h (mine ∙ t) in all-are k (f .e) (f .here) (same-name k (f .e) (f .here) c)))
+      ∙ only-second (is (kind (f .e))) (names i (f .e .name)) (λ t. all-are k (f .e) (f .here) (named-by es i k (f .e) (f .here) (mine ∙ t)))
       ∙ sym mine
+
+  module _ (i : ℕ) (e : Entry) (a : At es i e) where
+    solids-kept : kind e ≡ Void → (k : ℕ) → k < length es → stands is-solid es i k ≡ kept-in (their-names es) i k
+    solids-kept v = stands-kept is-solid i (λ k d b n. in-void i k e a v d b n)
+
+    voids-kept : kind e ≡ Solid → (k : ℕ) → k < length es → stands is-void es i k ≡ kept-in (their-names es) i k
+    voids-kept v = stands-kept is-void i (λ k d b n. in-solid i k e a v d b n)
+
+  -- ---- deeper and deeper
+
+  -- who stands in an entry is one deeper
+  deeper : {i d : ℕ} → Deep es i d → (k : ℕ) (e : Entry) → At es k e → e .name ≡ Number i → Deep es k (suc d)
+  deeper p k e a n = below e a n p
+
+  -- at the most depth nobody stands in an entry
+  childless : {i d : ℕ} → Deep es i d → most-depth ≤ d → (k : ℕ) → k < length es → kept-in (their-names es) i k ≡ false
+  childless {i} {d} p h k m = go (kept-in (their-names es) i k) refl
     where
-      same-name : (k : ℕ) (e : Entry) → At es k e → Child es i k → e .name ≡ Number i
-      same-name k e a c = ?
+      go : (b : Bool) → kept-in (their-names es) i k ≡ b → b ≡ false
+      go true t =
+          let f = found es k m in
+          let over = s .shallow k (f .e) (f .here) (suc d) (deeper p k (f .e) (f .here) (named-by es i k (f .e) (f .here) t)) in
+          absurd (omega arith)
+      go false t = refl
+
+  -- ---- the nets are what the code adds up
+
+  abbrev within : ℕ → ℕ → ℤ
+  within left = net-within left (their-names es) (their-sums es)
+
+  -- two ways to count inside an entry agree where they agree deeper
+  agree : {i d : ℕ} → Deep es i d → (f g : ℕ → ℤ) → ((k : ℕ) → Deep es k (suc d) → f k ≡ g k) → (p : ℕ → Bool) → ((k : ℕ) → k < length es → p k ≡ kept-in (their-names es) i k) → added f p (length es) ≡ added g (kept-in (their-names es) i) (length (their-names es))
+  agree {i} deep f g equal p same =
+      added-agree f g p (kept-in (their-names es) i) (length es) same (λ k h t. (let c = found es k h in equal k (deeper deep k (c .e) (c .here) (named-by es i k (c .e) (c .here) t))))
+      ∙ ap (added g (kept-in (their-names es) i)) (sym (as-many es))
+
+  nothing-in : {i d : ℕ} → Deep es i d → most-depth ≤ d → (f : ℕ → ℤ) (p : ℕ → Bool) → ((k : ℕ) → k < length es → p k ≡ kept-in (their-names es) i k) → added f p (length es) ≡ pos 0
+  nothing-in deep h f p same = added-agree f f p (λ k. false) (length es) (λ k m. same k m ∙ childless deep h k m) (λ k m t. refl) ∙ added-nothing f (length es)
+
+  -- more depth left than there is changes nothing
+  steady : (left i d : ℕ) → Deep es i d → most-depth ≤ d + left → within left i ≡ within (suc left) i
+  unfolding net-within
+  steady zero i d deep h =
+      let own = told-sum es i in
+      let e = ap (added (within 0) (kept-in (their-names es) i)) (as-many es) ∙ nothing-in deep (omega arith) (within 0) (kept-in (their-names es) i) (λ k m. refl) in
+      ap (λ z. own -ℤ z) (sym e)
+  steady (suc left) i d deep h =
+      let own = told-sum es i in
+      let e = agree deep (within left) (within (suc left)) (λ k p. steady left k (suc d) p (omega arith)) (kept-in (their-names es) i) (λ k m. refl) in
+      ap (λ z. own -ℤ z) (ap (added (within left) (kept-in (their-names es) i)) (as-many es) ∙ e)
+
+  -- any nets are these
+  module _ {net : ℕ → ℤ} (nets : Nets es (told-sum es) net) where
+    -- by the one sentence or by the other
+    data Worked (i : ℕ) : Type 0 where
+      worked : (p : ℕ → Bool) → ((k : ℕ) → k < length es → p k ≡ kept-in (their-names es) i k) → net i ≡ told-sum es i -ℤ added net p (length es) → Worked i
+
+    work : (i : ℕ) (e : Entry) → At es i e → Worked i
+    work i e a = go (kind e) refl
+      where
+        go : (x : Kind) → kind e ≡ x → Worked i
+        go Void q = worked (stands is-solid es i) (solids-kept i e a q) (nets .of-void i e a q)
+        go Solid q = worked (stands is-void es i) (voids-kept i e a q) (nets .of-solid i e a q)
+        go Other q = absurd (s .marked i e a q)
+
+    its-entry : {i d : ℕ} → Deep es i d → Found es i
+    its-entry (top e a n) = record { e = e; here = a }
+    its-entry (below e a n p) = record { e = e; here = a }
+
+    pub net-one : (left i d : ℕ) → Deep es i d → most-depth ≤ d + left → net i ≡ within left i
+    unfolding net-within
+    net-one zero i d deep h = go (let f = its-entry deep in work i (f .e) (f .here))
+      where
+        go : Worked i → net i ≡ told-sum es i -ℤ pos 0
+        go (worked p same e) = e ∙ ap (λ z. told-sum es i -ℤ z) (nothing-in deep (omega arith) net p same)
+    net-one (suc left) i d deep h = go (let f = its-entry deep in work i (f .e) (f .here)) (λ k p. net-one left k (suc d) p (omega arith))
+      where
+        go : Worked i → ((k : ℕ) → Deep es k (suc d) → net k ≡ within left k) → net i ≡ told-sum es i -ℤ added (within left) (kept-in (their-names es) i) (length (their-names es))
+        go (worked p same e) equal = e ∙ ap (λ z. told-sum es i -ℤ z) (agree deep net (within left) equal p same)
+
+  -- ---- the topmost entry, and the depth of every entry
+
+  first-name : (n : Name) → NameGood 0 n → n ≡ Nothing
+  first-name Nothing g = refl
+  first-name (Number j) g = absurd g
+
+  pub topmost : Deep es 0 1
+  topmost = let f = found es 0 (s .some) in top (f .e) (f .here) (first-name (f .e .name) (s .named 0 (f .e) (f .here)))
+
+  record Depth (i : ℕ) : Type 0 where
+    pub d : ℕ
+    pub deep : Deep es i d
+
+  -- by the entries before it, of which there are fewer than n
+  depth-below : (n i : ℕ) (e : Entry) → At es i e → i < n → Depth i
+  depth-below zero i e a h = absurd (omega arith)
+  depth-below (suc n) i e a h = go i (e .name) refl a (s .named i e a) (λ j f b m. depth-below n j f b m) h
+    where
+      go : (i : ℕ) (m : Name) → e .name ≡ m → At es i e → NameGood i (e .name) → ((j : ℕ) (f : Entry) → At es j f → j < n → Depth j) → i < suc n → Depth i
+      go zero Nothing q a g before h = record { d = 1; deep = top e a q }
+      go zero (Number j) q a g before h = absurd (subst (NameGood 0) q g)
+      go (suc i) Nothing q a g before h = absurd (subst (NameGood (suc i)) q g)
+      go (suc i) (Number j) q a g before h =
+          let less : j < suc i = subst (NameGood (suc i)) q g in
+          let f = found es j (omega (arith, at-below es (suc i) e a)) in
+          let p = before j (f .e) (f .here) (omega arith) in
+          record { d = suc (p .d); deep = below e a q (p .deep) }
+
+  -- there are nets
+  their-nets : (i : ℕ) (e : Entry) → At es i e → (p : ℕ → Bool) → ((k : ℕ) → k < length es → p k ≡ kept-in (their-names es) i k) → within 8 i ≡ told-sum es i -ℤ added (within 8) p (length es)
+  unfolding net-within
+  their-nets i e a p same =
+      let x = depth-below (suc i) i e a (omega arith) in
+      ap (λ z. told-sum es i -ℤ z) (sym (agree (x .deep) (within 8) (within 7) (λ k q. sym (steady 7 k (suc (x .d)) q (omega arith))) p same))
+
+  pub nets-there : Nets es (told-sum es) (within most-depth)
+  nets-there = record {
+    of-void = λ i e a q. their-nets i e a (stands is-solid es i) (solids-kept i e a q);
+    of-solid = λ i e a q. their-nets i e a (stands is-void es i) (voids-kept i e a q);
+  }
+
+  pub top-net : {net : ℕ → ℤ} → Nets es (told-sum es) net → net 0 ≡ within (most-depth - 1) 0
+  top-net nets = net-one nets 7 0 1 topmost (omega arith)

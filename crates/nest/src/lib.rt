@@ -189,6 +189,11 @@ pub fn figure_of(letters: &[u8], names: &[u32], sums: &[i64]) -> i64
     let kind = kind_of(letters[0]);
     match kind {
         Kind::Void => wide::cubic_metres(net_of_void(names, sums, 0, MOST_DEPTH - 1)),
-        Kind::Solid | Kind::Other => wide::cubic_metres(net_of_solid(names, sums, 0, MOST_DEPTH - 1)),
+        Kind::Solid | Kind::Other => wide::cubic_metres(net_of_solid(
+            names,
+            sums,
+            0,
+            MOST_DEPTH - 1,
+        )),
     }
 }

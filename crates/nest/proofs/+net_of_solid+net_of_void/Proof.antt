@@ -87,8 +87,7 @@ net-of-solid-net-of-void-requires t c κs = let s = c .before .before .before .b
 net-of-solid-add-requires : (t : ℕ) → net-of-solid-lts.Need-add-requires (enter.Asked, enter.Learnt, net-of-void-below t, net-of-void.Post, add.Asked, add.Learnt, less.Asked, less.Learnt) (net-of-solid-at t) net-of-solid.Post net-of-solid-Inv-loop net-of-solid-μ-loop
 net-of-solid-add-requires t c κs =
     let s = c .before .before .before .before .before .before .before .before in
-    let loop = c .before .before .before .before .loop in
-    (
+    let loop = c .before .before .before .before .loop in (
       added-fits (s .args .names .now) (s .args .sums .now) (s .args .i) (s .args .left) (s .pre .1 .0) (s .pre .1 .2) (loop .k) (loop .inv .0) (loop .inv .1),
       next-fits (s .args .names .now) (s .args .sums .now) (s .args .i) (s .args .left) (s .pre .1 .0) (s .pre .1 .2) (loop .k) (c .before .before .before .loop-test .taken) (c .net-of-void .ensures),
     )
@@ -102,8 +101,7 @@ net-of-solid-loop-less t c = search needs
 net-of-solid-loop-again : (t : ℕ) → net-of-solid-lts.Need-loop-again (enter.Asked, enter.Learnt, net-of-void-below t, net-of-void.Post, add.Asked, add.Learnt, less.Asked, less.Learnt) (net-of-solid-at t) net-of-solid.Post net-of-solid-Inv-loop net-of-solid-μ-loop
 net-of-solid-loop-again t c =
     let s = c .before .before .before .before .before .before .before in
-    let loop = c .before .before .before .loop in
-    (
+    let loop = c .before .before .before .loop in (
       omega (arith, c .before .before .loop-test .taken),
       ⊎-elim
           (λ w. rw (w .3) (added-more (s .args .names .now) (s .args .sums .now) (s .args .i) (s .args .left) (loop .k) (w .1 .result) (w .0 .taken) (loop .inv .1) (w .1 .ensures) (w .2 .ensures)))
@@ -131,8 +129,7 @@ net-of-solid-enter-requires-2 t c κs = search needs
 
 net-of-solid-less-requires : (t : ℕ) → net-of-solid-lts.Need-less-requires (enter.Asked, enter.Learnt, net-of-void-below t, net-of-void.Post, add.Asked, add.Learnt, less.Asked, less.Learnt) (net-of-solid-at t) net-of-solid.Post net-of-solid-Inv-loop net-of-solid-μ-loop
 net-of-solid-less-requires t c κs =
-    let s = c .before .before .before .before .before in
-    (
+    let s = c .before .before .before .before .before in (
       own-fits (s .pre .1 .0) (s .args .i) (own-sum (s .args .sums .now) (s .args .i) (c .before .own .given) (c .enter2 .ensures)),
       inside-fits (s .args .names .now) (s .args .sums .now) (s .args .i) (s .args .left) (s .pre .1 .0) (s .pre .1 .2) (net-of-solid-inside t (c .before .before)),
     )
@@ -178,8 +175,7 @@ net-of-void-net-of-solid-requires t c κs = let s = c .before .before .before .b
 net-of-void-add-requires : (t : ℕ) → net-of-void-lts.Need-add-requires (enter.Asked, enter.Learnt, net-of-solid-below t, net-of-solid.Post, add.Asked, add.Learnt, less.Asked, less.Learnt) (net-of-void-at t) net-of-void.Post net-of-void-Inv-loop net-of-void-μ-loop
 net-of-void-add-requires t c κs =
     let s = c .before .before .before .before .before .before .before .before in
-    let loop = c .before .before .before .before .loop in
-    (
+    let loop = c .before .before .before .before .loop in (
       added-fits (s .args .names .now) (s .args .sums .now) (s .args .i) (s .args .left) (s .pre .1 .0) (s .pre .1 .2) (loop .k) (loop .inv .0) (loop .inv .1),
       next-fits (s .args .names .now) (s .args .sums .now) (s .args .i) (s .args .left) (s .pre .1 .0) (s .pre .1 .2) (loop .k) (c .before .before .before .loop-test .taken) (c .net-of-solid .ensures),
     )
@@ -193,8 +189,7 @@ net-of-void-loop-less t c = search needs
 net-of-void-loop-again : (t : ℕ) → net-of-void-lts.Need-loop-again (enter.Asked, enter.Learnt, net-of-solid-below t, net-of-solid.Post, add.Asked, add.Learnt, less.Asked, less.Learnt) (net-of-void-at t) net-of-void.Post net-of-void-Inv-loop net-of-void-μ-loop
 net-of-void-loop-again t c =
     let s = c .before .before .before .before .before .before .before in
-    let loop = c .before .before .before .loop in
-    (
+    let loop = c .before .before .before .loop in (
       omega (arith, c .before .before .loop-test .taken),
       ⊎-elim
           (λ w. rw (w .3) (added-more (s .args .names .now) (s .args .sums .now) (s .args .i) (s .args .left) (loop .k) (w .1 .result) (w .0 .taken) (loop .inv .1) (w .1 .ensures) (w .2 .ensures)))
@@ -222,8 +217,7 @@ net-of-void-enter-requires-2 t c κs = search needs
 
 net-of-void-less-requires : (t : ℕ) → net-of-void-lts.Need-less-requires (enter.Asked, enter.Learnt, net-of-solid-below t, net-of-solid.Post, add.Asked, add.Learnt, less.Asked, less.Learnt) (net-of-void-at t) net-of-void.Post net-of-void-Inv-loop net-of-void-μ-loop
 net-of-void-less-requires t c κs =
-    let s = c .before .before .before .before .before in
-    (
+    let s = c .before .before .before .before .before in (
       own-fits (s .pre .1 .0) (s .args .i) (own-sum (s .args .sums .now) (s .args .i) (c .before .own .given) (c .enter2 .ensures)),
       inside-fits (s .args .names .now) (s .args .sums .now) (s .args .i) (s .args .left) (s .pre .1 .0) (s .pre .1 .2) (net-of-void-inside t (c .before .before)),
     )

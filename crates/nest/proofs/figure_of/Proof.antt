@@ -1,5 +1,7 @@
 -- `figure_of` meets its contract.
 use mathlib.Core.Path.{_∙_, ap}
+use mir.Syntax.{w64}
+use mir.ValLaws.{toZ-ofZ}
 use Rattle.wide.specs.Rounding.{figure}
 use Rattle.nest.proofs.Sizes.{net-fits}
 use native.Mathlib.Omega.{arith}
@@ -51,11 +53,11 @@ cubic-metres-requires-2 c κs = let pre = c .before .before .before .before .bef
 
 -- src/lib.rt:185:1
 returns : tie.Need-returns
-returns c = c .cubic-metres .ensures ∙ ap figure (c .before .net-of-void .ensures .is)
+returns c = toZ-ofZ w64 (c .cubic-metres .result) (record { sfits = c .cubic-metres .ok }) ∙ c .cubic-metres .ensures ∙ ap figure (c .before .net-of-void .ensures .is)
 
 -- src/lib.rt:185:1
 returns-2 : tie.Need-returns-2
-returns-2 c = c .cubic-metres2 .ensures ∙ ap figure (c .before .net-of-solid .ensures .is)
+returns-2 c = toZ-ofZ w64 (c .cubic-metres2 .result) (record { sfits = c .cubic-metres2 .ok }) ∙ c .cubic-metres2 .ensures ∙ ap figure (c .before .net-of-solid .ensures .is)
 
 pub figure-of-spec : {M : Type 1} → statement M
 figure-of-spec =
