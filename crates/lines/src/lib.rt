@@ -13,8 +13,8 @@ use text::Signed;
 // No line has more numbers.
 pub const MOST_LINE: usize = 16;
 
-// One field: a tab and a number.
-fn read_field(s: &[u8], from: Cursor, most: usize) -> Signed
+// Inner: one field, a tab and a number.
+pub fn read_field(s: &[u8], from: Cursor, most: usize) -> Signed
     requires { ⌜ (0 < most) × (most ≤ 18) ⌝ }
     ensures { λ r. ⌜ ReadField most (now (s .entry)) (from .at) r ⌝ }
 {
@@ -26,7 +26,7 @@ fn read_field(s: &[u8], from: Cursor, most: usize) -> Signed
 }
 
 // So many fields, put into room from its place start on.
-fn read_fields(
+pub fn read_fields(
     s: &[u8],
     from: Cursor,
     most: usize,

@@ -1,0 +1,4 @@
+pub mod Number
+pub mod Answer
+pub mod Outcome
+pub mod Inner

@@ -1,0 +1,5 @@
+pub mod Entries
+pub mod Asking
+pub mod Sizes
+pub mod Adding
+pub mod Netting

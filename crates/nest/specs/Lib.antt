@@ -1,0 +1,4 @@
+pub mod Limits
+pub mod Questions
+pub mod Net
+pub mod Inner
