@@ -1,2 +1,4 @@
 pub mod Judging
 pub mod Answering
+pub mod Laws
+pub mod Impostors
