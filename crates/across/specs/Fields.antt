@@ -7,6 +7,7 @@ use Rattle.ring.specs.declared.Trial.{Trial}
 use Rattle.ring.specs.declared.Trial.the-variants.{Number, Nothing}
 use Rattle.across.specs.declared.Counted.{Counted}
 use Rattle.across.specs.declared.Measure.{Measure}
+use Rattle.across.specs.declared.Exact.{Exact}
 use Rattle.across.specs.declared.StandIn.{StandIn}
 use Rattle.across.specs.declared.Centimetres.{Centimetres}
 use Rattle.across.specs.declared.Counts.{Counts}
@@ -22,6 +23,9 @@ of-counted r = record { number = r .status; values = pos (r .records) ∷ [] }
 
 abbrev pub of-measure : Measure → Told
 of-measure r = record { number = r .status; values = r .figure ∷ [] }
+
+abbrev pub of-exact : Exact → Told
+of-exact r = record { number = r .status; values = r .whole ∷ pos (r .rest) ∷ [] }
 
 abbrev pub of-stand-in : StandIn → Told
 of-stand-in r = record { number = r .status; values = pos (r .corner) ∷ pos (r .count) ∷ pos (r .squared) ∷ [] }

@@ -17,6 +17,7 @@ use sheet::Sheet;
 use shift::Shifted;
 use tell::Answer;
 use thin::Thinning;
+use volume::ExactSum;
 use volume::Measured;
 ghost use mathlib.Core.Path.{_≡_};
 ghost use lib.ListN.{length};
@@ -36,7 +37,7 @@ ghost use Rattle.recover.specs.Answer as recover-answer;
 ghost use Rattle.logrecords.specs.Answer.{told-opened, told-next};
 ghost use Rattle.across.specs.Units.{length-of, order-of};
 ghost use Rattle.across.specs.Says.{Says};
-ghost use Rattle.across.specs.Fields.{of-counted, of-measure, of-stand-in, of-centimetres, of-counts, of-written, of-log-read, of-recovery, of-log-opened, of-asked, Stores};
+ghost use Rattle.across.specs.Fields.{of-counted, of-measure, of-exact, of-stand-in, of-centimetres, of-counts, of-written, of-log-read, of-recovery, of-log-opened, of-asked, Stores};
 
 // What thinning, growing back and replay answer: the status, and how many records were done.
 #[repr(C)]
@@ -50,6 +51,13 @@ pub struct Counted {
 pub struct Measure {
     pub status: u64,
     pub figure: i64,
+}
+
+// What an exact sum answers: the status, the whole part and the rest. Does not cross as a struct.
+pub struct Exact {
+    pub status: u64,
+    pub whole: i64,
+    pub rest: u64,
 }
 
 // What a shift report answers: the status, stand-in, count and squared distance. Does not cross as a struct.
@@ -208,6 +216,24 @@ pub fn measure_of(a: Measured) -> Measure
         Measured::Refused(e) => Measure {
             status: refusal::number_of(e) as u64,
             figure: 0,
+        },
+    }
+}
+
+// Inner: what an exact sum answers.
+pub fn exact_of(a: ExactSum) -> Exact
+    ensures { λ r. ⌜ Says (volume-answer.told-exact a) (of-exact r) ⌝ }
+{
+    match a {
+        ExactSum::Sum(w) => Exact {
+            status: 0,
+            whole: w.whole,
+            rest: w.rest,
+        },
+        ExactSum::Refused(e) => Exact {
+            status: refusal::number_of(e) as u64,
+            whole: 0,
+            rest: 0,
         },
     }
 }

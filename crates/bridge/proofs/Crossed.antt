@@ -10,6 +10,7 @@ use Rattle.regrow.proofs.Main.{grown-one}
 use Rattle.replay.proofs.Main.{replay-one}
 use Rattle.volume.specs.Answer as volume-answer
 use Rattle.volume.proofs.Main.{volume-one, change-one}
+use Rattle.volume.proofs.Sums as sums
 use Rattle.shift.specs.Answer as shift-answer
 use Rattle.shift.proofs.Main.{shift-one}
 use Rattle.length.specs.Answer as length-answer
@@ -31,7 +32,7 @@ use Rattle.bridge.specs.declared.Part.{Part}
 use Rattle.bridge.specs.Lent.{Places, nothing, of-second, of-first}
 use Rattle.bridge.specs.Crossing.{Crossing}
 use Rattle.across.proofs.Saying.{said}
-use Rattle.bridge.proofs.Main.{thin-crosses, grow-crosses, replay-crosses, volume-crosses, change-crosses, shift-crosses, limit-crosses, sheet-crosses, reply-crosses, trial-crosses, ring-crosses, part-crosses, write-log-crosses, read-log-crosses, each-crosses, recover-crosses, open-log-crosses, next-crosses}
+use Rattle.bridge.proofs.Main.{thin-crosses, grow-crosses, replay-crosses, volume-crosses, change-crosses, exact-crosses, shift-crosses, limit-crosses, sheet-crosses, reply-crosses, trial-crosses, ring-crosses, part-crosses, write-log-crosses, read-log-crosses, each-crosses, recover-crosses, open-log-crosses, next-crosses}
 
 -- the places tell of the same memory, by whatever name
 places-same : {first second x y : RefT (List ℕ)} {r : Part} → SamePart x y → Places first second x r → Places first second y r
@@ -77,4 +78,6 @@ crossing = record {
   open-log-one = λ p q. open-log-crosses p q;
   next-record = λ p w. said told-next (next-one w (p .shown .gives)) (p .shown .says);
   next-record-one = λ p q. next-crosses p q;
+  exact-sum = λ a p w. said volume-answer.told-exact (sums.exact-sum-one a (p .answer) w (p .gives)) (p .says);
+  exact-sum-one = λ p q. exact-crosses p q;
 }

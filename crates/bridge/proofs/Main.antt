@@ -15,6 +15,7 @@ use Rattle.regrow.proofs.Main.{grown-one}
 use Rattle.regrow.specs.Answer as regrow-answer
 use Rattle.replay.proofs.Main.{replay-one}
 use Rattle.volume.proofs.Main.{volume-one, change-one}
+use Rattle.volume.proofs.Sums as sums
 use Rattle.volume.specs.Answer as volume-answer
 use Rattle.shift.proofs.Main.{shift-one}
 use Rattle.shift.specs.Answer as shift-answer
@@ -38,6 +39,7 @@ use Rattle.link.proofs.Laws.{chosen-one}
 use Rattle.catchup.proofs.One.{caught-up-one}
 use Rattle.across.specs.declared.Counted.{Counted}
 use Rattle.across.specs.declared.Measure.{Measure}
+use Rattle.across.specs.declared.Exact.{Exact}
 use Rattle.across.specs.declared.StandIn.{StandIn}
 use Rattle.across.specs.declared.Centimetres.{Centimetres}
 use Rattle.across.specs.declared.Counts.{Counts}
@@ -49,8 +51,8 @@ use Rattle.across.specs.declared.Asked.{Asked}
 use Rattle.across.specs.declared.Stored.{Stored}
 use Rattle.bridge.specs.declared.Part.{Part}
 use Rattle.across.specs.Says.{Says}
-use Rattle.across.specs.Fields.{of-counted, of-measure, of-stand-in, of-centimetres, of-counts, of-written, of-log-read, of-recovery, of-log-opened, of-asked}
-use Rattle.bridge.specs.Calls.{ThinShown, GrowShown, ReplayShown, VolumeShown, ChangeShown, ShiftShown, LimitShown, SheetShown, ReplyShown, WriteLogShown, ReadLogShown, EachShown, RecoverShown, OpenShown, NextShown}
+use Rattle.across.specs.Fields.{of-counted, of-measure, of-exact, of-stand-in, of-centimetres, of-counts, of-written, of-log-read, of-recovery, of-log-opened, of-asked}
+use Rattle.bridge.specs.Calls.{ThinShown, GrowShown, ReplayShown, VolumeShown, ChangeShown, ExactShown, ShiftShown, LimitShown, SheetShown, ReplyShown, WriteLogShown, ReadLogShown, EachShown, RecoverShown, OpenShown, NextShown}
 use Rattle.across.specs.Fields.{Stores}
 use Rattle.bridge.specs.Lent.{TrialShown, Which, the-first, the-second, RingShown, Places, nothing, of-second, of-first, PartShown}
 use Rattle.across.proofs.Saying.{said}
@@ -78,6 +80,13 @@ module _ {a : Told} where
 
   measure-once : {r q : Measure} → Says a (of-measure r) → Says a (of-measure q) → r ≡ q
   measure-once h k = let e = said-once h k refl in let n = ap (value 0) (e .1) in λ i. record { status = e .0 i; figure = n i }
+
+  exact-once : {r q : Exact} → Says a (of-exact r) → Says a (of-exact q) → r ≡ q
+  exact-once h k =
+      let e = said-once h k refl in
+      let n = ap (value 0) (e .1) in
+      let m = ap (λ l. natAbs (value 1 l)) (e .1) in
+      λ i. record { status = e .0 i; whole = n i; rest = m i }
 
   stand-in-once : {r q : StandIn} → Says a (of-stand-in r) → Says a (of-stand-in q) → r ≡ q
   stand-in-once h k =
@@ -152,6 +161,9 @@ volume-crosses p q = measure-once (p .says) (said volume-answer.told (volume-one
 
 pub change-crosses : {xs : List ℤ} {t s : List ℕ} {r q : Measure} → ChangeShown xs t s r → ChangeShown xs t s q → r ≡ q
 change-crosses p q = measure-once (p .says) (said volume-answer.told (change-one (p .answer) (q .answer) (p .gives) (q .gives)) (q .says))
+
+pub exact-crosses : {xs : List ℤ} {t : List ℕ} {r q : Exact} → ExactShown xs t r → ExactShown xs t q → r ≡ q
+exact-crosses p q = exact-once (p .says) (said volume-answer.told-exact (sums.exact-sum-one (p .answer) (q .answer) (p .gives) (q .gives)) (q .says))
 
 pub shift-crosses : {xs : List ℤ} {log : List ℕ} {v : ℕ} {r q : StandIn} → ShiftShown xs log v r → ShiftShown xs log v q → r ≡ q
 shift-crosses p q = stand-in-once (p .says) (said shift-answer.told (shift-one (p .answer) (q .answer) (p .gives) (q .gives)) (q .says))

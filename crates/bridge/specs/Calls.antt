@@ -13,7 +13,7 @@ use Rattle.thin.specs.Answer as thin-answer
 use Rattle.regrow.specs.Outcome.{GrownAs}
 use Rattle.regrow.specs.Answer as regrow-answer
 use Rattle.replay.specs.Outcome.{ReplayedAs}
-use Rattle.volume.specs.Report.{VolumeReport, ChangeReport}
+use Rattle.volume.specs.Report.{VolumeReport, ChangeReport, ExactReport}
 use Rattle.volume.specs.Answer as volume-answer
 use Rattle.shift.specs.Report.{ShiftReport}
 use Rattle.shift.specs.Answer as shift-answer
@@ -30,6 +30,7 @@ use Rattle.recover.specs.Outcome.{RecoveredBy}
 use Rattle.recover.specs.Answer as recover-answer
 use Rattle.across.specs.declared.Counted.{Counted}
 use Rattle.across.specs.declared.Measure.{Measure}
+use Rattle.across.specs.declared.Exact.{Exact}
 use Rattle.across.specs.declared.StandIn.{StandIn}
 use Rattle.across.specs.declared.Centimetres.{Centimetres}
 use Rattle.across.specs.declared.Counts.{Counts}
@@ -40,7 +41,7 @@ use Rattle.across.specs.declared.LogOpened.{LogOpened}
 use Rattle.across.specs.declared.Asked.{Asked}
 use Rattle.across.specs.Units.{length-of, order-of}
 use Rattle.across.specs.Says.{Shown}
-use Rattle.across.specs.Fields.{of-counted, of-measure, of-stand-in, of-centimetres, of-counts, of-written, of-log-read, of-recovery, of-log-opened, of-asked}
+use Rattle.across.specs.Fields.{of-counted, of-measure, of-exact, of-stand-in, of-centimetres, of-counts, of-written, of-log-read, of-recovery, of-log-opened, of-asked}
 
 -- thinning under the order of the unit u and the figure v
 abbrev pub ThinShown : ℕ → Float → List ℤ → List ℕ → List ℕ → Counted → List ℕ → List ℕ → Type 0
@@ -61,6 +62,10 @@ VolumeShown xs t r = Shown (λ a. VolumeReport xs t (volume-answer.told a)) volu
 -- a change
 abbrev pub ChangeShown : List ℤ → List ℕ → List ℕ → Measure → Type 0
 ChangeShown xs earlier later r = Shown (λ a. ChangeReport xs earlier later (volume-answer.told a)) volume-answer.told (of-measure r)
+
+-- an exact sum
+abbrev pub ExactShown : List ℤ → List ℕ → Exact → Type 0
+ExactShown xs t r = Shown (λ a. ExactReport xs t (volume-answer.told-exact a)) volume-answer.told-exact (of-exact r)
 
 -- a shift
 abbrev pub ShiftShown : List ℤ → List ℕ → ℕ → StandIn → Type 0

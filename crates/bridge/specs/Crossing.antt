@@ -17,7 +17,8 @@ use Rattle.regrow.specs.Outcome.{GrownAs}
 use Rattle.regrow.specs.Answer as regrow-answer
 use Rattle.replay.specs.Outcome.{ReplayedAs}
 use Rattle.volume.specs.declared.Measured.{Measured}
-use Rattle.volume.specs.Report.{VolumeReport, ChangeReport}
+use Rattle.volume.specs.declared.ExactSum.{ExactSum}
+use Rattle.volume.specs.Report.{VolumeReport, ChangeReport, ExactReport}
 use Rattle.volume.specs.Answer as volume-answer
 use Rattle.shift.specs.declared.Shifted.{Shifted}
 use Rattle.shift.specs.Report.{ShiftReport}
@@ -45,6 +46,7 @@ use Rattle.recover.specs.Outcome.{RecoveredBy}
 use Rattle.recover.specs.Answer as recover-answer
 use Rattle.across.specs.declared.Counted.{Counted}
 use Rattle.across.specs.declared.Measure.{Measure}
+use Rattle.across.specs.declared.Exact.{Exact}
 use Rattle.across.specs.declared.StandIn.{StandIn}
 use Rattle.across.specs.declared.Centimetres.{Centimetres}
 use Rattle.across.specs.declared.Counts.{Counts}
@@ -57,11 +59,11 @@ use Rattle.across.specs.declared.Stored.{Stored}
 use Rattle.bridge.specs.declared.Part.{Part}
 use Rattle.across.specs.Units.{length-of, order-of}
 use Rattle.across.specs.Says.{Says}
-use Rattle.across.specs.Fields.{of-counted, of-measure, of-stand-in, of-centimetres, of-counts, of-written, of-log-read, of-recovery, of-log-opened, of-asked, Stores}
-use Rattle.bridge.specs.Calls.{ThinShown, GrowShown, ReplayShown, VolumeShown, ChangeShown, ShiftShown, LimitShown, SheetShown, ReplyShown, WriteLogShown, ReadLogShown, EachShown, RecoverShown, OpenShown, NextShown}
+use Rattle.across.specs.Fields.{of-counted, of-measure, of-exact, of-stand-in, of-centimetres, of-counts, of-written, of-log-read, of-recovery, of-log-opened, of-asked, Stores}
+use Rattle.bridge.specs.Calls.{ThinShown, GrowShown, ReplayShown, VolumeShown, ChangeShown, ExactShown, ShiftShown, LimitShown, SheetShown, ReplyShown, WriteLogShown, ReadLogShown, EachShown, RecoverShown, OpenShown, NextShown}
 use Rattle.bridge.specs.Lent.{TrialShown, Which, RingShown, Places, PartShown}
 
--- the calls in the order of their numbers over a pipe: 1 to 16, 24, 25
+-- the calls in the order of their numbers over a pipe: 1 to 16, 24 to 26
 pub record Crossing : Type 0 where
   -- what is said is what the call answers, and what is left is what the call leaves
   pub thin : (u : ℕ) (v : Float) {xs : List ℤ} {t l : List ℕ} {r : Counted} {t₁ t₂ l₁ l₂ : List ℕ} {a : Thinning} → ThinShown u v xs t l r t₁ l₁ → Thinned (order-of u v) xs t l a t₂ l₂ →
@@ -105,3 +107,5 @@ pub record Crossing : Type 0 where
   pub open-log-one : {b : List ℕ} {r q : LogOpened} → OpenShown b r → OpenShown b q → r ≡ q
   pub next-record : {b : List ℕ} {at : ℕ} {r : Asked} {a : Next} → NextShown b at r → NextRecord b at a → Says (told-next a) (of-asked r)
   pub next-record-one : {b : List ℕ} {at : ℕ} {r q : Asked} → NextShown b at r → NextShown b at q → r ≡ q
+  pub exact-sum : {xs : List ℤ} {t : List ℕ} {r : Exact} (a : ExactSum) → ExactShown xs t r → ExactReport xs t (volume-answer.told-exact a) → Says (volume-answer.told-exact a) (of-exact r)
+  pub exact-sum-one : {xs : List ℤ} {t : List ℕ} {r q : Exact} → ExactShown xs t r → ExactShown xs t q → r ≡ q

@@ -5,7 +5,7 @@ use across::Measure;
 use across::Stored;
 use across::Written;
 use text::Cursor;
-ghost use Rattle.bridge.specs.Calls.{ThinShown, GrowShown, ReplayShown, VolumeShown, ChangeShown, ShiftShown, LimitShown, SheetShown, ReplyShown, WriteLogShown, ReadLogShown, EachShown, RecoverShown, OpenShown, NextShown};
+ghost use Rattle.bridge.specs.Calls.{ThinShown, GrowShown, ReplayShown, VolumeShown, ChangeShown, ExactShown, ShiftShown, LimitShown, SheetShown, ReplyShown, WriteLogShown, ReadLogShown, EachShown, RecoverShown, OpenShown, NextShown};
 ghost use Rattle.bridge.specs.Lent.{TrialShown, RingShown, PartShown};
 
 // A part of one of two lent logs, the first (0) or the second (1): its numbers at the places from `from` up to, not with, `to`.
@@ -93,6 +93,23 @@ pub extern "C" fn flaxglimmer_change(earlier: &[u32], later: &[u32], corners: &[
     ensures { λ r. ⌜ ChangeShown (now (corners .entry)) (now (earlier .entry)) (now (later .entry)) r ⌝ }
 {
     across::measure_of(volume::change(earlier, later, corners))
+}
+
+// The exact sum of a stage with its coordinates: the status, and the whole part and the rest in lent numbers.
+#[no_mangle]
+pub extern "C" fn flaxglimmer_exact_sum(
+    table: &[u32],
+    corners: &[i32],
+    whole: &mut i64,
+    rest: &mut u64,
+) -> u64
+    ensures { λ r. ⌜ ExactShown (now (corners .entry)) (now (table .entry)) (record { status = r; whole = now (whole .exit); rest = now (rest .exit) }) ⌝ }
+{
+    let exact = across::exact_of(volume::exact_sum(table, corners));
+    let part = exact.whole;
+    *whole = part;
+    *rest = exact.rest;
+    exact.status
 }
 
 // The shift of a corner by a log that was written over these coordinates: the status, and stand-in, count and squared distance in lent numbers.

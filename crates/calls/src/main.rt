@@ -150,8 +150,8 @@ fn replay_lent(corners: usize, table: &mut [u32], log: &[u32]) -> bool {
     words::write_numbers(table)
 }
 
-// A volume: table; corners.
-fn call_volume() -> bool {
+// A volume, or an exact sum: table; corners.
+fn call_stage(exact: bool) -> bool {
     let mut ok = true;
     let mut table = words::numbers_room();
     let t = words::take_numbers(&mut table, &mut ok);
@@ -160,8 +160,18 @@ fn call_volume() -> bool {
     if !ok {
         return false;
     }
+    if exact {
+        return exact_lent(&table[..t], &corners[..c]);
+    }
     let a = bridge::flaxglimmer_volume(&table[..t], &corners[..c]);
     words::answer_two(a.status, word::word_of(a.figure))
+}
+
+fn exact_lent(table: &[u32], corners: &[i32]) -> bool {
+    let mut whole: i64 = 0;
+    let mut rest: u64 = 0;
+    let status = bridge::flaxglimmer_exact_sum(table, corners, &mut whole, &mut rest);
+    words::answer_three(status, word::word_of(whole), rest)
 }
 
 // A change: earlier table; later table; corners.
@@ -326,7 +336,7 @@ fn call(number: u64) -> bool {
         return call_replay();
     }
     if number == 4 {
-        return call_volume();
+        return call_stage(false);
     }
     if number == 5 {
         return call_change();
@@ -378,6 +388,14 @@ fn call_of_logs(number: u64) -> bool {
     }
     if number == 25 {
         return logcalls::call_next();
+    }
+    call_of_sums(number)
+}
+
+// Those of exact sums.
+fn call_of_sums(number: u64) -> bool {
+    if number == 26 {
+        return call_stage(true);
     }
     false
 }

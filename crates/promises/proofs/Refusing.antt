@@ -1,6 +1,7 @@
 -- Demand 1: a refusal is answered exactly when the list has it, call by call.
 use mathlib.Core.Path.{_≡_, refl, sym, _∙_, ap, subst}
 use mathlib.Core.Logic.{_⊎_, inl, inr}
+use mathlib.Core.Bool.{false}
 use mathlib.Core.List.{List, _++_}
 use Prim.Native.Nat.{ℕ, _<_}
 use native.Mathlib.Omega.{arith}
@@ -15,7 +16,7 @@ use Rattle.refusal.specs.declared.Refusal.the-variants.{RecordFails}
 use Rattle.refusal.specs.declared.Verdict.the-variants.{Passes}
 use Rattle.refusal.specs.declared.Verdict.the-variants as verdict
 use Rattle.refusal.specs.First.{Refusals, First}
-use Rattle.refusal.specs.Told.{refused-as, refused}
+use Rattle.refusal.specs.Told.{Told, refused-as, refused}
 use Rattle.refusal.proofs.Laws.{verdicts, first-one, refused-one, refused-passes}
 use Rattle.refusal.proofs.Refuses.{exactly, not-refused, by-verdict}
 use Rattle.refusal.specs.Refuses.{Refuses}
@@ -24,6 +25,7 @@ use Rattle.refusal.proofs.Outcome.{tells-refusal, refused-done}
 use Rattle.length.proofs.Laws.{limit-told}
 use Rattle.length.specs.declared.Order.{Order}
 use Rattle.faults.specs.Counts.{corners}
+use Rattle.faults.specs.Order.{refusals-at}
 use Rattle.thin.specs.declared.Asked.{Asked}
 use Rattle.thin.specs.declared.Thinning.{Thinning}
 use Rattle.thin.specs.declared.Thinning.the-variants as thinning
@@ -41,6 +43,7 @@ use Rattle.regrow.proofs.Main as grows
 use Rattle.regrow.proofs.Counted.{regrown-apart, failing-other, stops}
 use Rattle.replay.specs.Outcome.{replay-refusals, replaying, ReplayedAs}
 use Rattle.replay.proofs.Main as replays
+use Rattle.volume.specs.Report.{ExactReport, unsummed, summed}
 use Rattle.sheet.specs.declared.Sheet.{Sheet}
 use Rattle.sheet.specs.Answer as sheets
 use Rattle.form.specs.Form.{SheetOf, form-refusals}
@@ -105,6 +108,11 @@ records-refuse : {l : Refusals} {P : Type 0} (a : Regrown) → ((e : Refusal) ×
 records-refuse a (inl x) = exactly (inl (x .0, x .1, ap regrowths.told (x .2)))
 records-refuse a (inr (x, k, all-done e)) = exactly (inr (x .0, not-refused (ap regrowths.told e)))
 records-refuse a (inr (x, k, some-done e)) = exactly (inr (x .0, λ r p. failing-other k r (sym (ap regrowths.told e) ∙ p)))
+
+-- an exact sum
+exact-refuses : {xs : List ℤ} {t : List ℕ} {a : Told} → ExactReport xs t a → Refuses (refusals-at false xs t) a
+exact-refuses (unsummed {r} c e) = exactly (inl (r, c .holds, e))
+exact-refuses (summed c x e) = exactly (inr (c .holds, not-refused e))
 
 -- a sheet
 module _ {b troom troom′ : List ℕ} {croom croom′ : List ℤ} where
@@ -201,6 +209,7 @@ demand-one = record {
   replay-fails = λ {n} {t} {log} {a} w. record { when = λ k T f x. ap regrowths.told (replays.replay-one w (replay-on w f x) .0); only = λ k p. replay-stopped k w (stops a k p) };
   volume = λ a w. by-verdict _ (w .verdict) (w .checked .holds) (w .tells);
   change = λ a w. by-verdict _ (w .verdict) (w .first) (w .tells);
+  exact-sum = λ a w. exact-refuses w;
   shift = λ a w. by-verdict _ (w .verdict) (w .first) (w .tells);
   limit = λ l. elim (limit-told l) [
     | inl x ↦ ((λ u. x .1), λ r p. x .0)

@@ -6,6 +6,7 @@ use Rattle.thin.proofs.Main.{thinned-one, accepted, thinned-run, thinned-kept}
 use Rattle.regrow.proofs.Main.{grown-one, grown-leaves}
 use Rattle.replay.proofs.Main.{replay-one, replay-leaves}
 use Rattle.volume.proofs.Main.{volume-one, change-one}
+use Rattle.volume.proofs.Sums.{exact-sum-one}
 use Rattle.shift.proofs.Main.{shift-one}
 use Rattle.link.proofs.Laws.{chosen-one}
 use Rattle.catchup.proofs.One.{caught-up-one}
@@ -44,6 +45,7 @@ nothing-left = record {
   recover = λ o p q. recovered-one p q;
   open-log = λ p q. opened-one p q;
   next-record = λ p q. next-one p q;
+  exact-sum = λ a b p q. exact-sum-one a b p q;
   reader-at = λ p q. (p .0 ∙ sym (q .0), p .1 ∙ sym (q .1));
   reader = λ p q. asked-one p q;
   ask = λ p q. answered-one p q;

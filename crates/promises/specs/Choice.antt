@@ -14,8 +14,9 @@ use Rattle.regrow.specs.declared.Regrown.{Regrown}
 use Rattle.regrow.specs.Outcome.{GrownAs}
 use Rattle.replay.specs.Outcome.{ReplayedAs}
 use Rattle.volume.specs.declared.Measured.{Measured}
+use Rattle.volume.specs.declared.ExactSum.{ExactSum}
 use Rattle.volume.specs.Answer as volumes
-use Rattle.volume.specs.Report.{VolumeReport, ChangeReport}
+use Rattle.volume.specs.Report.{VolumeReport, ChangeReport, ExactReport}
 use Rattle.shift.specs.declared.Shifted.{Shifted}
 use Rattle.shift.specs.Answer as shifts
 use Rattle.shift.specs.Report.{ShiftReport}
@@ -38,7 +39,7 @@ use Rattle.logreader.specs.Outcome.{Asked, AnsweredAt, EachRecord}
 use Rattle.recover.specs.declared.Recovered.{Recovered}
 use Rattle.recover.specs.Outcome.{RecoveredBy}
 
--- the calls in the order of their numbers over a pipe, 1 to 16, 24, 25, then the reader's own functions; each line names the relation that the call's `ensures` states
+-- the calls in the order of their numbers over a pipe, 1 to 16, 24 to 26, then the reader's own functions; each line names the relation that the call's `ensures` states
 pub record NothingLeft : Type 0 where
   -- the answer, the table and the log
   pub thin : (o : Order) {xs : List ℤ} {t l : List ℕ} {a b : Thinning} {t₁ t₂ l₁ l₂ : List ℕ} → Thinned o xs t l a t₁ l₁ → Thinned o xs t l b t₂ l₂ → (a ≡ b) × (t₁ ≡ t₂) × (l₁ ≡ l₂)
@@ -67,6 +68,7 @@ pub record NothingLeft : Type 0 where
   pub recover : (o : Order) {xs : List ℤ} {t l b : List ℕ} {a₁ a₂ : Recovered} {t₁ t₂ l₁ l₂ : List ℕ} → RecoveredBy o xs t l b a₁ t₁ l₁ → RecoveredBy o xs t l b a₂ t₂ l₂ → (a₁ ≡ a₂) × (t₁ ≡ t₂) × (l₁ ≡ l₂)
   pub open-log : {b : List ℕ} {a₁ a₂ : Opened} → OpenedLog b a₁ → OpenedLog b a₂ → a₁ ≡ a₂
   pub next-record : {b : List ℕ} {at : ℕ} {a₁ a₂ : Next} → NextRecord b at a₁ → NextRecord b at a₂ → a₁ ≡ a₂
+  pub exact-sum : {xs : List ℤ} {t : List ℕ} (a b : ExactSum) → ExactReport xs t (volumes.told-exact a) → ExactReport xs t (volumes.told-exact b) → a ≡ b
   -- a reader made of the caller's bytes at a place; then the answer, and the reader after it
   pub reader-at : {bytes : RefT (List ℕ)} {at : ℕ} {r₁ r₂ : Reader} → (r₁ .bytes ≡ bytes) × (r₁ .at ≡ at) → (r₂ .bytes ≡ bytes) × (r₂ .at ≡ at) → (r₁ .bytes ≡ r₂ .bytes) × (r₁ .at ≡ r₂ .at)
   pub reader : {r r₁ r₂ : Reader} {a₁ a₂ : Next} → Asked r r₁ a₁ → Asked r r₂ a₂ → (a₁ ≡ a₂) × (r₁ .bytes ≡ r₂ .bytes) × (r₁ .at ≡ r₂ .at)

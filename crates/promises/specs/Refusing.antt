@@ -36,8 +36,9 @@ use Rattle.growable.specs.Refusals.{grow-refusals}
 use Rattle.regrow.specs.Outcome.{growing, GrownAs}
 use Rattle.replay.specs.Outcome.{replay-refusals, replaying, ReplayedAs}
 use Rattle.volume.specs.declared.Measured.{Measured}
+use Rattle.volume.specs.declared.ExactSum.{ExactSum}
 use Rattle.volume.specs.Answer as volumes
-use Rattle.volume.specs.Report.{VolumeReport, ChangeReport}
+use Rattle.volume.specs.Report.{VolumeReport, ChangeReport, ExactReport}
 use Rattle.shift.specs.declared.Shifted.{Shifted}
 use Rattle.shift.specs.Answer as shifts
 use Rattle.shift.specs.Order.{shift-refusals}
@@ -82,6 +83,7 @@ pub record DemandOne : Type 0 where
       Fails (replay-refusals n t log) (λ k T. Followed (replaying n t log) (Stopped k) T) (λ T. t′ ≡ zeroed T t) (regrowths.told a)
   pub volume : {xs : List ℤ} {t : List ℕ} (a : Measured) → VolumeReport xs t (volumes.told a) → Refuses (refusals-at false xs t) (volumes.told a)
   pub change : {xs : List ℤ} {t s : List ℕ} (a : Measured) → ChangeReport xs t s (volumes.told a) → Refuses (either (refusals-at false xs t) (refusals-at false xs s)) (volumes.told a)
+  pub exact-sum : {xs : List ℤ} {t : List ℕ} (a : ExactSum) → ExactReport xs t (volumes.told-exact a) → Refuses (refusals-at false xs t) (volumes.told-exact a)
   pub shift : {xs : List ℤ} {log : List ℕ} {v : ℕ} (a : Shifted) → ShiftReport xs log v (shifts.told a) → Refuses (shift-refusals xs log v) (shifts.told a)
   pub limit : (l : Length) → (Unfit (typed l) → limits.told (limit-of l) ≡ refused-as 1) × ((r : Refusal) → limits.told (limit-of l) ≡ refused r → Unfit (typed l))
   -- a sheet: for its form, or else for what it holds, and only for one of these
