@@ -30,10 +30,10 @@ use Rattle.job.proofs.Judging.{verdicts}
 
 -- ---- a question asked of a sheet, and of its entries
 
-fails-there : {b : List ℕ} {es : List Entry} {Good : List Entry → Type 0} → JobSheetOf b es → Fails b Good → ¬ Good es
+pub fails-there : {b : List ℕ} {es : List Entry} {Good : List Entry → Type 0} → JobSheetOf b es → Fails b Good → ¬ Good es
 fails-there {Good = Good} s f g = f .not (subst Good (one-job (f .sheet) s) g)
 
-fails-of : {b : List ℕ} {es : List Entry} {Good : List Entry → Type 0} → JobSheetOf b es → ¬ Good es → Fails b Good
+pub fails-of : {b : List ℕ} {es : List Entry} {Good : List Entry → Type 0} → JobSheetOf b es → ¬ Good es → Fails b Good
 fails-of {es = es} s n = record { es = es; sheet = s; not = n }
 
 -- two lists of the same refusals, each given where the other is

@@ -1,3 +1,5 @@
 pub mod Judging
-pub mod Answering
 pub mod Numbers
+pub mod Answering
+pub mod Laws
+pub mod Impostors
