@@ -2,6 +2,7 @@
 // The status is 0 for done, else the refusal's number; a refused call has 0 for every value, but 13 carries the records done.
 // Two numbers cross as a struct. Of more, the first is the result and the rest go into lent numbers: a larger struct is handed back through a
 // pointer that each processor keeps in another register.
+use job::Job;
 use length::Length;
 use length::Order;
 use length::Reading;
@@ -31,6 +32,7 @@ ghost use Rattle.regrow.specs.Answer as regrow-answer;
 ghost use Rattle.volume.specs.Answer as volume-answer;
 ghost use Rattle.shift.specs.Answer as shift-answer;
 ghost use Rattle.sheet.specs.Answer as sheet-answer;
+ghost use Rattle.job.specs.Answer as job-answer;
 ghost use Rattle.tell.specs.Answer as reply-answer;
 ghost use Rattle.logsheet.specs.Answer as log-answer;
 ghost use Rattle.recover.specs.Answer as recover-answer;
@@ -46,7 +48,7 @@ pub struct Counted {
     pub records: u64,
 }
 
-// What a volume or a change answers: the status, and the figure in cubic metres.
+// What a volume, a change or a job answers: the status, and the figure in cubic metres.
 #[repr(C)]
 pub struct Measure {
     pub status: u64,
@@ -215,6 +217,22 @@ pub fn measure_of(a: Measured) -> Measure
         },
         Measured::Refused(e) => Measure {
             status: refusal::number_of(e) as u64,
+            figure: 0,
+        },
+    }
+}
+
+// Inner: what a job answers.
+pub fn measure_of_job(a: Job) -> Measure
+    ensures { λ r. ⌜ Says (job-answer.told a) (of-measure r) ⌝ }
+{
+    match a {
+        Job::Net(f) => Measure {
+            status: 0,
+            figure: f,
+        },
+        Job::Refused(e) => Measure {
+            status: job::number_of(e) as u64,
             figure: 0,
         },
     }

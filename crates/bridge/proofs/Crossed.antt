@@ -16,6 +16,8 @@ use Rattle.shift.proofs.Main.{shift-one}
 use Rattle.length.specs.Answer as length-answer
 use Rattle.sheet.specs.Answer as sheet-answer
 use Rattle.sheet.proofs.Promises.{one-outcome}
+use Rattle.job.specs.Answer as job-answer
+use Rattle.job.proofs.Answering.{one-answer}
 use Rattle.tell.specs.Answer as reply-answer
 use Rattle.reply.proofs.Main.{replied-one}
 use Rattle.logsheet.specs.Answer as log-answer
@@ -32,7 +34,7 @@ use Rattle.bridge.specs.declared.Part.{Part}
 use Rattle.bridge.specs.Lent.{Places, nothing, of-second, of-first}
 use Rattle.bridge.specs.Crossing.{Crossing}
 use Rattle.across.proofs.Saying.{said}
-use Rattle.bridge.proofs.Main.{thin-crosses, grow-crosses, replay-crosses, volume-crosses, change-crosses, exact-crosses, shift-crosses, limit-crosses, sheet-crosses, reply-crosses, trial-crosses, ring-crosses, part-crosses, write-log-crosses, read-log-crosses, each-crosses, recover-crosses, open-log-crosses, next-crosses}
+use Rattle.bridge.proofs.Main.{thin-crosses, grow-crosses, replay-crosses, volume-crosses, change-crosses, exact-crosses, shift-crosses, limit-crosses, sheet-crosses, reply-crosses, trial-crosses, ring-crosses, part-crosses, write-log-crosses, read-log-crosses, each-crosses, recover-crosses, job-crosses, open-log-crosses, next-crosses}
 
 -- the places tell of the same memory, by whatever name
 places-same : {first second x y : RefT (List ℕ)} {r : Part} → SamePart x y → Places first second x r → Places first second y r
@@ -74,6 +76,8 @@ crossing = record {
   each-record-one = λ p q. each-crosses p q;
   recover = λ u v p w. let e = recovered-one w (p .gives) in (said recover-answer.told (e .0) (p .says), sym (e .1), sym (e .2));
   recover-one = λ u v p q. recover-crosses u v p q;
+  job = λ p w. said job-answer.told (one-answer w (p .gives)) (p .says);
+  job-one = λ p q. job-crosses p q;
   open-log = λ p w. said told-opened (opened-one w (p .gives)) (p .says);
   open-log-one = λ p q. open-log-crosses p q;
   next-record = λ p w. said told-next (next-one w (p .shown .gives)) (p .shown .says);

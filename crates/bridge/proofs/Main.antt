@@ -22,6 +22,8 @@ use Rattle.shift.specs.Answer as shift-answer
 use Rattle.length.specs.Answer as length-answer
 use Rattle.sheet.proofs.Promises.{one-outcome}
 use Rattle.sheet.specs.Answer as sheet-answer
+use Rattle.job.proofs.Answering.{one-answer}
+use Rattle.job.specs.Answer as job-answer
 use Rattle.reply.proofs.Main.{replied-one}
 use Rattle.tell.specs.Answer as reply-answer
 use Rattle.logsheet.proofs.Main.{read-log-one, wrote-log-one}
@@ -52,7 +54,7 @@ use Rattle.across.specs.declared.Stored.{Stored}
 use Rattle.bridge.specs.declared.Part.{Part}
 use Rattle.across.specs.Says.{Says}
 use Rattle.across.specs.Fields.{of-counted, of-measure, of-exact, of-stand-in, of-centimetres, of-counts, of-written, of-log-read, of-recovery, of-log-opened, of-asked}
-use Rattle.bridge.specs.Calls.{ThinShown, GrowShown, ReplayShown, VolumeShown, ChangeShown, ExactShown, ShiftShown, LimitShown, SheetShown, ReplyShown, WriteLogShown, ReadLogShown, EachShown, RecoverShown, OpenShown, NextShown}
+use Rattle.bridge.specs.Calls.{ThinShown, GrowShown, ReplayShown, VolumeShown, ChangeShown, ExactShown, ShiftShown, LimitShown, SheetShown, JobShown, ReplyShown, WriteLogShown, ReadLogShown, EachShown, RecoverShown, OpenShown, NextShown}
 use Rattle.across.specs.Fields.{Stores}
 use Rattle.bridge.specs.Lent.{TrialShown, Which, the-first, the-second, RingShown, Places, nothing, of-second, of-first, PartShown}
 use Rattle.across.proofs.Saying.{said}
@@ -191,6 +193,9 @@ each-crosses p q = let e = each-one (p .gives) (q .gives) in (log-read-once (p .
 pub recover-crosses : (u : ℕ) (v : Float) {xs : List ℤ} {t l b : List ℕ} {r q : Recovery} {t₁ t₂ l₁ l₂ : List ℕ} →
     RecoverShown u v xs t l b r t₁ l₁ → RecoverShown u v xs t l b q t₂ l₂ → (r ≡ q) × (t₁ ≡ t₂) × (l₁ ≡ l₂)
 recover-crosses u v p q = let e = recovered-one (p .gives) (q .gives) in (recovery-once (p .says) (said recover-answer.told (e .0) (q .says)), e .1, e .2)
+
+pub job-crosses : {b : List ℕ} {r q : Measure} → JobShown b r → JobShown b q → r ≡ q
+job-crosses p q = measure-once (p .says) (said job-answer.told (one-answer (p .gives) (q .gives)) (q .says))
 
 pub open-log-crosses : {b : List ℕ} {r q : LogOpened} → OpenShown b r → OpenShown b q → r ≡ q
 open-log-crosses p q = log-opened-once (p .says) (said told-opened (opened-one (p .gives) (q .gives)) (q .says))

@@ -19,6 +19,8 @@ use Rattle.shift.specs.Report.{ShiftReport}
 use Rattle.shift.specs.Answer as shift-answer
 use Rattle.sheet.specs.Outcome.{ReadSheet}
 use Rattle.sheet.specs.Answer as sheet-answer
+use Rattle.job.specs.Outcome.{JobAnswered}
+use Rattle.job.specs.Answer as job-answer
 use Rattle.reply.specs.Outcome.{Replied}
 use Rattle.tell.specs.Answer as reply-answer
 use Rattle.logsheet.specs.Outcome.{ReadLogSheet, WroteLogSheet}
@@ -78,6 +80,10 @@ LimitShown u v r = Shown (λ a. a ≡ limit-of (length-of u v)) length-answer.to
 -- a sheet
 abbrev pub SheetShown : List ℕ → List ℕ → List ℕ → List ℤ → List ℤ → Counts → Type 0
 SheetShown b t t′ xs xs′ r = Shown (λ a. ReadSheet b t t′ xs xs′ a) sheet-answer.told (of-counts r)
+
+-- a job
+abbrev pub JobShown : List ℕ → Measure → Type 0
+JobShown b r = Shown (λ a. JobAnswered b a) job-answer.told (of-measure r)
 
 -- the desk's answer
 abbrev pub ReplyShown : List ℕ → List ℕ → Written → List ℕ → Type 0

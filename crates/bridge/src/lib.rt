@@ -5,7 +5,7 @@ use across::Measure;
 use across::Stored;
 use across::Written;
 use text::Cursor;
-ghost use Rattle.bridge.specs.Calls.{ThinShown, GrowShown, ReplayShown, VolumeShown, ChangeShown, ExactShown, ShiftShown, LimitShown, SheetShown, ReplyShown, WriteLogShown, ReadLogShown, EachShown, RecoverShown, OpenShown, NextShown};
+ghost use Rattle.bridge.specs.Calls.{ThinShown, GrowShown, ReplayShown, VolumeShown, ChangeShown, ExactShown, ShiftShown, LimitShown, SheetShown, JobShown, ReplyShown, WriteLogShown, ReadLogShown, EachShown, RecoverShown, OpenShown, NextShown};
 ghost use Rattle.bridge.specs.Lent.{TrialShown, RingShown, PartShown};
 
 // A part of one of two lent logs, the first (0) or the second (1): its numbers at the places from `from` up to, not with, `to`.
@@ -182,6 +182,14 @@ pub extern "C" fn flaxglimmer_read_sheet(
     *count = counts.corners;
     *rows = counts.rows;
     counts.status
+}
+
+// The net of the whole job on a sheet.
+#[no_mangle]
+pub extern "C" fn flaxglimmer_job(bytes: &[u8]) -> Measure
+    ensures { λ r. ⌜ JobShown (now (bytes .entry)) r ⌝ }
+{
+    across::measure_of_job(job::job_net(bytes))
 }
 
 // The trial ring's number at a place of its table.

@@ -284,6 +284,18 @@ fn sheet_lent(bytes: &[u8], table: &mut [u32], corners: &mut [i32]) -> bool {
     words::write_coordinates(corners)
 }
 
+// A job: bytes.
+fn call_job() -> bool {
+    let mut ok = true;
+    let mut bytes = words::bytes_room();
+    let b = words::take_bytes(&mut bytes, &mut ok);
+    if !ok {
+        return false;
+    }
+    let a = bridge::flaxglimmer_job(&bytes[..b]);
+    words::answer_two(a.status, word::word_of(a.figure))
+}
+
 // The desk's answer: bytes; text.
 fn call_reply() -> bool {
     let mut ok = true;
@@ -392,8 +404,11 @@ fn call_of_logs(number: u64) -> bool {
     call_of_sums(number)
 }
 
-// Those of exact sums.
+// Those of exact sums: a job, and the sum of a stage.
 fn call_of_sums(number: u64) -> bool {
+    if number == 17 {
+        return call_job();
+    }
     if number == 26 {
         return call_stage(true);
     }

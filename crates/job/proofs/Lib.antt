@@ -1,4 +1,5 @@
 pub mod Judging
+pub mod Numbers
 pub mod Answering
 pub mod Laws
 pub mod One

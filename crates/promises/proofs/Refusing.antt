@@ -18,7 +18,7 @@ use Rattle.refusal.specs.declared.Verdict.the-variants as verdict
 use Rattle.refusal.specs.First.{Refusals, First}
 use Rattle.refusal.specs.Told.{Told, refused-as, refused}
 use Rattle.refusal.proofs.Laws.{verdicts, first-one, refused-one, refused-passes}
-use Rattle.refusal.proofs.Refuses.{exactly, not-refused, by-verdict}
+use Rattle.refusal.proofs.Refuses.{exactly-of, exactly, not-refused, by-verdict}
 use Rattle.refusal.specs.Refuses.{Refuses}
 use Rattle.refusal.specs.Outcome.{outcome}
 use Rattle.refusal.proofs.Outcome.{tells-refusal, refused-done}
@@ -68,7 +68,12 @@ use Rattle.recover.specs.declared.Recovered.the-variants as recovered
 use Rattle.recover.specs.Answer as recoveries
 use Rattle.recover.specs.Outcome as recovering
 use Rattle.recover.proofs.Main as recovers
-use Rattle.promises.specs.Refusing.{DemandOne}
+use Rattle.job.specs.declared.Job.{Job}
+use Rattle.job.specs.Answer as jobs
+use Rattle.job.specs.Outcome as jobbed
+use Rattle.job.proofs.Judging as judging
+use Rattle.job.proofs.Numbers as job-numbers
+use Rattle.promises.specs.Refusing.{RefusesJob, DemandOne}
 
 thin-same : (o : Order) {xs : List ℤ} {t l : List ℕ} {a : Thinning} {t′ l′ : List ℕ} → Thinned o xs t l a t′ l′ → (r : Refusal) → thinnings.told a ≡ refused r → (t′ ≡ t) × (l′ ≡ l)
 thin-same o {a = thinning.Done k} w r p = absurd (refused-done r (sym p))
@@ -187,6 +192,11 @@ recover-stopped {xs = xs} {t} {l} k (recovering.stopped {k = k₁} {reached = T}
     let n = one-cut c cut .numbers in
     (f, T, rw (n, e) at w, et, el ∙ (λ i. take (room-for (e i)) (n i) ++ drop (room-for (e i)) l))
 
+-- a job
+job-refuses : {b : List ℕ} {a : Job} → jobbed.JobAnswered b a → RefusesJob (jobbed.job-refusals b) (jobs.told a)
+job-refuses (jobbed.refused {r} f e) = exactly-of judging.verdicts job-numbers.tells-refusal (inl (r, f, ap jobs.told e))
+job-refuses (jobbed.answered es net f s n e) = exactly-of judging.verdicts job-numbers.tells-refusal (inr (f, λ r p. job-numbers.refused-done r (sym p ∙ ap jobs.told e)))
+
 open-refuses : {b : List ℕ} {a : Opened} → OpenedLog b a → Refuses (open-refusals b) (told-opened a)
 open-refuses (unopened {r = r} f e) = exactly (inl (r, f, ap told-opened e))
 open-refuses (opened f s e) = exactly (inr (f, not-refused (ap told-opened e)))
@@ -235,6 +245,7 @@ demand-one = record {
     (λ k T f x. ap recoveries.told (recovers.recovered-one w (recovering.stopped f (recover-skin w f) cut x refl refl refl) .0)),
     λ k p. recover-stopped k (rw (recovers.told-stopped a p) at w) cut,
   );
+  job = λ w. job-refuses w;
   open-log = λ w. open-refuses w;
   next-record = λ w. next-refuses w;
   reader = λ w. next-refuses (w .answer);

@@ -15,6 +15,7 @@ use Rattle.ring.proofs.Rule.{trial-one}
 use Rattle.reply.proofs.Main.{replied-one}
 use Rattle.logsheet.proofs.Main.{read-log-one, wrote-log-one}
 use Rattle.recover.proofs.Main.{recovered-one}
+use Rattle.job.proofs.Answering.{one-answer}
 use Rattle.logrecords.proofs.Main.{opened-one, next-one}
 use Rattle.logreader.proofs.Main.{each-one}
 use Rattle.logreader.proofs.Again.{asked-one, answered-one}
@@ -43,6 +44,7 @@ nothing-left = record {
   read-log = λ p q. read-log-one p q;
   each-record = λ p q. each-one p q;
   recover = λ o p q. recovered-one p q;
+  job = λ p q. one-answer p q;
   open-log = λ p q. opened-one p q;
   next-record = λ p q. next-one p q;
   exact-sum = λ a b p q. exact-sum-one a b p q;

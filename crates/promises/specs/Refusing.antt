@@ -13,9 +13,9 @@ use Rattle.surface.specs.Rows.{Row, rows}
 use Rattle.refusal.specs.declared.Refusal.{Refusal}
 use Rattle.refusal.specs.declared.Verdict.the-variants.{Passes}
 use Rattle.refusal.specs.declared.Verdict.the-variants as verdict
-use Rattle.refusal.specs.First.{Refusals, First}
+use Rattle.refusal.specs.First.{Clause, Refusals, First}
 use Rattle.refusal.specs.Told.{Told, refused-as, refused, stopped-as}
-use Rattle.refusal.specs.Refuses.{Refuses}
+use Rattle.refusal.specs.Refuses.{RefusesOf, Refuses}
 use Rattle.refusal.specs.Lesser.{either}
 use Rattle.faults.specs.Counts.{corners}
 use Rattle.faults.specs.Order.{refusals-at}
@@ -57,6 +57,11 @@ use Rattle.logcut.specs.Cut.{CutOf}
 use Rattle.recover.specs.declared.Recovered.{Recovered}
 use Rattle.recover.specs.Answer as recoveries
 use Rattle.recover.specs.Outcome.{recover-refusals, RecoveredBy}
+use Rattle.job.specs.declared.JobRefusal.{JobRefusal}
+use Rattle.job.specs.declared.JobVerdict.the-variants as job-verdict
+use Rattle.job.specs.declared.Job.{Job}
+use Rattle.job.specs.Answer as jobs
+use Rattle.job.specs.Outcome.{job-refusals, JobAnswered}
 use Rattle.logrecords.specs.declared.Opened.{Opened}
 use Rattle.logrecords.specs.declared.Next.{Next}
 use Rattle.logrecords.specs.Answer.{told-opened, told-next}
@@ -68,6 +73,10 @@ use Rattle.logreader.specs.Outcome.{Asked, each-refusals, EachRecord}
 pub record Fails (l : Refusals) (Stops : ℕ → List Row → Type 0) (Left : List Row → Type 0) (v : Told) : Type 0 where
   pub when : (k : ℕ) (T : List Row) → First l Passes → Stops k T → v ≡ stopped-as 13 k
   pub only : (k : ℕ) → v ≡ stopped-as 13 k → First l Passes × (T : List Row) × Stops k T × Left T
+
+-- `Refuses` of a job, whose refusals are of their own kind
+abbrev pub RefusesJob : List (Clause JobRefusal) → Told → Type 0
+RefusesJob = RefusesOf job-verdict.Passes job-verdict.Refused jobs.refused
 
 pub record DemandOne : Type 0 where
   pub thin : (o : Order) {xs : List ℤ} {t l : List ℕ} {a : Thinning} {t′ l′ : List ℕ} → Thinned o xs t l a t′ l′ → Refuses (thin-refusals (asked o) xs t (length l)) (thinnings.told a)
@@ -112,6 +121,7 @@ pub record DemandOne : Type 0 where
       ((k : ℕ) (T : List Row) → First (recover-refusals (asked o) xs t (length l) b) Passes → Followed (replaying (corners xs) t log) (Stopped k) T → recoveries.told a ≡ recoveries.fails-after k)
       × ((k : ℕ) → recoveries.told a ≡ recoveries.fails-after k → First (recover-refusals (asked o) xs t (length l) b) Passes × (T : List Row) × Followed (replaying (corners xs) t log) (Stopped k) T
       × (t′ ≡ zeroed T t) × (l′ ≡ take (room-for k) log ++ drop (room-for k) l))
+  pub job : {b : List ℕ} {a : Job} → JobAnswered b a → RefusesJob (job-refusals b) (jobs.told a)
   pub open-log : {b : List ℕ} {a : Opened} → OpenedLog b a → Refuses (open-refusals b) (told-opened a)
   -- 12 exactly where a byte follows the place and no record's line stands there; by a reader too, at its own place
   pub next-record : {b : List ℕ} {at : ℕ} {a : Next} → NextRecord b at a → (at < length b → ((ns : List ℕ) → ¬ LineStands b at ns) → told-next a ≡ refused-as 12)
