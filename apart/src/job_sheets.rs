@@ -61,11 +61,10 @@ fn halves(bench: &mut Bench, chance: &mut Chance) {
 /// Nets at the ends of 63 and 64 bits, and the largest there are.
 fn large_nets(bench: &mut Bench, chance: &mut Chance) {
     let most = MOST_ENTRIES as i128 * LARGEST_SUM;
-    let nearest_half = |net: i128| (net / HALF) | 1;
     for past in [PAST_63, PAST_64] {
-        for net in
-            [past - 1, past, past + 1, nearest_half(past) * HALF, past + 3 * HALF, past / 2 * 3].map(|n| n.min(most))
-        {
+        // An odd number of halves near it.
+        let half = (past / HALF | 1) * HALF;
+        for net in [past - 1, past, past + 1, half - 1, half, (past + past / 4).min(most)] {
             for (net, top) in [(net, VOID), (-net, VOID), (net, SOLID), (-net, SOLID)] {
                 let job = tree(top, MOST_ENTRIES, 2 + chance.below(DEEPEST - 1), chance);
                 let moved = chance.pick(&[0, 5, LARGEST_SUM]);
@@ -286,9 +285,9 @@ const SUMS: [&str; 30] = [
     "-999999999999999999", "1000000000000000000", "-1000000000000000000", "000000000000000001", "18446744073709551617",
 ];
 
-/// Single fields put in place of a station's.
+/// Single fields put in place of a station's, whose net lies at a half: one more or less in any sum shows.
 fn fields(bench: &mut Bench) {
-    let lines = [vec!["JOB", "3"], vec!["J", "V", "-", "90"], vec!["J", "S", "0", "-5"], vec!["J", "V", "1", "7"]];
+    let lines = [vec!["JOB", "3"], vec!["J", "V", "-", "3000000"], vec!["J", "S", "0", "0"], vec!["J", "V", "1", "0"]];
     let cases =
         [(0, 1, &COUNTS[..]), (1, 1, &LETTERS), (2, 1, &LETTERS), (1, 2, &NAMES), (2, 2, &NAMES), (3, 2, &NAMES)];
     let sums = (1..=3).map(|line| (line, 3, &SUMS[..]));
@@ -313,7 +312,7 @@ const LINES: [&str; 27] = [
 /// Single lines put in place of a small sheet's, and other ends.
 fn lines(bench: &mut Bench) {
     let kind = "sweep: job sheets with a line replaced";
-    let lines = ["JOB\t2", "J\tV\t-\t80", "J\tS\t0\t5"];
+    let lines = ["JOB\t2", "J\tV\t-\t3000005", "J\tS\t0\t5"];
     for at in 0..lines.len() {
         for other in LINES {
             let mut changed = lines;
@@ -329,7 +328,7 @@ fn lines(bench: &mut Bench) {
     for parting in ["\r\n", "\r", "\n\n", "\0", " "] {
         bench.try_call(kind, &job_request((lines.join(parting) + parting).as_bytes()));
     }
-    for text in ["", "\n", "JOB", "J", "\0", "\u{feff}JOB\t2\nJ\tV\t-\t80\nJ\tS\t0\t5\n"] {
+    for text in ["", "\n", "JOB", "J", "\0", "\u{feff}JOB\t2\nJ\tV\t-\t3000005\nJ\tS\t0\t5\n"] {
         bench.try_call(kind, &job_request(text.as_bytes()));
     }
 }
@@ -358,14 +357,13 @@ fn sizes(bench: &mut Bench, chance: &mut Chance) {
         if text.len() != length || !job::holding(&text).contains(&status) {
             bench.tally.fail("jobs: the maker", &format!("{} bytes for {length}", text.len()), "");
         }
-        // The same with another letter, a name past all entries, and a sum beyond the bound among its last.
-        let mut wrong = text.clone();
+        bench.try_call(kind, &job_request(&text));
+        // A last entry of no kind, which is not asked, and then one that does not end.
+        let mut wrong = text;
         let last = wrong.len() - "J\tS\t0\t1\n".len();
         wrong[last + 2] = b'Q';
-        wrong[last + 4] = b'9';
-        bench.try_call(kind, &job_request(&text));
         bench.try_call(kind, &job_request(&wrong));
-        wrong[last + 7] = b' ';
+        wrong[length - 1] = b' ';
         bench.try_call(kind, &job_request(&wrong));
         for byte in [0, 255, b'\n', b'\t', b'J', b'9'] {
             let mut long = job::write(&some_honest(chance));
@@ -375,7 +373,7 @@ fn sizes(bench: &mut Bench, chance: &mut Chance) {
     }
 }
 
-/// Jobs of real stages, and of the largest that a table can have.
+/// Jobs of real stages, and of the largest there are.
 fn stages(bench: &mut Bench, chance: &mut Chance) {
     for _ in 0..24 {
         let rows = make::size(chance);
@@ -385,12 +383,12 @@ fn stages(bench: &mut Bench, chance: &mut Chance) {
     of_largest_stages(bench, chance);
 }
 
-/// Every byte of some small sheets replaced, doubled, dropped, and everything behind it cut off.
+/// Every byte of some small sheets replaced, doubled, dropped, and everything behind it cut off. Both nets lie at a half.
 fn bytes(bench: &mut Bench, chance: &mut Chance) {
     let mut alone = shaped(SOLID, &[]);
     alone[0].sum = -27_000_000;
     let mut three = chain(VOID, 3);
-    for (entry, sum) in three.iter_mut().zip([LARGEST_SUM, -HALF, 10]) {
+    for (entry, sum) in three.iter_mut().zip([LARGEST_SUM, -HALF - 10, -10]) {
         entry.sum = sum;
     }
     for text in [job::write(&alone), job::write(&three)] {
