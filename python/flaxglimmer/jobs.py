@@ -222,8 +222,8 @@ def _form(sheet: bytes, name: str) -> tuple[LineFault, str]:
     told, there = int(FIRST.fullmatch(lines[0])[1]), len(lines) - 1
     if told == there:
         raise OurFault("the library refuses by 12, and no place of it is found")
-    text = f"{name}, line 1, byte 0: it tells {told:,} entries, and {there:,} follow: {quoted(lines[0])}"
-    return LineFault(text), "lines were lost or put in, or the count was not changed with them"
+    what = f"it tells {told:,} entries, and {there:,} follow: {quoted(lines[0])}"
+    return LineFault(f"{name}, line 1, byte 0: {what}"), "lines were lost or put in, or the count was not changed with them"
 
 
 def _damage(line: bytes, first: bool, ended: bool, name: str) -> tuple[str, str]:
