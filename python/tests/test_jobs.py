@@ -16,7 +16,6 @@ from tables import O_CORNERS, O_ROWS, T_CORNERS, T_ROWS, damaged, exact_sum
 
 import flaxglimmer as fg
 from flaxglimmer import calls, faults, files, header, jobs, lent
-from flaxglimmer.header import LIMITS
 
 MOST = 768_000_000_000_000_000  # as the request has it
 FIRST = re.compile(b"JOB\t(0|[1-9][0-9]{0,5})")
@@ -231,7 +230,7 @@ def bush(seed):
     entries, depths = [("V", "-", chance.randrange(-MOST, MOST))], [1]
     for at in range(1, 32):
         within = chance.choice([other for other, depth in enumerate(depths) if depth < 8])
-        entries.append(("SV"["VS".index(entries[within][0])], within, chance.choice([chance.randrange(-MOST, MOST), chance.randrange(10**8), 3_000_000])))
+        entries.append(("SV"["VS".index(entries[within][0])], within, chance.choice([chance.randrange(-MOST, MOST), chance.randrange(10**8), 3_000_000, 0])))
         depths.append(depths[within] + 1)
     return job(*entries)
 
@@ -329,6 +328,14 @@ def test_each_refusal_names_its_line_and_what_stands_there(sheet, number, line, 
 
 def test_every_refusal_of_a_job_is_among_them():
     assert {number for _, number, *_ in REFUSALS} == {12, *range(20, 26)} <= set(faults.HINTS)
+
+
+@pytest.mark.parametrize("sheet", [job(("S", "-", -MOST)), DEEP, WIDE, bush(0)])
+def test_no_finder_finds_anything_in_a_job_that_stands(sheet):
+    assert expected(sheet)[0] == 0
+    for number in range(20, 26):
+        with pytest.raises(fg.OurFault):
+            jobs.wrong(number, jobs.entries_of(sheet))
 
 
 def test_every_entry_that_makes_it_refused_is_told(run, tmp_path):
