@@ -24,13 +24,11 @@ use Rattle.nest.specs.Limits.{most-sum}
 use Rattle.nest.specs.Questions.{At}
 use Rattle.nest.specs.Net.{added, stands, is-void, is-solid, Nets, told-sum}
 use Rattle.nest.proofs.Entries.{at-get}
-use Rattle.job.specs.declared.JobRefusal.{JobRefusal}
-use Rattle.job.specs.declared.JobRefusal.the-variants.{SheetForm, JobCount, JobKind, JobName, JobAlternation, JobDepth, JobSum}
-use Rattle.job.specs.Number.{number}
 use Rattle.job.specs.declared.Job.{Job}
 use Rattle.job.specs.declared.Job.the-variants.{Net, Refused}
 use Rattle.job.specs.Answer as jobs
 use Rattle.job.specs.Outcome.{JobAnswered, refused, answered}
+use Rattle.job.proofs.Numbers as job-numbers
 use Rattle.job.proofs.Laws.{no-net, the-net, accepted}
 use Rattle.job.proofs.One.{alone, alone-figure}
 use Rattle.promises.specs.Stations.{NetTold, Filled, Stations}
@@ -39,16 +37,7 @@ use Rattle.promises.specs.Stations.{NetTold, Filled, Stations}
 
 net-told : (a : Job) {f : ℤ} → jobs.told a ≡ done (f ∷ []) → a ≡ Net f
 net-told (Net g) {f} e = let k = ap (λ (t : Told). t .values) e in let same : g ≡ f = cc in ap Net same
-net-told (Refused r) e = absurd (numbered r (ap (λ (t : Told). t .number) e))
-  where
-    numbered : (r : JobRefusal) → number r ≡ 0 → ⊥
-    numbered SheetForm e = omega arith
-    numbered JobCount e = omega arith
-    numbered JobKind e = omega arith
-    numbered JobName e = omega arith
-    numbered JobAlternation e = omega arith
-    numbered JobDepth e = omega arith
-    numbered JobSum e = omega arith
+net-told (Refused r) e = absurd (job-numbers.refused-done r e)
 
 module _ {b : List ℕ} {es : List Entry} {f : ℤ} (w : NetTold b es f) where
   told-figure : JobAnswered b (Net f)
