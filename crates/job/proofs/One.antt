@@ -1,24 +1,22 @@
 -- A job of one void: its net is its own sum.
 use mathlib.Core.Path.{_≡_, refl, sym, _∙_, ap}
 use mathlib.Core.List.{List, [], _∷_, _++_}
-use Prim.Native.Nat.{ℕ, zero, suc, _+_, _≤_}
+use Prim.Native.Nat.{ℕ, zero, suc, _≤_}
 use native.Mathlib.Omega.{arith}
-use lib.IntN.{ℤ, pos, _-ℤ_, natAbs, +ℤ-idr}
+use lib.IntN.{ℤ, pos, natAbs, +ℤ-idr}
 use lib.ListN.{length, length-append}
 use Rattle.wide.specs.Rounding.{figure}
 use Rattle.text.specs.Decimal.{signed}
-use Rattle.lines.specs.Lines.{tab, newline, fields, line}
+use Rattle.lines.specs.Lines.{newline, line}
 use Rattle.lines.proofs.Lengths.{line-length}
 use Rattle.heading.proofs.Sizes.{signed-size, fields-size}
-use Rattle.jobform.specs.declared.Name.{Name}
 use Rattle.jobform.specs.declared.Name.the-variants.{Nothing, Number}
 use Rattle.jobform.specs.declared.Entry.{Entry}
 use Rattle.jobform.specs.Limits.{most-job-bytes}
 use Rattle.jobform.specs.Inner.{kept-name}
 use Rattle.jobform.specs.JobSheet.{JOB, entry-line, JobSheetOf}
-use Rattle.nest.specs.declared.Kind.the-variants.{Void, Other}
 use Rattle.nest.specs.Limits.{most-sum}
-use Rattle.nest.specs.Questions.{void-letter, kind, At, Every, Counted, Marked, Named, Alternates, Deep, top, below, Shallow, SumIn}
+use Rattle.nest.specs.Questions.{void-letter, kind, At, Every, Marked, Named, Alternates, Deep, top, below, SumIn}
 use Rattle.nest.specs.Net.{added, Nets, told-sum}
 use Rattle.nest.specs.Inner.{kind-number}
 use Rattle.job.specs.declared.Job.{Job}
