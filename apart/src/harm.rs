@@ -246,6 +246,18 @@ pub fn scribble(length: i64, chance: &mut Chance) -> Vec<Word> {
     (0..length.max(0)).map(|_| Word::from(chance.next() as u32)).collect()
 }
 
+/// A text with one of its bytes replaced, dropped or doubled, or cut off there: four manners.
+pub fn spoiled_at(text: &[u8], at: usize, manner: usize, chance: &mut Chance) -> Vec<u8> {
+    let mut spoiled = text.to_vec();
+    match manner {
+        0 => spoiled[at] = chance.next() as u8,
+        1 => drop(spoiled.remove(at)),
+        2 => spoiled.insert(at, text[at]),
+        _ => spoiled.truncate(at),
+    }
+    spoiled
+}
+
 /// Likewise for text, in runs, so that a call printed to be tried again stays short.
 pub fn scribble_bytes(length: usize, chance: &mut Chance) -> Vec<Word> {
     let mut bytes = Vec::new();

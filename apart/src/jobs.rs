@@ -5,7 +5,7 @@ use crate::bench::Bench;
 use crate::chance::Chance;
 use crate::check::within_half;
 use crate::figures::{sixfold_volume, HALF, SIX_CUBIC_METRES};
-use crate::harm::Input;
+use crate::harm::{spoiled_at, Input};
 use crate::job::{self, Entry, DEEPEST, LARGEST_SUM, MOST_ENTRIES, SOLID, VOID};
 use crate::logs::some_log;
 use crate::mail::sheet_request;
@@ -242,13 +242,7 @@ pub fn byte_by_byte(bench: &mut Bench, chance: &mut Chance) {
     let text = job::write(&small_job(chance));
     let manner = chance.below(4);
     for at in 0..text.len() {
-        let mut spoiled = text.clone();
-        match manner {
-            0 => spoiled[at] = chance.next() as u8,
-            1 => drop(spoiled.remove(at)),
-            2 => spoiled.insert(at, text[at]),
-            _ => spoiled.truncate(at),
-        }
+        let spoiled = spoiled_at(&text, at, manner, chance);
         bench.try_call("chance: job sheets byte by byte", &job_request(&spoiled));
     }
 }
