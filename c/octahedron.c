@@ -114,12 +114,42 @@ static void recovery(void)
     recover("another unit's", 5, 0.3, sheet, 52);
 }
 
+/* The exact sum: the status, whole and rest, which are sevens before the call. */
+static void exact_sum(const char *name, const uint32_t *table, size_t length, const int32_t *at, size_t coordinates)
+{
+    int64_t whole = 7;
+    uint64_t rest = 7, status = flaxglimmer_exact_sum(table, length, at, coordinates, &whole, &rest);
+    printf("%s %" PRIu64 " %" PRId64 " %" PRIu64 "\n", name, status, whole, rest);
+}
+
+static void job(const char *name, const char *bytes)
+{
+    measure(name, flaxglimmer_job((const uint8_t *)bytes, strlen(bytes)));
+}
+
+/* A void with two solids, of which one has a void in it; a half on each side of zero; and each refusal of a job. */
+static void jobs(void)
+{
+    job("job", "JOB\t4\nJ\tV\t-\t600000000\nJ\tS\t0\t60000000\nJ\tV\t1\t12000000\nJ\tS\t0\t6000000\n");
+    job("a half", "JOB\t2\nJ\tV\t-\t10000000\nJ\tS\t0\t1000000\n");
+    job("a half below zero", "JOB\t2\nJ\tV\t-\t1000000\nJ\tS\t0\t10000000\n");
+    job("another number of lines", "JOB\t2\nJ\tV\t-\t0\n");
+    job("no entries", "JOB\t0\n");
+    job("another kind", "JOB\t1\nJ\tP\t-\t0\n");
+    job("a later name", "JOB\t2\nJ\tV\t-\t0\nJ\tS\t1\t0\n");
+    job("a void in a void", "JOB\t2\nJ\tV\t-\t0\nJ\tV\t0\t0\n");
+    job("nine deep", "JOB\t9\nJ\tV\t-\t0\nJ\tS\t0\t0\nJ\tV\t1\t0\nJ\tS\t2\t0\nJ\tV\t3\t0\nJ\tS\t4\t0\nJ\tV\t5\t0\nJ\tS\t6\t0\n"
+                     "J\tV\t7\t0\n");
+    job("a sum beyond", "JOB\t1\nJ\tV\t-\t-768000000000000001\n");
+}
+
 /* Every list that may be empty, as NULL: first in calls that are done, on document 01's tetrahedron, which has no record; then everywhere. */
 static void empty(void)
 {
     static const int32_t at[12] = {0, 0, 0, 300, 0, 0, 0, 300, 0, 0, 0, 300};
     uint32_t table[12] = {0, 1, 2, 0, 2, 3, 0, 3, 1, 1, 3, 2};
     uint64_t a, b, c;
+    exact_sum("the tetrahedron's exact sum", table, 12, at, 12);
     counted("no log to thin", flaxglimmer_thin(FLAXGLIMMER_NO_LIMIT, 0, table, 12, at, 12, NULL, 0));
     counted("no log to grow back", flaxglimmer_grow_back(4, 4, table, 12, NULL, 0));
     counted("no log to replay", flaxglimmer_replay(4, table, 12, NULL, 0));
@@ -143,6 +173,8 @@ static void empty(void)
     counted("nothing to grow back", flaxglimmer_grow_back(4, 4, NULL, 0, NULL, 0));
     counted("nothing to replay", flaxglimmer_replay(4, NULL, 0, NULL, 0));
     measure("nothing's volume", flaxglimmer_volume(NULL, 0, NULL, 0));
+    exact_sum("nothing's exact sum", NULL, 0, NULL, 0);
+    measure("no job", flaxglimmer_job(NULL, 0));
     measure("nothing's change", flaxglimmer_change(NULL, 0, NULL, 0, NULL, 0));
     a = b = c = 7;
     status = flaxglimmer_shift(0, NULL, 0, NULL, 0, &a, &b, &c);
@@ -187,6 +219,7 @@ int main(void)
     numbers("rows", table, 12, 3);
     numbers("records", log, 20, 10);
     measure("volume", flaxglimmer_volume(first, 24, corners, 18));
+    exact_sum("exact sum", first, 24, corners, 18);
     measure("change", flaxglimmer_change(first, 24, table, 12, corners, 18));
 
     uint64_t stand_in, count, squared;
@@ -198,6 +231,7 @@ int main(void)
     counted("replay", flaxglimmer_replay(6, table, 24, log, 20));
     log_sheet(log);
     recovery();
+    jobs();
     log[0] = 5;
     counted("a record that fails", flaxglimmer_grow_back(4, 6, table, 24, log, 20));
 

@@ -1,7 +1,7 @@
 /* How much stack each call takes, in bytes, and how much the header tells of it: on a thread with a stack of its own, what lies below is filled,
  * the call is made, and the deepest byte that is no longer as it was filled is looked for. A second fill finds bytes that were written with the
- * first one's value. Each call is made on a skin or a log at its limits and on the trial ring, where it is done, and on nothing, and the most is
- * told. Ends with 1 where a call takes more than the header says, with 2 where one cannot be measured. */
+ * first one's value. Each call is made on a skin, a log or a job at its limits and on the trial ring, where it is done, and on nothing, and the
+ * most is told. Ends with 1 where a call takes more than the header says, with 2 where one cannot be measured. */
 #define _POSIX_C_SOURCE 200809L
 #include <inttypes.h>
 #include <pthread.h>
@@ -24,14 +24,17 @@ struct skin {
     size_t bytes;
     uint8_t log_sheet[FLAXGLIMMER_MOST_LOG_BYTES], log_text[FLAXGLIMMER_MOST_LOG_BYTES];
     size_t log_bytes, first_record;
+    uint8_t job_sheet[FLAXGLIMMER_MOST_JOB_BYTES];
+    size_t job_bytes;
 };
 
-static struct skin table_limits, sheet_limits, log_limits, ring, nothing;
+static struct skin table_limits, sheet_limits, log_limits, job_limits, ring, nothing;
 static struct skin *now;
 
 /* Whether the call was done: tests ask elsewhere whether what it answers is right. */
 static volatile uint64_t status;
 static uint64_t stand_in, count, squared;
+static int64_t whole;
 static uint32_t record[FLAXGLIMMER_WIDTH];
 
 static void thin(void)
@@ -64,6 +67,11 @@ static void replay(void)
 static void volume(void)
 {
     status = flaxglimmer_volume(now->first, 3 * now->rows, now->coordinates, 3 * now->corners).status;
+}
+
+static void exact_sum(void)
+{
+    status = flaxglimmer_exact_sum(now->first, 3 * now->rows, now->coordinates, 3 * now->corners, &whole, &count);
 }
 
 static void change(void)
@@ -151,6 +159,11 @@ static void recover(void)
 static void recover_under_a_limit(void)
 {
     status = recovered(FLAXGLIMMER_FEET, 4.75);
+}
+
+static void job(void)
+{
+    status = flaxglimmer_job(now->job_sheet, now->job_bytes).status;
 }
 
 /* A call, the stack that it is made on, what the stack is filled with, and how deep it was written. */
@@ -268,6 +281,18 @@ static void longest_log(struct skin *s)
         s->log[i] = 999999;
 }
 
+/* So many entries, each in the one before as deep as they may stand, and all that are left beside the deepest; sums as long as can be. */
+static void lay_out_job(struct skin *s, int entries)
+{
+    char *end = (char *)s->job_sheet;
+    end += sprintf(end, "JOB\t%d\nJ\tV\t-\t-600000000000000000\n", entries);
+    for (int i = 1; i < entries; i++) {
+        int depth = i < FLAXGLIMMER_MOST_DEPTH ? i : FLAXGLIMMER_MOST_DEPTH - 1;
+        end += sprintf(end, "J\t%c\t%d\t-599999999999999999\n", depth % 2 == 0 ? 'V' : 'S', depth - 1);
+    }
+    s->job_bytes = (size_t)(end - (char *)s->job_sheet);
+}
+
 int main(void)
 {
     ring.rows = 128, ring.corners = 64;
@@ -284,12 +309,15 @@ int main(void)
     lay_out_log(&ring);
     lay_out_log(&table_limits);
     lay_out_log(&log_limits);
+    lay_out_job(&ring, 1);
+    lay_out_job(&job_limits, FLAXGLIMMER_MOST_ENTRIES);
 
     int over = told("thin", thin, &table_limits, FLAXGLIMMER_STACK_THIN);
     over |= told("thin, under a limit", thin_under_a_limit, &table_limits, FLAXGLIMMER_STACK_THIN);
     over |= told("grow back", grow_back, &table_limits, FLAXGLIMMER_STACK_GROW_BACK);
     over |= told("replay", replay, &table_limits, FLAXGLIMMER_STACK_REPLAY);
     over |= told("volume", volume, &table_limits, FLAXGLIMMER_STACK_VOLUME);
+    over |= told("exact sum", exact_sum, &table_limits, FLAXGLIMMER_STACK_EXACT_SUM);
     over |= told("change", change, &table_limits, FLAXGLIMMER_STACK_CHANGE);
     over |= told("shift", shift, &table_limits, FLAXGLIMMER_STACK_OTHER);
     over |= told("limit", limit, &table_limits, FLAXGLIMMER_STACK_OTHER);
@@ -305,5 +333,6 @@ int main(void)
     over |= told("next record", next_record, &log_limits, FLAXGLIMMER_STACK_OTHER);
     over |= told("recover", recover, &table_limits, FLAXGLIMMER_STACK_RECOVER);
     over |= told("recover, under a limit", recover_under_a_limit, &table_limits, FLAXGLIMMER_STACK_RECOVER);
+    over |= told("job", job, &job_limits, FLAXGLIMMER_STACK_OTHER);
     return over;
 }

@@ -3,20 +3,20 @@
  *
  * A row is three corner numbers; corners are three coordinates each, in centimetres; a record is FLAXGLIMMER_WIDTH numbers of a log.
  *
- * status: 0 done, else the number of the first refusal that holds, FLAXGLIMMER_LIMIT_UNUSABLE to FLAXGLIMMER_RECORD_FAILS below; a later
- * archive may answer further numbers. A refused call leaves every list that it was lent as it was, and each of its values is 0, those in lent
+ * status: 0 done, else the number of the first refusal that holds, FLAXGLIMMER_LIMIT_UNUSABLE to FLAXGLIMMER_RECORD_FAILS below, and of a job
+ * FLAXGLIMMER_JOB_COUNT to FLAXGLIMMER_JOB_SUM; a later archive may answer further numbers. A refused call leaves every list that it was lent as it was, and each of its values is 0, those in lent
  * numbers and in a lent record too. But FLAXGLIMMER_RECORD_FAILS tells how many records were done before it, and leaves the stage that they led
  * to; flaxglimmer_recover also leaves those records in front of its log.
  *
  * What is lent. A list is a pointer and how many numbers (of a sheet or a text: bytes) stand there, its length. It is lent for the call alone:
  * nothing is kept, and nothing is freed.
  * - A list with `const` is only read, and may overlap other lists with `const`, or be one of them.
- * - A list without `const` is lent to be written, as is each uint64_t by itself, a lent number, and the FLAXGLIMMER_WIDTH numbers of a lent
- *   record, which have no length beside them. What is lent to be written overlaps nothing else that is lent to the same call. It need not be
- *   cleared first.
+ * - A list without `const` is lent to be written, as is each uint64_t or int64_t by itself, a lent number, and the FLAXGLIMMER_WIDTH numbers of a
+ *   lent record, which have no length beside them. What is lent to be written overlaps nothing else that is lent to the same call. It need not
+ *   be cleared first.
  * - A list of length 0 may have any pointer, NULL too: nothing is read or written through it. Of any other length it is no NULL, and so many
  *   numbers of its type stand there. A lent number and a lent record are never NULL, and are written whatever the status.
- * - Every pointer is aligned as its type is: 4 bytes for uint32_t and int32_t, 8 for uint64_t.
+ * - Every pointer is aligned as its type is: 4 bytes for uint32_t and int32_t, 8 for uint64_t and int64_t.
  * Nothing else is asked of a caller: every number and every length has an answer, and every call ends.
  *
  * Threads. No call keeps anything, allocates, reads or writes a file, or waits: it works in what it is lent and on the stack of the thread that
@@ -59,18 +59,26 @@ extern "C" {
 /* The most bytes of a log sheet. A longer one is FLAXGLIMMER_SHEET_FORM, and so many bytes suffice for any log that can be written as one. */
 #define FLAXGLIMMER_MOST_LOG_BYTES 65536
 
+/* The limits of a job sheet: its bytes, past which it is FLAXGLIMMER_SHEET_FORM; its entries, of which it has one at least; and how deep they may
+ * stand in each other, the first at 1. */
+#define FLAXGLIMMER_MOST_JOB_BYTES 65536
+#define FLAXGLIMMER_MOST_ENTRIES 32
+#define FLAXGLIMMER_MOST_DEPTH 8
+
 /* Bytes that suffice for the desk's answer to any sheet. */
 #define FLAXGLIMMER_MOST_TEXT 65536
 
 /* How many bytes of stack a call takes at most; a call that has no name here takes FLAXGLIMMER_STACK_OTHER. No proof bounds a stack: these are
- * what c/stack.c measured on Arm, and on x86-64 under the kit's emulator, the calls of log sheets and recovery on x86-64 alone, on skins and logs
- * at the limits, with at least an eighth more and rounded up to 16 KiB; tests/bridge measures again and compares.
- * The arrays on the stack have the length of the limits whatever is lent, and no function calls itself but by the digits of a number. */
+ * what c/stack.c measured on Arm, and on x86-64 under the kit's emulator, the calls of log sheets, recovery and jobs on x86-64 alone, on skins,
+ * logs and jobs at the limits, with at least an eighth more and rounded up to 16 KiB; tests/bridge measures again and compares.
+ * The arrays on the stack have the length of the limits whatever is lent, and no function calls itself but by the digits of a number, and by the
+ * nesting of a job, which FLAXGLIMMER_MOST_DEPTH bounds. */
 #define FLAXGLIMMER_STACK_THIN 114688
 #define FLAXGLIMMER_STACK_GROW_BACK 81920
 #define FLAXGLIMMER_STACK_REPLAY 114688
 #define FLAXGLIMMER_STACK_VOLUME 81920
 #define FLAXGLIMMER_STACK_CHANGE 81920
+#define FLAXGLIMMER_STACK_EXACT_SUM 81920
 #define FLAXGLIMMER_STACK_READ_SHEET 147456
 #define FLAXGLIMMER_STACK_REPLY 262144
 #define FLAXGLIMMER_STACK_RECOVER 147456
@@ -91,7 +99,13 @@ enum {
     FLAXGLIMMER_RINGS_MANY = 10,             /* more than one ring round a corner */
     FLAXGLIMMER_NOT_CONNECTED = 11,          /* not connected */
     FLAXGLIMMER_SHEET_FORM = 12,             /* sheet not in its form, or too long */
-    FLAXGLIMMER_RECORD_FAILS = 13            /* a record does not grow back or replay */
+    FLAXGLIMMER_RECORD_FAILS = 13,           /* a record does not grow back or replay */
+    FLAXGLIMMER_JOB_COUNT = 20,              /* entries outside limits: 1 to 32 */
+    FLAXGLIMMER_JOB_KIND = 21,               /* a kind that is neither V nor S */
+    FLAXGLIMMER_JOB_NAME = 22,               /* a name that is no earlier entry's: the first names none, and only the first */
+    FLAXGLIMMER_JOB_ALTERNATION = 23,        /* kinds that do not alternate: a void in a void, or a solid in a solid */
+    FLAXGLIMMER_JOB_DEPTH = 24,              /* nesting too deep: over 8, the first at 1 */
+    FLAXGLIMMER_JOB_SUM = 25                 /* a sum out of range: beyond 768,000,000,000,000,000 either way */
 };
 
 /* Units of a limit. Feet are survey feet, 1200/3937 of a metre; international feet have 30.48 centimetres. Any other number stands for a limit that
@@ -154,6 +168,12 @@ struct flaxglimmer_counted flaxglimmer_replay(size_t corners, uint32_t *table, s
 /* The volume of a stage with its coordinates.
  * table: its rows; read. corners: their coordinates; read. */
 struct flaxglimmer_measure flaxglimmer_volume(const uint32_t *table, size_t table_length, const int32_t *corners, size_t corners_length);
+
+/* The exact sixfold sum of a stage with its coordinates, for the line of a job: 6,000,000 x whole + rest, and rest is from 0 below 6,000,000, so
+ * that whole is rounded down; its value is the status. The refusals are those of flaxglimmer_volume.
+ * table: its rows; read. corners: their coordinates; read. whole, rest: lent numbers; whole may be below zero. */
+uint64_t flaxglimmer_exact_sum(const uint32_t *table, size_t table_length, const int32_t *corners, size_t corners_length, int64_t *whole,
+                               uint64_t *rest);
 
 /* The change from an earlier stage to a later one over the same coordinates, rounded once.
  * earlier, later: their rows; read. corners: their coordinates; read. */
@@ -240,6 +260,15 @@ uint64_t flaxglimmer_next_record(const uint8_t *bytes, size_t bytes_length, size
  * as far as it goes; read. kept, records: lent numbers, for how many records were replayed and how many there are in all. */
 uint64_t flaxglimmer_recover(uint32_t unit, double figure, uint32_t *table, size_t table_length, const int32_t *corners, size_t corners_length,
                              uint32_t *log, size_t log_length, const uint8_t *bytes, size_t bytes_length, uint64_t *kept, uint64_t *records);
+
+/* The net of a job, of voids and solids that stand in each other: the sum of the topmost entry less the nets of those directly in it, whose nets
+ * are worked in the same way, rounded once at the end. Its sheet has the line JOB and the count of entries; then for each entry J, V for a void or S
+ * for a solid, the number of the earlier entry that it stands in, from 0, or - for the first, and its exact sum, as flaxglimmer_exact_sum gives it,
+ * in one to 18 digits with a minus before one below zero.
+ * FLAXGLIMMER_SHEET_FORM for its size, the form of its lines, and another number of them than the count; then FLAXGLIMMER_JOB_COUNT to
+ * FLAXGLIMMER_JOB_SUM in the order of their numbers, each asked of every entry before the next is.
+ * bytes: the job sheet; read. */
+struct flaxglimmer_measure flaxglimmer_job(const uint8_t *bytes, size_t bytes_length);
 
 #ifdef __cplusplus
 }

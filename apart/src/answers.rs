@@ -1,8 +1,9 @@
 //! What every public call must answer: the refusals in the order 01 gives them, then the outcome, buffers and all.
 
 use crate::desk;
-use crate::figures::{figure, shift, sixfold_volume};
+use crate::figures::{figure, shift, sixfold_volume, whole_and_rest};
 use crate::grow::{grow_back, records_of, replay, Reached};
+use crate::job;
 use crate::limit::whole_centimetres;
 use crate::log_sheet::{self, counts_refused, most_records};
 use crate::parts::{catch_up, grid, shorter_ring};
@@ -33,8 +34,10 @@ pub fn answer(request: &Request) -> Response {
         READ_LOG_SHEET => log_sheet_read(request),
         READ_RECORDS => records_read(request),
         RECOVER => recovered(request),
+        JOB => job_answered(request),
         OPEN_LOG_SHEET => log_sheet_opened(request),
         RECORD_AT => record_at(request),
+        EXACT_SUM => exact_sum(request),
         _ => unreachable!("a request has one of the calls"),
     }
 }
@@ -46,7 +49,7 @@ pub fn questions(request: &Request) -> Vec<Question<'_>> {
         THIN | RECOVER => thin_questions(request),
         GROW_BACK => grow_questions(request),
         REPLAY => replay_questions(request),
-        VOLUME => stage_questions(request, &[0], 1),
+        VOLUME | EXACT_SUM => stage_questions(request, &[0], 1),
         CHANGE => stage_questions(request, &[0, 1], 2),
         SHIFT => shift_questions(request),
         LIMIT => vec![(1, Box::new(|| limit(request).is_none()))],
@@ -181,7 +184,7 @@ fn replayed(request: &Request) -> Response {
     response
 }
 
-/// The questions of volume and change: the least number that holds of any of the tables.
+/// The questions of volume, exact sum and change: the least number that holds of any of the tables.
 fn stage_questions<'a>(request: &'a Request, tables: &'a [usize], corners: usize) -> Vec<Question<'a>> {
     let coordinates = coordinates(request, corners);
     let (count, given) = (coordinates.len() / 3, coordinates.clone());
@@ -196,9 +199,16 @@ fn stage_questions<'a>(request: &'a Request, tables: &'a [usize], corners: usize
     questions
 }
 
+fn sum(request: &Request) -> i128 {
+    sixfold_volume(&rows_of(&numbers(request, 0)), &corners_of(&coordinates(request, 1)))
+}
+
 fn volume(request: &Request) -> Response {
-    let corners = corners_of(&coordinates(request, 1));
-    done(request, &[figure(sixfold_volume(&rows_of(&numbers(request, 0)), &corners))])
+    done(request, &[figure(sum(request))])
+}
+
+fn exact_sum(request: &Request) -> Response {
+    done(request, &whole_and_rest(sum(request)))
 }
 
 fn change(request: &Request) -> Response {
@@ -323,6 +333,13 @@ fn record_at(request: &Request) -> Response {
         Ok(Some((record, after))) => done(request, &[vec![1, after as Word], words(&record)].concat()),
         // The end: the place as given, and zeros.
         Ok(None) => done(request, &[vec![0, request.arguments[1][0]], vec![0; WIDTH]].concat()),
+        Err(number) => refused(request, number),
+    }
+}
+
+fn job_answered(request: &Request) -> Response {
+    match job::topmost_net(&bytes(request, 0)) {
+        Ok(net) => done(request, &[figure(net)]),
         Err(number) => refused(request, number),
     }
 }

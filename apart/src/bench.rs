@@ -4,7 +4,7 @@ use crate::answers::answer;
 use crate::chance::Chance;
 use crate::desk;
 use crate::pipe::{Driven, LATE};
-use crate::protocol::{bytes_of, Request, Response, Word};
+use crate::protocol::{bytes_of, Request, Response, Word, EXACT_SUM, JOB, VOLUME};
 use crate::tally::{difference, written, Tally};
 use std::collections::VecDeque;
 use std::rc::Rc;
@@ -130,8 +130,12 @@ impl Bench {
         self.heed(found)
     }
 
-    /// Compares a call with what it must answer; the response where they agree.
+    /// Compares a call with what it must answer; the response where they agree. Wherever a volume is asked, the exact sum
+    /// of the same stage is asked too.
     pub fn try_call(&mut self, kind: &str, request: &Request) -> Option<Response> {
+        if request.call == VOLUME {
+            self.try_call(kind, &Request { call: EXACT_SUM, ..request.clone() });
+        }
         if self.enough() || !self.drives(request.call) {
             return None;
         }
@@ -192,6 +196,7 @@ impl Bench {
             Ok(found) => (difference(request, expected, &found), Some(found)),
             Err(why) => (Some(format!("{}: {why}", request.named())), None),
         };
+        let wrong = wrong.map(|what| what + &job_told(request));
         if wrong.is_some() {
             // What a program that errs has still to write must not be read as its next answer.
             self.calls[place] = None;
@@ -250,6 +255,15 @@ impl Bench {
         let whole = self.whole.clone();
         self.tally.verdict(kind, wrong, || format!("{whole}, the call '{}'", written(&request.words())));
     }
+}
+
+/// A job's sheet, as a failure tells it beside the words; of a long one its beginning.
+fn job_told(request: &Request) -> String {
+    if request.call != JOB {
+        return String::new();
+    }
+    let sheet: Vec<u8> = request.arguments[0].iter().map(|&word| word as u8).take(1_200).collect();
+    format!(", for {} bytes \"{}\"", request.arguments[0].len(), sheet.escape_ascii())
 }
 
 /// The first request whose response does not stand at its place among the bytes, or what stands behind them all.

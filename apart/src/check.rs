@@ -3,7 +3,7 @@
 use crate::answers::answer;
 use crate::bench::Bench;
 use crate::chance::Chance;
-use crate::figures::{sixfold_volume, SIX_CUBIC_METRES};
+use crate::figures::{sixfold_volume, HALF, SIX_CUBIC_METRES};
 use crate::grow::records_of;
 use crate::harm::{scribble, words, Input};
 use crate::limit::whole_centimetres;
@@ -207,12 +207,16 @@ fn measured(bench: &mut Bench, run: &Run, earlier: &[Row], later: &[Row]) {
 }
 
 pub fn nearest(bench: &mut Bench, request: &Request, sum: i128, figure: Word) {
-    let off = SIX_CUBIC_METRES * i128::from(figure) - sum;
-    let half = SIX_CUBIC_METRES / 2;
-    bench.tally.meet_if(sum % SIX_CUBIC_METRES == half, "a sum at a half above zero");
-    bench.tally.meet_if(sum % SIX_CUBIC_METRES == -half, "a sum at a half below zero");
-    let holds = off.abs() < half || (off.abs() == half && off.signum() == sum.signum());
+    bench.tally.meet_if(sum % SIX_CUBIC_METRES == HALF, "a sum at a half above zero");
+    bench.tally.meet_if(sum % SIX_CUBIC_METRES == -HALF, "a sum at a half below zero");
+    let holds = within_half(sum, figure);
     bench.property("run: half a cubic metre", holds, &format!("{figure} for the sum {sum}"), request);
+}
+
+/// No farther from the exact sum than half a cubic metre, and at a half away from zero.
+pub fn within_half(sum: i128, figure: Word) -> bool {
+    let off = SIX_CUBIC_METRES * i128::from(figure) - sum;
+    off.abs() < HALF || (off.abs() == HALF && off.signum() == sum.signum())
 }
 
 /// Shift reports over the whole log and a beginning of it, and their bound under a limit.

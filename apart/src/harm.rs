@@ -1,10 +1,12 @@
 //! Damage: one harm for each line of the refusal table, done to an honest input of any call.
 
 use crate::chance::Chance;
+use crate::job::{self, Entry};
+use crate::jobs;
 use crate::log_sheet::{self, most_records};
 use crate::make::{tetrahedron, Skin};
 use crate::protocol::*;
-use crate::refusal::{BAD_FORM, FAILS};
+use crate::refusal::{self, BAD_FORM, FAILS};
 use crate::sheet;
 use crate::skin::{corners_of, rows_of, Edges, FARTHEST, FEWEST, MOST_CORNERS, MOST_ROWS};
 use crate::step::{Record, WIDTH};
@@ -31,6 +33,13 @@ pub enum Harm {
     SheetLines,
     /// A first line of a log sheet whose counts are not the skin's.
     OtherCounts,
+    /// Those of a job's entries.
+    Entries,
+    Letter,
+    Naming,
+    Alternation,
+    Depth,
+    Sum,
 }
 
 use Harm::*;
@@ -52,6 +61,12 @@ impl Harm {
             Connected => 11,
             SheetSize | SheetFirstLine | SheetLines => BAD_FORM,
             Log => FAILS,
+            Entries => refusal::ENTRIES,
+            Letter => refusal::KIND,
+            Naming => refusal::NAME,
+            Alternation => refusal::ALTERNATION,
+            Depth => refusal::DEPTH,
+            Sum => refusal::SUM,
         }
     }
 }
@@ -65,7 +80,7 @@ pub fn asked(call: usize) -> Vec<Harm> {
         THIN => [&[Limit, Counts, Room, Coordinate], &rows[..], &[Unused], &rings].concat(),
         GROW_BACK => [&[Counts, Room], &rows[..], &rings, &[Log]].concat(),
         REPLAY => [&[Counts], &rows[..], &rings, &[Log]].concat(),
-        VOLUME | CHANGE => [&[Counts, Coordinate], &rows[..], &rings].concat(),
+        VOLUME | EXACT_SUM | CHANGE => [&[Counts, Coordinate], &rows[..], &rings].concat(),
         SHIFT => vec![Counts, Coordinate, Number],
         LIMIT => vec![Limit],
         READ_SHEET => [&form[..], &[Room, Coordinate], &rows, &[Unused], &rings].concat(),
@@ -78,6 +93,10 @@ pub fn asked(call: usize) -> Vec<Harm> {
         RECOVER => {
             let sheet = [SheetSize, SheetFirstLine, SheetLines, OtherCounts, Records];
             [&asked(THIN)[..], &sheet, &[Log]].concat()
+        }
+        JOB => {
+            let form = [SheetSize, SheetFirstLine, SheetLines];
+            [&form[..], &[Entries, Letter, Naming, Alternation, Depth, Sum]].concat()
         }
         OPEN_LOG_SHEET => vec![SheetSize, SheetFirstLine, Counts],
         RECORD_AT => vec![SheetLines],
@@ -94,6 +113,7 @@ pub struct Input {
     pub coordinates: Vec<i32>,
     pub log: Vec<u32>,
     pub corner: u32,
+    pub job: Vec<Entry>,
     /// Rows told and corner count, where they are other than the lists say.
     pub told: Option<u64>,
     pub count: Option<u64>,
@@ -112,6 +132,7 @@ impl Input {
             coordinates: skin.coordinates(),
             log: log.concat(),
             corner: 0,
+            job: jobs::station(),
             told: None,
             count: None,
             spare: 0,
@@ -139,7 +160,7 @@ impl Input {
                 vec![vec![told], vec![count], room[..length.min(room.len())].to_vec(), log]
             }
             REPLAY => vec![vec![count], table, log],
-            VOLUME => vec![table, coordinates],
+            VOLUME | EXACT_SUM => vec![table, coordinates],
             CHANGE => vec![table, words(&self.later), coordinates],
             SHIFT => vec![vec![self.corner.into()], coordinates, log],
             LIMIT => vec![vec![unit], vec![bits]],
@@ -162,6 +183,7 @@ impl Input {
                 let place = self.record_place(&sheet, chance) as Word;
                 vec![sheet, vec![place]]
             }
+            JOB => vec![self.harmed(job::write(&self.job), &OF_JOB_SHEETS, chance)],
             _ => unreachable!("no input has another call"),
         };
         Request { call, arguments }
@@ -179,7 +201,11 @@ impl Input {
         if self.text.contains(&OtherCounts) {
             counts = other_counts(counts, chance);
         }
-        let mut text = log_sheet::write(counts[0], counts[1], &self.log);
+        self.harmed(log_sheet::write(counts[0], counts[1], &self.log), most, chance)
+    }
+
+    /// A text as words, its harms done.
+    fn harmed(&self, mut text: Vec<u8>, most: &Most, chance: &mut Chance) -> Vec<Word> {
         for &harm in &self.text {
             harm_text(&mut text, most, harm, chance);
         }
@@ -198,11 +224,7 @@ impl Input {
 
     /// The sheet as words, its harms done.
     pub fn sheet(&self, chance: &mut Chance) -> Vec<Word> {
-        let mut text = sheet::write(&corners_of(&self.coordinates), &rows_of(&self.table));
-        for &harm in &self.text {
-            harm_text(&mut text, &OF_SHEETS, harm, chance);
-        }
-        text.into_iter().map(Word::from).collect()
+        self.harmed(sheet::write(&corners_of(&self.coordinates), &rows_of(&self.table)), &OF_SHEETS, chance)
     }
 
     fn sheet_arguments(&self, chance: &mut Chance) -> Vec<Vec<Word>> {
@@ -222,6 +244,18 @@ pub fn words(numbers: &[u32]) -> Vec<Word> {
 /// Numbers that stand in lent room before a call; a call that touches them shows.
 pub fn scribble(length: i64, chance: &mut Chance) -> Vec<Word> {
     (0..length.max(0)).map(|_| Word::from(chance.next() as u32)).collect()
+}
+
+/// A text with one of its bytes replaced, dropped or doubled, or cut off there: four manners.
+pub fn spoiled_at(text: &[u8], at: usize, manner: usize, chance: &mut Chance) -> Vec<u8> {
+    let mut spoiled = text.to_vec();
+    match manner {
+        0 => spoiled[at] = chance.next() as u8,
+        1 => drop(spoiled.remove(at)),
+        2 => spoiled.insert(at, text[at]),
+        _ => spoiled.truncate(at),
+    }
+    spoiled
 }
 
 /// Likewise for text, in runs, so that a call printed to be tried again stays short.
@@ -273,6 +307,10 @@ pub fn harm(input: &mut Input, call: usize, harm: Harm, chance: &mut Chance) {
         }
         Log => harm_record(&mut input.log, count, call == RECOVER, chance),
         SheetSize | SheetFirstLine | SheetLines | OtherCounts => input.text.push(harm),
+        Entries | Letter | Naming | Alternation | Depth | Sum => {
+            let place = 1 + chance.below(input.job.len());
+            jobs::fault(&mut input.job, harm.number(), place, chance);
+        }
     }
 }
 
@@ -356,10 +394,10 @@ fn add_tetrahedron(input: &mut Input, new: u32, chance: &mut Chance) {
 
 /// A length or count outside its limits, by one of the ways the call has.
 fn harm_counts(input: &mut Input, call: usize, chance: &mut Chance) {
-    let lists = matches!(call, THIN | VOLUME | CHANGE | SHIFT | RECOVER);
+    let lists = matches!(call, THIN | VOLUME | EXACT_SUM | CHANGE | SHIFT | RECOVER);
     let logs = matches!(call, GROW_BACK | REPLAY | SHIFT | WRITE_LOG_SHEET);
     let told = matches!(call, GROW_BACK | WRITE_LOG_SHEET);
-    let tables = matches!(call, THIN | REPLAY | VOLUME | CHANGE | RECOVER);
+    let tables = matches!(call, THIN | REPLAY | VOLUME | EXACT_SUM | CHANGE | RECOVER);
     loop {
         match chance.below(10) {
             0 if tables => drop(input.table.split_off(input.table.len() - 1 - chance.below(2))),
@@ -437,6 +475,8 @@ const OF_SHEETS: Most =
 const OF_LOG_SHEETS: Most =
     Most { corners: MOST_CORNERS, rows: MOST_ROWS, bytes: log_sheet::MOST_BYTES, last_newline: true };
 const OF_CUT_LOG_SHEETS: Most = Most { last_newline: false, ..OF_LOG_SHEETS };
+/// A job has no corners and rows.
+const OF_JOB_SHEETS: Most = Most { bytes: job::MOST_BYTES, ..OF_SHEETS };
 
 /// Counts that are not these: beside them, the other way round, at the limits, past them, and some that come back when
 /// cut to 8 or 16 bits.
@@ -490,7 +530,8 @@ fn harm_text(text: &mut Vec<u8>, most: &Most, harm: Harm, chance: &mut Chance) {
         _ => {
             let end = if most.last_newline { text.len() } else { text.len() - 1 };
             let at = first + chance.below(end - first);
-            text[at] = chance.pick(b" +xX\r,.\0");
+            // No capital: one in a job's letter is in form.
+            text[at] = chance.pick(b" +xy\r,.\0");
         }
     }
 }

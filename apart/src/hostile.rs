@@ -8,6 +8,9 @@ use crate::protocol::*;
 use crate::skin::{Row, FARTHEST, MOST_CORNERS, MOST_ROWS};
 use crate::step::WIDTH;
 
+/// The calls that are given tables of any rows; the exact sum is asked for with the volume.
+pub const TABLES: [usize; 5] = [THIN, VOLUME, EXACT_SUM, REPLAY, RECOVER];
+
 /// Small tables of any numbers, closed now and then by chance.
 pub fn tables(bench: &mut Bench, chance: &mut Chance) {
     let count = 4 + chance.below(3);
@@ -31,9 +34,9 @@ pub fn tables(bench: &mut Bench, chance: &mut Chance) {
 
 /// The calls that are given any words.
 #[rustfmt::skip]
-pub const WORDS: [usize; 15] = [
+pub const WORDS: [usize; 17] = [
     THIN, GROW_BACK, REPLAY, VOLUME, CHANGE, SHIFT, LIMIT, READ_SHEET, DESK_ANSWER, WRITE_LOG_SHEET, READ_LOG_SHEET,
-    READ_RECORDS, RECOVER, OPEN_LOG_SHEET, RECORD_AT,
+    READ_RECORDS, RECOVER, JOB, OPEN_LOG_SHEET, RECORD_AT, EXACT_SUM,
 ];
 
 /// Any words of the right type, up to the type's ends.

@@ -5,7 +5,7 @@ use crate::answers::answer;
 use crate::bench::Bench;
 use crate::chance::Chance;
 use crate::desk;
-use crate::harm::{scribble, scribble_bytes, words};
+use crate::harm::{scribble, scribble_bytes, spoiled_at, words};
 use crate::log_sheet::{self, most_records};
 use crate::logs::{some_log, steps};
 use crate::make::Skin;
@@ -226,13 +226,7 @@ pub fn byte_by_byte(bench: &mut Bench, skin: &Skin, chance: &mut Chance) {
     let call = bench.some_call(&READING, chance);
     let manner = chance.below(4);
     for at in 0..text.len() {
-        let mut spoiled = text.clone();
-        match manner {
-            0 => spoiled[at] = chance.next() as u8,
-            1 => drop(spoiled.remove(at)),
-            2 => spoiled.insert(at, text[at]),
-            _ => spoiled.truncate(at),
-        }
+        let spoiled = spoiled_at(&text, at, manner, chance);
         bench.try_call("chance: log sheets byte by byte", &touched_by(call, &spoiled, at, chance));
     }
 }

@@ -4,13 +4,16 @@ use crate::answers::{answer, questions};
 use crate::bench::Bench;
 use crate::chance::Chance;
 use crate::harm::{asked, harm, Harm, Input};
+use crate::job;
 use crate::logs::steps;
 use crate::make;
 use crate::protocol::*;
+use crate::refusal::BAD_FORM;
 
 pub fn run(bench: &mut Bench, rounds: usize, chance: &mut Chance) {
     for _ in 0..rounds {
-        for call in CALLS.iter().filter(|call| call.refused > 0) {
+        // The exact sum is asked for with the volume.
+        for call in CALLS.iter().filter(|call| call.refused > 0 && call.number != EXACT_SUM) {
             singles(bench, call, chance);
             pairs(bench, call, chance);
         }
@@ -78,6 +81,10 @@ fn harms_in_one_table_each(bench: &mut Bench, chance: &mut Chance) {
 
 /// All that hold, and not the first alone.
 fn holding(request: &Request) -> Vec<i64> {
+    if request.call == JOB {
+        let bytes: Vec<u8> = request.arguments[0].iter().map(|&word| word as u8).collect();
+        return job::holding(&bytes);
+    }
     questions(request).iter().filter(|(_, holds)| holds()).map(|(number, _)| *number).collect()
 }
 
@@ -88,6 +95,7 @@ fn compare(bench: &mut Bench, kind: &str, request: &Request, harms: &[Harm]) {
     // 13 and what a sheet is asked are seen in the work alone; recovery is given its skin beside its sheet.
     let in_work = |harm: &Harm| match request.call {
         RECOVER => !asked(THIN).contains(harm),
+        JOB => holding == [BAD_FORM],
         _ => *harm == Harm::Log || request.shape().reads_sheet(),
     };
     // A length outside its limits may cut another harm off.

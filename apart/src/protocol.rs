@@ -104,14 +104,16 @@ pub const WRITE_LOG_SHEET: usize = 13;
 pub const READ_LOG_SHEET: usize = 14;
 pub const READ_RECORDS: usize = 15;
 pub const RECOVER: usize = 16;
+pub const JOB: usize = 17;
 pub const OPEN_LOG_SHEET: usize = 24;
 pub const RECORD_AT: usize = 25;
+pub const EXACT_SUM: usize = 26;
 pub const LOG_SHEET_CALLS: [usize; 5] = [WRITE_LOG_SHEET, READ_LOG_SHEET, READ_RECORDS, OPEN_LOG_SHEET, RECORD_AT];
 
 use Kind::*;
 
 /// The calls in the order of their numbers; the numbers between are kept for later requests.
-pub static CALLS: [Call; 18] = [
+pub static CALLS: [Call; 20] = [
     call(
         THIN,
         "thin",
@@ -166,8 +168,10 @@ pub static CALLS: [Call; 18] = [
             read("bytes", Bytes),
         ],
     ),
+    call(JOB, "job sheet", 2, &[read("bytes", Bytes)]),
     call(OPEN_LOG_SHEET, "open a log sheet", 4, &[read("bytes", Bytes)]),
     call(RECORD_AT, "the record at a place", 3 + WIDTH, &[read("bytes", Bytes), read("place", Whole)]),
+    call(EXACT_SUM, "exact sum of a stage", 3, &[read("table", Numbers), read("corners", Coordinates)]),
 ];
 
 /// The call of a number, where there is one.

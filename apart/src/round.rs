@@ -5,6 +5,7 @@ use crate::chance::Chance;
 use crate::check;
 use crate::harm::{asked, harm, harm_log, scribble, Input};
 use crate::hostile;
+use crate::jobs;
 use crate::logs::{growth, some_edge, some_log, steps};
 use crate::mail;
 use crate::make::{self, Skin};
@@ -34,21 +35,21 @@ struct Round {
     run: fn(&mut Bench, &Skin, &mut Chance),
 }
 
-static ROUNDS: [Round; 23] = [
+static ROUNDS: [Round; 28] = [
     Round { share: 12, calls: &[THIN], run: whole_run },
     Round { share: 20, calls: &[THIN], run: thinned },
     Round { share: 12, calls: &DAMAGED, run: damaged },
     Round { share: 8, calls: &[GROW_BACK], run: grown },
     Round { share: 8, calls: &[REPLAY], run: replayed },
     Round { share: 12, calls: &[GROW_BACK, REPLAY], run: spoiled },
-    Round { share: 4, calls: &[VOLUME, CHANGE], run: measured },
+    Round { share: 6, calls: &[VOLUME, EXACT_SUM, CHANGE], run: measured },
     Round { share: 4, calls: &[SHIFT], run: shifted },
     Round { share: 4, calls: &[LIMIT], run: |bench, _, chance| limits(bench, chance) },
     Round { share: 4, calls: &[SHORTER_RING, CATCH_UP], run: |bench, _, chance| parts(bench, chance) },
     Round { share: 4, calls: &[READ_SHEET, DESK_ANSWER], run: sheets::honest },
     Round { share: 4, calls: &[READ_SHEET], run: sheets::spoiled },
     Round { share: 4, calls: &[], run: sheets::on_the_desk },
-    Round { share: 4, calls: &[THIN, VOLUME, REPLAY, RECOVER], run: |bench, _, chance| hostile::tables(bench, chance) },
+    Round { share: 4, calls: &hostile::TABLES, run: |bench, _, chance| hostile::tables(bench, chance) },
     Round { share: 4, calls: &FIRST_TABLES, run: stage_for_first },
     Round { share: 4, calls: &hostile::WORDS, run: |bench, _, chance| hostile::words(bench, chance) },
     Round { share: 2, calls: &LOG_SHEET_CALLS, run: mail::honest },
@@ -58,6 +59,11 @@ static ROUNDS: [Round; 23] = [
     Round { share: 2, calls: &mail::READING, run: |bench, _, chance| mail::of_pieces(bench, chance) },
     Round { share: 12, calls: &[RECOVER], run: recovery::honest },
     Round { share: 12, calls: &[RECOVER], run: recovery::spoiled },
+    Round { share: 8, calls: &[JOB], run: |bench, _, chance| jobs::honest(bench, chance) },
+    Round { share: 4, calls: &[JOB], run: |bench, _, chance| jobs::spoiled(bench, chance) },
+    Round { share: 1, calls: &[JOB], run: |bench, _, chance| jobs::byte_by_byte(bench, chance) },
+    Round { share: 2, calls: &[JOB], run: |bench, _, chance| jobs::of_pieces(bench, chance) },
+    Round { share: 4, calls: &[JOB, EXACT_SUM], run: jobs::of_stages },
 ];
 
 /// The calls that ask for a first table.
@@ -124,9 +130,9 @@ fn stage_for_first(bench: &mut Bench, skin: &Skin, chance: &mut Chance) {
 
 /// The calls that are harmed, thinning and recovery twice as often.
 #[rustfmt::skip]
-const DAMAGED: [usize; 16] = [
+const DAMAGED: [usize; 18] = [
     THIN, THIN, GROW_BACK, REPLAY, VOLUME, CHANGE, SHIFT, READ_SHEET, DESK_ANSWER, WRITE_LOG_SHEET, READ_LOG_SHEET,
-    READ_RECORDS, RECOVER, RECOVER, OPEN_LOG_SHEET, RECORD_AT,
+    READ_RECORDS, RECOVER, RECOVER, JOB, JOB, OPEN_LOG_SHEET, RECORD_AT,
 ];
 
 /// One to three harms at once on any call that can refuse.

@@ -16,31 +16,34 @@ pub struct Sheet {
     pub rows: Vec<Row>,
 }
 
-/// One digit to the most, no needless zero in front, a minus only before a nonzero coordinate.
-fn number(field: &[u8], coordinate: bool) -> Option<i32> {
+/// One digit to the most, no needless zero in front, a minus only before a nonzero number that may be below zero.
+pub fn number(field: &[u8], most_digits: usize, below_zero: bool) -> Option<i128> {
     let (minus, digits) = match field.strip_prefix(b"-") {
         Some(digits) => (true, digits),
         None => (false, field),
     };
-    let plain = (1..=MOST_DIGITS).contains(&digits.len()) && digits.iter().all(u8::is_ascii_digit);
+    let plain = (1..=most_digits).contains(&digits.len()) && digits.iter().all(u8::is_ascii_digit);
     let needless = digits.len() > 1 && digits[0] == b'0';
-    if !plain || needless || (minus && (!coordinate || digits == b"0")) {
+    if !plain || needless || (minus && (!below_zero || digits == b"0")) {
         return None;
     }
-    let size = digits.iter().fold(0, |n, d| 10 * n + i32::from(d - b'0'));
+    let size = digits.iter().fold(0, |n, d| 10 * n + i128::from(d - b'0'));
     Some(if minus { -size } else { size })
+}
+
+/// The fields of the next line behind its name, which must be this one; moves past its newline.
+pub fn fields<'a>(bytes: &mut &'a [u8], name: &[u8]) -> Option<Vec<&'a [u8]>> {
+    let end = bytes.iter().position(|&b| b == b'\n')?;
+    let mut fields = bytes[..end].split(|&b| b == b'\t');
+    *bytes = &bytes[end + 1..];
+    (fields.next() == Some(name)).then(|| fields.collect())
 }
 
 /// The numbers of the next line, which must have this name and this many fields; moves past its newline.
 pub fn line<const N: usize>(bytes: &mut &[u8], name: &[u8], coordinates: bool) -> Option<[i32; N]> {
-    let end = bytes.iter().position(|&b| b == b'\n')?;
-    let mut fields = bytes[..end].split(|&b| b == b'\t');
-    *bytes = &bytes[end + 1..];
-    if fields.next() != Some(name) {
-        return None;
-    }
-    let numbers: Option<Vec<i32>> = fields.map(|field| number(field, coordinates)).collect();
-    numbers?.try_into().ok()
+    let fields = fields(bytes, name)?;
+    let one = |field| number(field, MOST_DIGITS, coordinates).map(|n| n as i32);
+    fields.into_iter().map(one).collect::<Option<Vec<i32>>>()?.try_into().ok()
 }
 
 /// Size, first line (12), counts (2), other lines (12).

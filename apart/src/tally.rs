@@ -1,6 +1,9 @@
 //! What was tried and what came of it: counts for the summary, failures printed with the call that shows them again.
 
+use crate::figures::{HALF, SIX_CUBIC_METRES};
 use crate::harm::asked;
+use crate::job::{self, Entry, DEEPEST, LARGEST_SUM, MOST_ENTRIES, SOLID, VOID};
+use crate::jobs::{PAST_63, PAST_64};
 use crate::limit::{whole_centimetres, FEET, INTERNATIONAL_FEET};
 use crate::log_sheet::{self, most_records, LONGEST_ANSWER};
 use crate::protocol::*;
@@ -29,7 +32,7 @@ pub struct Tally {
 }
 
 /// What a whole run must have met at least once, besides every refusal.
-const MUST_MEET: [&str; 31] = [
+const MUST_MEET: [&str; 50] = [
     "a sphere",
     "a torus",
     "genus 2",
@@ -61,6 +64,25 @@ const MUST_MEET: [&str; 31] = [
     "a log cut after every byte",
     "a longer log cut",
     "another order that ended elsewhere",
+    "an exact sum below zero with a rest",
+    "a job of real stages",
+    "a topmost void",
+    "a topmost solid",
+    "a job of the most entries",
+    "a job of one entry too many",
+    "a job of no entry",
+    "a job as deep as may be",
+    "a job one too deep",
+    "a sum at the bound above zero",
+    "a sum at the bound below zero",
+    "a sum just beyond the bound above zero",
+    "a sum just beyond the bound below zero",
+    "a net at a half above zero",
+    "a net at a half below zero",
+    "a net past 64 bits above zero",
+    "a net past 64 bits below zero",
+    "a net past 63 bits that 64 hold",
+    "a job sheet of the most bytes in form",
 ];
 
 impl Tally {
@@ -107,6 +129,14 @@ impl Tally {
         if status == 0 {
             self.note_log_sheet(request, expected);
         }
+        match request.call {
+            JOB => self.note_job(&request.arguments[0], status),
+            EXACT_SUM => {
+                let below = expected.answer[1] < 0 && expected.answer[2] > 0;
+                self.meet_if(below, "an exact sum below zero with a rest");
+            }
+            _ => {}
+        }
         if [LIMIT, THIN].contains(&request.call) && [FEET, INTERNATIONAL_FEET].contains(&request.arguments[0][0]) {
             self.note_feet(request, status);
         }
@@ -148,6 +178,46 @@ impl Tally {
             }
             _ => {}
         }
+    }
+
+    /// Jobs in form at their limits, done or refused by just one too much.
+    fn note_job(&mut self, sheet: &[Word], status: Word) {
+        let bytes: Vec<u8> = sheet.iter().map(|&word| word as u8).collect();
+        let Some(job) = job::entries(&bytes) else { return };
+        let sum = |sum: i128| job.iter().any(|entry| entry.sum == sum);
+        match status {
+            0 => self.note_job_done(&job),
+            refusal::ENTRIES => {
+                self.meet_if(job.len() == MOST_ENTRIES + 1, "a job of one entry too many");
+                self.meet_if(job.is_empty(), "a job of no entry");
+                self.meet_if(bytes.len() == job::MOST_BYTES, "a job sheet of the most bytes in form");
+            }
+            refusal::DEPTH => self.meet_if(job::deepest(&job) == DEEPEST + 1, "a job one too deep"),
+            refusal::SUM => {
+                self.meet_if(sum(LARGEST_SUM + 1), "a sum just beyond the bound above zero");
+                self.meet_if(sum(-LARGEST_SUM - 1), "a sum just beyond the bound below zero");
+            }
+            _ => {}
+        }
+    }
+
+    fn note_job_done(&mut self, job: &[Entry]) {
+        let sum = |sum: i128| job.iter().any(|entry| entry.sum == sum);
+        let net = job::net(job, 0);
+        let met = [
+            (job[0].letter == VOID, "a topmost void"),
+            (job[0].letter == SOLID, "a topmost solid"),
+            (job.len() == MOST_ENTRIES, "a job of the most entries"),
+            (job::deepest(job) == DEEPEST, "a job as deep as may be"),
+            (sum(LARGEST_SUM), "a sum at the bound above zero"),
+            (sum(-LARGEST_SUM), "a sum at the bound below zero"),
+            (net % SIX_CUBIC_METRES == HALF, "a net at a half above zero"),
+            (net % SIX_CUBIC_METRES == -HALF, "a net at a half below zero"),
+            (net >= PAST_64, "a net past 64 bits above zero"),
+            (net <= -PAST_64, "a net past 64 bits below zero"),
+            ((PAST_63..PAST_64).contains(&net), "a net past 63 bits that 64 hold"),
+        ];
+        met.into_iter().for_each(|(met, kind)| self.meet_if(met, kind));
     }
 
     /// How often a refusal was to come, over all calls.
@@ -231,7 +301,7 @@ fn rows_worked(request: &Request) -> usize {
         THIN | RECOVER => length(2),
         GROW_BACK => (request.arguments[0][0] as usize).saturating_add(2 * (request.arguments[3].len() / WIDTH)),
         REPLAY => length(1),
-        VOLUME => length(0),
+        VOLUME | EXACT_SUM => length(0),
         CHANGE => length(0).max(length(1)),
         READ_SHEET | DESK_ANSWER => {
             request.arguments[0].windows(2).filter(|pair| *pair == [Word::from(b'R'), Word::from(b'\t')]).count()

@@ -1,5 +1,5 @@
 //! 01's own cases: its trial skins, its slips, its limits and its sheet; its O as the log sheet of 02, cut and recovered;
-//! and the feet of 02. What is expected here is copied from them, or worked by hand, and both the driven programs and
+//! the feet and the jobs of 02. What is expected here is copied from them, or worked by hand, and both the driven programs and
 //! this program's own rules are held to it.
 
 use crate::answers::answer;
@@ -8,6 +8,7 @@ use crate::chance::Chance;
 use crate::figures::sixfold_volume;
 use crate::grow::records_of;
 use crate::harm::{scribble, words};
+use crate::jobs::job_request;
 use crate::limit::{CENTIMETRES, FEET, INTERNATIONAL_FEET, METRES};
 use crate::mail::{read_request, text_words, write_request};
 use crate::make::{octahedron, seven_corner_torus, shaft_rows, tetrahedron};
@@ -26,6 +27,7 @@ const O_AFTER_ONE: [Row; 6] = [[0, 2, 3], [0, 3, 4], [5, 2, 0], [5, 3, 2], [5, 4
 const REQUEST_1: &str = "02, request 1";
 const REQUEST_3: &str = "02, request 3";
 const REQUEST_4: &str = "02, request 4";
+const REQUEST_5: &str = "02, request 5";
 /// `LOG`, corners, rows; then O's two `K` lines, as 01 has them.
 const O_LOG_SHEET: &str = "LOG\t6\t8\nK\t0\t1\t0\t0\t1\t2\t3\t0\t4\t1\nK\t0\t2\t0\t0\t2\t3\t2\t5\t2\t0\n";
 const O_TEXT: &str = "OK\t4\t2\t1\t0\nR\t0\t3\t4\nR\t5\t3\t0\nR\t5\t4\t3\nR\t5\t0\t4\n\
@@ -40,6 +42,10 @@ pub fn run(bench: &mut Bench, chance: &mut Chance) {
     the_trial_ring(bench, chance);
     log_sheets(bench, chance);
     recovery(bench, chance);
+    exact_sums(bench);
+    jobs(bench);
+    jobs_in_bad_form(bench);
+    jobs_refused(bench);
 }
 
 pub fn coordinates(corners: &[Corner]) -> Vec<Word> {
@@ -356,4 +362,152 @@ fn recovery_refused(bench: &mut Bench, chance: &mut Chance) {
     request.arguments[4].push(0);
     request.arguments[2][0] = 1;
     hold_to(bench, REQUEST_3, "the skin before the sheet", &request, &Response::untouched(&request, vec![6, 0, 0]));
+}
+
+/// 01's sums: T's -27,000,000 is 6,000,000 x -5 + 3,000,000; O's are 8,000,000, 4,000,000 and 2,000,000. With each row
+/// turned over the sign turns: -8,000,000 is 6,000,000 x -2 + 4,000,000, and so on.
+fn exact_sums(bench: &mut Bench) {
+    let turned = |rows: &[Row]| rows.iter().map(|&[a, b, c]| [a, c, b]).collect::<Vec<Row>>();
+    let (t, stages) = (tetrahedron(), o_stages());
+    let cases = [
+        (t.clone(), &T_CORNERS[..], [0, -5, 3_000_000]),
+        (turned(&t), &T_CORNERS, [0, 4, 3_000_000]),
+        (stages[0].clone(), &O_CORNERS, [0, 1, 2_000_000]),
+        (stages[1].clone(), &O_CORNERS, [0, 0, 4_000_000]),
+        (stages[2].clone(), &O_CORNERS, [0, 0, 2_000_000]),
+        (turned(&stages[0]), &O_CORNERS, [0, -2, 4_000_000]),
+        (turned(&stages[2]), &O_CORNERS, [0, -1, 4_000_000]),
+        // All at one point: no volume.
+        (t.clone(), &[[7; 3]; 4], [0, 0, 0]),
+        // Refused as volume is.
+        (t[..3].to_vec(), &T_CORNERS, [2, 0, 0]),
+        (t.clone(), &[[FARTHEST + 1, 0, 0]; 4], [4, 0, 0]),
+        (octahedron()[..7].to_vec(), &O_CORNERS, [8, 0, 0]),
+    ];
+    for (rows, corners, answer) in cases {
+        let request = Request { call: EXACT_SUM, arguments: vec![words(&rows.concat()), coordinates(corners)] };
+        hold_to(bench, REQUEST_5, "exact sums", &request, &Response::untouched(&request, answer.to_vec()));
+    }
+}
+
+fn hold_job(bench: &mut Bench, name: &str, sheet: &str, answer: [Word; 2]) {
+    let request = job_request(sheet.as_bytes());
+    hold_to(bench, REQUEST_5, name, &request, &Response::untouched(&request, answer.to_vec()));
+}
+
+/// Nets worked by hand, each over 6,000,000.
+const NETS: [(&str, Word); 15] = [
+    // In millions: a pillar of 12 with a void of 3 in it is 9 net, the station 60 - 9 = 51, and 51 / 6 is 8.5.
+    ("JOB\t3\nJ\tV\t-\t60000000\nJ\tS\t0\t12000000\nJ\tV\t1\t3000000\n", 9),
+    // The same from the pillar's side, and its sums below zero: -60 - (-12 - -3) is -51.
+    ("JOB\t3\nJ\tS\t-\t60000000\nJ\tV\t0\t12000000\nJ\tS\t1\t3000000\n", 9),
+    ("JOB\t3\nJ\tV\t-\t-60000000\nJ\tS\t0\t-12000000\nJ\tV\t1\t-3000000\n", -9),
+    // Both pillars in the void: 60 - 12 - 3 is 45, and 7.5 goes away from zero.
+    ("JOB\t3\nJ\tV\t-\t60000000\nJ\tS\t0\t12000000\nJ\tS\t0\t3000000\n", 8),
+    // 01's T and O alone have 01's figures.
+    ("JOB\t1\nJ\tV\t-\t-27000000\n", -5),
+    ("JOB\t1\nJ\tV\t-\t8000000\n", 1),
+    // O's first stage less its second is 4,000,000: 1. Rounded one by one they are 1 and 1, and 0 would be left.
+    ("JOB\t2\nJ\tV\t-\t8000000\nJ\tS\t0\t4000000\n", 1),
+    // Halves go away from zero on both sides, by one sum or by two.
+    ("JOB\t1\nJ\tS\t-\t3000000\n", 1),
+    ("JOB\t1\nJ\tS\t-\t-3000000\n", -1),
+    ("JOB\t1\nJ\tS\t-\t2999999\n", 0),
+    ("JOB\t1\nJ\tS\t-\t-2999999\n", 0),
+    ("JOB\t2\nJ\tV\t-\t0\nJ\tS\t0\t3000000\n", -1),
+    ("JOB\t2\nJ\tV\t-\t1\nJ\tS\t0\t3000000\n", 0),
+    // 768 x 10^15 over 6 x 10^6 is 128 x 10^9.
+    ("JOB\t1\nJ\tV\t-\t768000000000000000\n", 128_000_000_000),
+    ("JOB\t1\nJ\tV\t-\t-768000000000000000\n", -128_000_000_000),
+];
+
+fn jobs(bench: &mut Bench) {
+    for (sheet, figure) in NETS {
+        hold_job(bench, "nets", sheet, [0, figure]);
+    }
+    // 32 times the bound is 24,576 x 10^15, past 2^64 = 18,446,744,073,709,551,616; 32 times the figure above.
+    for (sum, less, figure) in [("768", "-768", 4_096_000_000_000), ("-768", "768", -4_096_000_000_000)] {
+        let zeros = "0".repeat(15);
+        let pillars = format!("J\tS\t0\t{less}{zeros}\n").repeat(31);
+        hold_job(bench, "a net past 64 bits", &format!("JOB\t32\nJ\tV\t-\t{sum}{zeros}\n{pillars}"), [0, figure]);
+    }
+    hold_job(bench, "eight deep", &nested(8), [0, 4]);
+}
+
+/// Entries in one another, so many deep. The innermost has 0, each other 6,000,000 more than the one in it: of eight, the
+/// nets from within are 0, 6, 6, 12, 12, 18, 18 and 24 million, and the last is 4 cubic metres.
+fn nested(deep: usize) -> String {
+    let names = std::iter::once("-".to_string()).chain((0..deep - 1).map(|outer| outer.to_string()));
+    let entry = |(at, name): (usize, String)| {
+        let kind = if at % 2 == 0 { "V" } else { "S" };
+        format!("J\t{kind}\t{name}\t{}\n", 6_000_000 * (deep - 1 - at))
+    };
+    format!("JOB\t{deep}\n{}", names.enumerate().map(entry).collect::<String>())
+}
+
+/// A void, a pillar in it, and the least sum beyond the bound.
+const TOP: &str = "J\tV\t-\t5\n";
+const PILLAR: &str = "J\tS\t0\t5\n";
+const BEYOND: &str = "768000000000000001";
+
+/// A sheet of so many entries: the void, pillars in it, and a last line.
+fn many(count: usize, last: &str) -> String {
+    format!("JOB\t{count}\n{TOP}{}{last}", PILLAR.repeat(count - 2))
+}
+
+/// "Otherwise number and line rules as in 01, bad form or another number of lines 12, tested first."
+fn jobs_in_bad_form(bench: &mut Bench) {
+    let sheets = [
+        "".to_string(),
+        format!("JOB\t2\n{TOP}"),
+        format!("JOB\t1\n{TOP}{PILLAR}"),
+        format!("JOB\t01\n{TOP}"),
+        format!("JOB\t1\n{}", TOP.trim_end()),
+        format!("JOB\t1\n{}", TOP.replace('V', "v")),
+        format!("JOB\t1\n{}", TOP.replace('V', "VV")),
+        format!("JOB\t1\n{}", TOP.replace('5', "-0")),
+        format!("JOB\t1\n{}", TOP.replace('5', "05")),
+        format!("JOB\t1\n{}", TOP.replace('5', "1000000000000000000")),
+        format!("JOB\t2\n{TOP}{}", PILLAR.replace('0', "-0")),
+        format!("JOB\t2\n{TOP}{}", PILLAR.replace('0', "1000000")),
+        format!("JOB\t0\n{TOP}"),
+        format!("JOB\t33\n{TOP}"),
+        format!("{}\n", many(33, PILLAR)),
+        format!("JOB\t2\nJ\tX\t0\t{BEYOND}\n{}", PILLAR.trim_end()),
+    ];
+    for sheet in sheets {
+        hold_job(bench, "not in form, 12", &sheet, [12, 0]);
+    }
+    // 9 bytes of the first line and 8 for each of 8,190 entries are 65,529; seven digits more are 65,536.
+    let long = |digits: usize| many(8_190, &format!("J\tS\t0\t{}\n", "5".repeat(digits)));
+    hold_job(bench, "65,536 bytes", &long(8), [20, 0]);
+    hold_job(bench, "65,537 bytes", &long(9), [12, 0]);
+}
+
+/// "One capital letter (21 unless `V` or `S`) [...]. Order: count, kind, name, alternation, depth, sum; one new number
+/// each, 20 to 25."
+fn jobs_refused(bench: &mut Bench) {
+    let sheets = [
+        (20, "JOB\t0\n".to_string()),
+        (20, many(33, PILLAR)),
+        (20, many(33, &format!("J\tX\t-\t{BEYOND}\n"))),
+        (21, format!("JOB\t1\n{}", TOP.replace('V', "X"))),
+        (21, format!("JOB\t2\nJ\tV\t7\t{BEYOND}\nJ\tO\t0\t0\n")),
+        (22, "JOB\t1\nJ\tV\t0\t5\n".to_string()),
+        (22, format!("JOB\t2\n{TOP}J\tS\t-\t5\n")),
+        (22, format!("JOB\t2\n{TOP}J\tS\t1\t5\n")),
+        (22, format!("JOB\t3\n{TOP}J\tV\t0\t{BEYOND}\nJ\tS\t3\t5\n")),
+        (23, format!("JOB\t2\n{TOP}J\tV\t0\t5\n")),
+        (23, nested(9).replace("JOB\t9", "JOB\t10") + "J\tV\t0\t5\n"),
+        (24, nested(9)),
+        (24, nested(9).replace("J\tV\t-\t", "J\tV\t-\t9999999999")),
+        (25, format!("JOB\t1\nJ\tV\t-\t{BEYOND}\n")),
+        (25, format!("JOB\t2\n{TOP}J\tS\t0\t-{BEYOND}\n")),
+        (25, "JOB\t1\nJ\tS\t-\t999999999999999999\n".to_string()),
+    ];
+    for (number, sheet) in sheets {
+        hold_job(bench, "not answered, 20 to 25", &sheet, [number, 0]);
+    }
+    // A net of 5 less 31 times 5.
+    hold_job(bench, "32 entries", &many(32, PILLAR), [0, 0]);
 }

@@ -9,7 +9,7 @@ from .refusals import LibraryMissing
 
 u32, u64, i64, size = c.c_uint32, c.c_uint64, c.c_int64, c.c_size_t
 lent = c.c_void_p  # an array's address; its length follows
-number = c.POINTER(u64)  # a lent number
+number, signed = c.POINTER(u64), c.POINTER(i64)  # a lent number
 
 
 class Counted(c.Structure):
@@ -37,6 +37,7 @@ SIGNATURES = {  # name: (result, arguments)
     "grow_back": (Counted, [size, size, lent, size, lent, size]),
     "replay": (Counted, [size, lent, size, lent, size]),
     "volume": (Measure, [lent, size, lent, size]),
+    "exact_sum": (u64, [lent, size, lent, size, signed, number]),
     "change": (Measure, [lent, size, lent, size, lent, size]),
     "shift": (u64, [u32, lent, size, lent, size, number, number, number]),
     "limit": (Centimetres, [u32, c.c_double]),
@@ -51,6 +52,7 @@ SIGNATURES = {  # name: (result, arguments)
     "open_log_sheet": (u64, [lent, size, number, number, number]),
     "next_record": (u64, [lent, size, size, number, number, lent]),
     "recover": (u64, [u32, c.c_double, lent, size, lent, size, lent, size, lent, size, number, number]),
+    "job": (Measure, [lent, size]),
 }
 
 

@@ -114,6 +114,16 @@ def volume(rows, corners) -> int:
     return lent.volume(_rows(rows), _corners(corners))
 
 
+def exact_sum(rows, corners) -> int:
+    """The exact sixfold sum of a stage, in cubic centimetres, as the line of a job has it."""
+    return lent.exact_sum(_rows(rows), _corners(corners))
+
+
+def job(sheet: bytes) -> int:
+    """The net of a job sheet in cubic metres: the topmost entry's sum less the nets of those directly in it, rounded once."""
+    return lent.job(np.frombuffer(sheet, np.uint8))
+
+
 def change(earlier, later, corners) -> int:
     """The change between two stages in cubic metres, rounded once."""
     return lent.change(_rows(earlier), _rows(later), _corners(corners))

@@ -6,13 +6,13 @@ import os
 import sys
 import threading
 from contextlib import contextmanager
-from dataclasses import asdict, dataclass, field
+from dataclasses import asdict, dataclass, field, replace
 from functools import wraps
 
 import click
 import numpy as np
 
-from . import calls, faults, files, lengths, logs, skins
+from . import calls, faults, files, jobs, lengths, logs, skins
 from .diameter import of_skin
 from .refusals import FileFault, LibraryMissing, OurFault, Refused, UsageFault
 
@@ -109,7 +109,7 @@ def main():
     """Thins scanned skins of shafts by a proved library: checks them, says where a fault lies, and reports.
 
     FILE is a scan (.stl, .obj, .ply, .off), whose --unit has to be told, or a sheet (.sheet). LOG is a log sheet, LOG and K lines, or an answer of
-    the desk, OK, R and K lines.
+    the desk, OK, R and K lines. JOB is a job sheet, JOB and J lines.
     In the repository `./flaxglimmer set-up` installs what is needed and builds the library."""
 
 
@@ -126,21 +126,28 @@ def known_unit(context, parameter, unit: str | None) -> str | None:
         raise click.BadParameter(str(fault))
 
 
-def with_file(function):
+def with_reading(function):
+    """How a scan is read."""
     for option in (
         click.option("--turn", is_flag=True, help="Turn every row over."),
         click.option("--drop-flat", is_flag=True, help="Leave out rows that have one corner twice."),
         click.option("--weld", type=click.Choice(files.WELDS), default="auto", show_default=True, help="Join equal points; auto: those of an STL."),
         click.option("--origin", metavar="X,Y,Z|auto", help="Whole metres, taken off before rounding; auto: nearest the middle."),
         click.option("--unit", metavar="|".join(lengths.CENTIMETRES), callback=known_unit, help=f"The file's unit: no format tells it. {WHICH_FEET}"),
-        click.argument("file"),
     ):
         function = option(function)
     return function
 
 
+def with_file(function):
+    return click.argument("file")(with_reading(function))
+
+
 def to_write(name: str, what: str):
     return click.option(f"--{name}", type=click.Path(), help=what)
+
+
+AS_IT_STANDS = {"unit": None, "origin": None, "weld": "auto", "drop_flat": False, "turn": False}  # no option of a scan
 
 
 @contextmanager
@@ -478,6 +485,78 @@ def log(log):
         told.lines = [f"{name}: the log of a skin of {corners:,} corners and {rows:,} rows", summary]
         told.lines += [logs.in_words(at, record) for at, record in enumerate(records)]
     return told
+
+
+# Jobs: voids and solids that stand in each other
+
+
+@command("job")
+@with_reading
+@click.argument("given", nargs=-1, required=True, metavar="JOB | KIND:IN:FILE...")
+@to_write("make", "Make a job sheet from skins, write it here, and answer it.")
+def job(given, make, **prepared):
+    """The net of the job sheet JOB, and of each void and solid in it; or with --make of a job that is made from skins.
+
+    An entry is typed as a line of the sheet with the skin's FILE in the place of its sum: KIND is V, a void, or S, a solid; IN is the number of the
+    entry that it stands in, from 0 in the order typed, and - for the first. As:
+
+    flaxglimmer job --make station.job V:-:station.stl S:0:pillar.stl V:1:room.stl --unit m"""
+    if make is None:
+        return answered_job(given, **prepared)
+    typed = [jobs.typed_entry(one) for one in given]
+    for _, _, file in typed:
+        apart([file], [make])
+    entries, notes = skins_of_job(typed, **prepared)
+    net, sheet = jobs.made(entries, given)
+    told = job_outcome(files.shown(make), net, entries, notes)
+    write(make, sheet.decode("ascii"))
+    return told
+
+
+def answered_job(given, **prepared) -> Outcome:
+    """The job sheet that alone may be given."""
+    if len(given) > 1:
+        raise UsageFault("one job sheet is answered at a time; --make OUT makes one from skins, each typed as KIND:IN:FILE")
+    if prepared != AS_IT_STANDS:
+        raise UsageFault("a job sheet has sums and no skins: unit, origin, weld, drop-flat and turn go with --make alone")
+    (path,) = given
+    with named(path):
+        sheet = files.job_bytes(path)
+    name = files.shown(path)
+    return job_outcome(name, *jobs.read(sheet, name), [])
+
+
+def job_outcome(name: str, net: int, entries: list, notes: list) -> Outcome:
+    """The net and the tree."""
+    standing = jobs.tree(entries)
+    if standing[0].net != net:
+        raise OurFault("the net of the topmost entry is not the net of the job")
+    answer = {"status": 0, "file": name, "net": net, "entries": [one.told() for one in sorted(standing)]}
+    return Outcome(answer, jobs.in_words(name, net, standing), notes=notes + jobs.below_zero(entries))
+
+
+def skins_of_job(typed: list, **prepared) -> tuple[list, list]:
+    """The entries of a job with the exact sums of their skins, and what was done to the files. Options go to the scans; where there are sheets beside
+    them, these are taken as they stand."""
+    scans, entries, notes = [not files.is_sheet(file) for _, _, file in typed], [], []
+    for (kind, within, file), scan in zip(typed, scans):
+        with in_file(file):
+            skin = opened(file, **(prepared if scan or not any(scans) else AS_IT_STANDS))
+            with placed(skin, skin.rows, np.empty((0, 2))):
+                total = calls.exact_sum(skin.rows, skin.corners)
+        entries.append(jobs.Entry(kind, within, total, skin.name))
+        notes += [f"{skin.name}: {note}" for note in skin.told()]
+    return entries, list(dict.fromkeys(notes))
+
+
+@contextmanager
+def in_file(path):
+    """Puts a file's name before the places of a refusal, where several are read."""
+    try:
+        yield
+    except Refused as refused:
+        refused.faults = tuple(replace(fault, text=f"{files.shown(path)}: {fault.text}") for fault in refused.faults)
+        raise
 
 
 @command("limit", ignore_unknown_options=True)  # a limit below zero is no option

@@ -26,6 +26,12 @@ HINTS = {
     11: "keep one part: CloudCompare 'Label connected components', or MeshLab 'Remove Isolated pieces'",
     12: "`./run --help` has the form of a sheet; `flaxglimmer sheet` writes one from a scan",
     13: "scan and log do not belong together, or one of them was changed",
+    20: "a job has one skin at least; of too many take an inner part as a job of its own, and tell both nets",
+    21: "write V for a void and S for a solid",
+    22: "an entry names the one that it stands in by its number, from 0 in the order of the lines; that one stands before it, and the first has -",
+    23: "a solid stands in a void and a void in a solid: is it the right number, and the right letter?",
+    24: "is it the right number? Else take an inner part as a job of its own",
+    25: "no skin has so large a sum: `flaxglimmer job --make` takes the sums from the skins",
 }
 
 

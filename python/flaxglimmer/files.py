@@ -242,7 +242,7 @@ def read(path, unit: str | None, origin=None, weld: str = "auto", drop_flat: boo
     alone where the file has too many rows to be read."""
     path = Path(path)
     kind = path.suffix.lower()
-    if kind == SHEET:
+    if is_sheet(path):
         if unit not in (None, "cm") or origin or weld != "auto" or drop_flat or turn:
             raise UsageFault(f"{shown(path)}: a sheet is in whole centimetres and taken as it stands: no unit, origin, weld, drop-flat or turn goes with it")
         return read_sheet(path)
@@ -264,6 +264,10 @@ def read(path, unit: str | None, origin=None, weld: str = "auto", drop_flat: boo
 # Sheets
 
 
+def is_sheet(path) -> bool:
+    return Path(path).suffix.lower() == SHEET
+
+
 def read_sheet(path) -> Skin:
     """A skin from a sheet, which the library reads and checks."""
     with _open(Path(path)) as file:
@@ -281,6 +285,12 @@ def sheet_text(skin: Skin) -> str:
     lines += ["C\t%d\t%d\t%d" % tuple(corner) for corner in skin.corners.tolist()]
     lines += ["R\t%d\t%d\t%d" % tuple(row) for row in skin.rows.tolist()]
     return "\n".join(lines) + "\n"
+
+
+def job_bytes(path) -> bytes:
+    """A file that may be a job sheet, as far as the longest one goes and a byte more."""
+    with _open(Path(path)) as file:
+        return _read_bytes(file, LIMITS.MOST_JOB_BYTES + 1)
 
 
 # Logs: log sheets, and the desk's answer

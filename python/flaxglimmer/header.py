@@ -13,7 +13,12 @@ LIMITS = SimpleNamespace(
     MOST_SHEET_ROWS=1024,
     MOST_SHEET_CORNERS=514,
     MOST_LOG_BYTES=65_536,
+    MOST_JOB_BYTES=65_536,
+    MOST_ENTRIES=32,
+    MOST_DEPTH=8,
     MOST_TEXT=65_536,
 )
+
+MOST_SUM = 6 * LIMITS.MOST_ROWS * LIMITS.MOST_COORDINATE**3  # of an entry of a job: so many rows of six products at the coordinate limit
 
 UNITS = SimpleNamespace(NO_LIMIT=0, METRES=1, FEET=2, CENTIMETRES=3, INTERNATIONAL_FEET=4)

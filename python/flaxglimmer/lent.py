@@ -6,10 +6,13 @@ from typing import NamedTuple
 
 import numpy as np
 
-from ._native import library, u64
+from ._native import i64, library, u64
 from .header import LIMITS
 from .lengths import order
 from .refusals import Refused
+
+
+CUBIC_METRE = 6_000_000  # of a sixfold sum in cubic centimetres
 
 
 class Shift(NamedTuple):
@@ -86,6 +89,14 @@ def volume(table, corners) -> int:
     answer = library().flaxglimmer_volume(*_over(_array(table, np.uint32, "table"), _array(corners, np.int32, "corners")))
     _done(answer.status)
     return answer.figure
+
+
+def exact_sum(table, corners) -> int:
+    """The exact sixfold sum of a stage, in cubic centimetres."""
+    whole, rest = i64(), u64()
+    over = _over(_array(table, np.uint32, "table"), _array(corners, np.int32, "corners"))
+    _done(library().flaxglimmer_exact_sum(*over, ctypes.byref(whole), ctypes.byref(rest)))
+    return CUBIC_METRE * whole.value + rest.value
 
 
 def change(earlier, later, corners) -> int:
@@ -208,3 +219,10 @@ def recover(table, corners, log, sheet, limit) -> tuple[int, int]:
     status = library().flaxglimmer_recover(*order(limit), *_over(table, corners, log, sheet), ctypes.byref(kept), ctypes.byref(records))
     _done(status, records.value)
     return kept.value, records.value
+
+
+def job(sheet) -> int:
+    """The net of a job sheet's bytes in cubic metres, rounded once."""
+    answer = library().flaxglimmer_job(*_over(_array(sheet, np.uint8, "sheet")))
+    _done(answer.status)
+    return answer.figure

@@ -9,6 +9,7 @@ from typing import NamedTuple
 from . import calls
 from .faults import COUNT, HINTS, quoted
 from .header import LIMITS
+from .mail import done_to, is_empty
 from .refusals import LineFault, OurFault, Refused
 
 LINES = {b"LOG": 2, b"K": LIMITS.WIDTH}  # the numbers after each word
@@ -17,16 +18,13 @@ FORMS = {word: re.compile(rb"%b(?:\t%b){%d}" % (word, COUNT, count)) for word, c
 CUT = {word: re.compile(rb"%b(?:\t%b){0,%d}\t?" % (word, COUNT, count)) for word, count in LINES.items()}
 ORDERED = {word: f"{word.decode()} and {count} numbers, parted by tabs" for word, count in LINES.items()}
 
-# What mail and editors do to a line: in words, the line without it, and what takes it out of a file
-DONE_TO = (
-    ("has a byte order mark in front", lambda line: line.removeprefix(b"\xef\xbb\xbf"), r"sed '1s/^\xEF\xBB\xBF//'"),
-    ("has > or blanks in front", lambda line: line.lstrip(b"> "), "sed 's/^[> ]*//'"),
-    ("ends in a carriage return", lambda line: line.rstrip(b"\r"), r"tr -d '\r'"),
-    ("ends in blanks", lambda line: line.rstrip(b" \t"), r"sed 's/[ \t]*$//'"),
-    ("has blanks where tabs should be", lambda line: re.sub(rb"[ \t]+", b"\t", line), r"tr -s ' \t' '\t'"),
-)
-WIDE = (b"\xff\xfe", b"\xfe\xff")  # in front of text of 16 bits a letter
-OTHERS = {b"OK": "the desk's answer, with its rows", b"NO": "the desk's answer to a sheet that it refused", b"SKIN": "a sheet, which has a skin and no log"}
+MENDED = "mended.log"
+OTHERS = {
+    b"OK": "the desk's answer, with its rows",
+    b"NO": "the desk's answer to a sheet that it refused",
+    b"SKIN": "a sheet, which has a skin and no log",
+    b"JOB": "a job sheet, which has sums and no log",
+}
 AGAIN = "ask for the log again, packed (as .zip), so that mail leaves it alone"
 SAME = "is it that scan, read with the same options?"
 ANEW = "`flaxglimmer thin` begins anew"
@@ -101,22 +99,11 @@ def _form(sheet: bytes, name: str) -> tuple[LineFault, str]:
 
 def _damage(line: bytes, word: bytes, ended: bool, name: str, records: int) -> tuple[str, str]:
     """What is wrong with a line that should begin with this word, after so many records, and what to do about it."""
-    if line.startswith(WIDE):
-        return "the file has 16 bits a letter", f"an editor did this; undone: iconv -f UTF-16 -t UTF-8 <{name} >mended.log"
-    undone, done, commands = line, [], []
-    for words, undo, command in DONE_TO:
-        if undo(undone) != undone:
-            undone = undo(undone)
-            done.append(words)
-            commands.append(command)
-    if done and FORMS[word].fullmatch(undone):
-        commands[0] += f" <{name}"
-        return f"the line {' and '.join(done)}: {quoted(line)}", f"mail or an editor did this; undone: {' | '.join(commands)} >mended.log"
+    if told := done_to(line, FORMS[word], name, MENDED):
+        return told
     if not ended:
         return _unended(line, word, name, records)
-    if not line.strip():
-        return "an empty line", f"mail or an editor put it there; without empty lines: sed '/^[[:space:]]*$/d' <{name} >mended.log"
-    return _fields(line, word)
+    return is_empty(line, name, MENDED) or _fields(line, word)
 
 
 def _unended(line: bytes, word: bytes, name: str, records: int) -> tuple[str, str]:
@@ -125,7 +112,7 @@ def _unended(line: bytes, word: bytes, name: str, records: int) -> tuple[str, st
         return "the file is empty", AGAIN
     if FORMS[word].fullmatch(line):
         whole = "; replay then says whether its last number is whole" if word == b"K" else ""
-        return f"the last line has no newline: {quoted(line)}", f"it was cut, or mail took the newline off; with one: (cat <{name}; echo) >mended.log{whole}"
+        return f"the last line has no newline: {quoted(line)}", f"it was cut, or mail took the newline off; with one: (cat <{name}; echo) >{MENDED}{whole}"
     if CUT[word].fullmatch(line) or word.startswith(line):
         shorter = f"; its whole records alone, a log of fewer steps: head -n {1 + records} <{name} >shorter.log" if records else ""
         further = "; `flaxglimmer recover` thins on from its whole records" if word == b"K" else ""

@@ -4,6 +4,7 @@ from __future__ import annotations
 from dataclasses import dataclass
 
 from .header import LIMITS as most
+from .header import MOST_SUM
 
 
 class LibraryMissing(ImportError):
@@ -45,7 +46,7 @@ class LineFault(Fault):
 
 
 def meaning(number: int) -> str:
-    """What a refusal number says: 01's words, then what they come to."""
+    """What a refusal number says: 01's words or 02's, then what they come to."""
     return {
         1: "limit unusable: below zero, not finite, or above 200,000 cm",
         2: f"counts outside limits: {most.LEAST_ROWS} to {most.MOST_ROWS:,} rows, {most.LEAST_CORNERS} to {most.MOST_CORNERS:,} corners",
@@ -60,6 +61,12 @@ def meaning(number: int) -> str:
         11: "not connected: the skin is in parts that do not meet",
         12: f"sheet not in its form, or over {most.MOST_SHEET_BYTES:,} bytes",
         13: "a record does not grow back or replay",
+        20: f"entries outside limits: 1 to {most.MOST_ENTRIES} of a job",
+        21: "a kind that is neither V nor S: V is a void, S a solid",
+        22: "a name that is no earlier entry's: the first names none, and only the first",
+        23: "kinds that do not alternate: a void in a void, or a solid in a solid",
+        24: f"nesting too deep: over {most.MOST_DEPTH}, the first at 1",
+        25: f"a sum out of range: beyond {MOST_SUM:,} either way",
     }.get(number, f"refusal {number}, which has no words here")
 
 

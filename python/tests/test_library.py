@@ -13,7 +13,7 @@ from tables import O_CORNERS, O_ROWS, T_CORNERS, T_ROWS, centimetres, damaged, e
 
 import flaxglimmer as fg
 from flaxglimmer import _native, calls, files, lengths, refusals
-from flaxglimmer.header import LIMITS, UNITS
+from flaxglimmer.header import LIMITS, MOST_SUM, UNITS
 
 HEADER = (ROOT / "include" / "flaxglimmer.h").read_text()
 
@@ -35,19 +35,20 @@ def test_the_tables_of_limits_and_units_are_the_headers():
 
 
 def test_every_function_of_the_header_is_called_with_its_types():
+    pointers = {"uint64_t": _native.number, "int64_t": _native.signed}
     kinds = {"uint32_t": _native.u32, "double": _native.c.c_double, "size_t": _native.size}
     results = {"uint64_t": _native.u64, "uint32_t": _native.u32, **{f"struct flaxglimmer_{one.__name__.lower()}": one for one in
                (_native.Counted, _native.Measure, _native.Centimetres, _native.Written, _native.Stored)}}
     declared = re.findall(r"^((?:struct )?\w+) flaxglimmer_(\w+)\(([^;]*)\);", HEADER, re.M)
     assert {name for _, name, _ in declared} == set(_native.SIGNATURES)
     for result, name, arguments in declared:
-        expected = [_native.number if "uint64_t *" in one else _native.lent if "*" in one else kinds[one.split()[0]] for one in re.split(r",\s*", arguments)]
+        expected = [pointers.get(one.split()[0], _native.lent) if "*" in one else kinds[one.split()[0]] for one in re.split(r",\s*", arguments)]
         assert _native.SIGNATURES[name] == (results[result], expected), name
 
 
 def test_every_refusal_has_the_headers_words():
     told = re.findall(r"^    FLAXGLIMMER_\w+ = (\d+),? +/\* ([^,;:(]*?)(?:[,;:(].*)? \*/$", HEADER, re.M)
-    assert [int(number) for number, _ in told] == list(range(1, 14))
+    assert [int(number) for number, _ in told] == [*range(1, 14), *range(20, 26)]
     for number, words in told:
         assert refusals.meaning(int(number)).startswith(words)
 
@@ -246,6 +247,40 @@ def test_recovery_is_the_pipes_in_every_number_of_every_buffer(pipe):
         assert over == [[status, *(counts if status == 0 else (counts, counts))], table.tolist(), log.tolist()]
         statuses.append(status)
     assert min(statuses.count(number) for number in (0, 1, 2, 3, 12, 13)) >= 10
+
+
+def test_jobs_and_exact_sums_are_the_pipes(pipe):
+    statuses = []
+    for seed in range(240):
+        chance = random.Random(seed)
+        rows, corners = damaged(seed)
+        rows, corners = rows.astype(np.uint32), corners.astype(np.int32)
+        status, total = lent_answer(fg.lent.exact_sum, rows, corners)
+        expected = [0, *divmod(total, 6_000_000)] if status == 0 else [status, 0, 0]
+        assert pipe.ask(26, rows.reshape(-1).tolist(), corners.reshape(-1).tolist(), lists=0) == [expected]
+        sheet = job_sheet(chance, total if status == 0 else chance.randrange(-MOST_SUM, MOST_SUM))
+        data = np.frombuffer(changed(chance, sheet) if seed % 8 == 0 else sheet, np.uint8)
+        answer = lent_answer(fg.lent.job, data)
+        assert pipe.ask(17, data.tolist(), lists=0) == [answer]
+        statuses.append(answer[0])
+    assert min(statuses.count(number) for number in (0, 12, *range(20, 26))) >= 5
+
+
+def job_sheet(chance, total):
+    """A job with this sum on top: one that stands, or with a fault of a kind of its own."""
+    count = chance.choice([1, 2, 5, 12, 32])
+    depth = lambda at: at if at < 8 else 7  # a chain as deep as may be, and the rest beside its last
+    entries = [["VS"[depth(at) % 2], depth(at) - 1 if at else "-", total if at == 0 else chance.randrange(-MOST_SUM, MOST_SUM)] for at in range(count)]
+    at, harm = chance.randrange(count), chance.randrange(12)
+    if harm == 0:
+        entries = entries * 33 if count > 1 else []
+    elif harm in (1, 2, 3):
+        entries[at][harm - 1] = (chance.choice("PXZ"), chance.choice([at, at + 1, 999_999]), chance.choice([-1, 1]) * (MOST_SUM + 1))[harm - 1]
+    elif harm == 4:
+        entries.append([entries[at][0], at, 0])
+    elif harm == 5:
+        entries = [["VS"[at % 2], at - 1 if at else "-", total] for at in range(9)]
+    return "".join("\t".join(map(str, line)) + "\n" for line in [["JOB", len(entries)], *(["J", *entry] for entry in entries)]).encode()
 
 
 def test_the_answer_without_a_limit_is_the_desks_byte_for_byte():

@@ -12,7 +12,7 @@ from tables import O_CORNERS, O_ROWS, T_CORNERS, T_ROWS
 from test_logs import DAMAGE, LINES, MAIL, O_LOG, O_SHEET, SPALLED, damaged_by, folder, line_at, mended, put, written  # noqa: F401
 
 import flaxglimmer as fg
-from flaxglimmer import calls, lent, logs
+from flaxglimmer import calls, lent, mail
 
 # The octahedron contracted over the edge of 2 and 5, which is not the least: rows 4 and 5 leave
 OTHER_RECORD = [2, 5, 4, 5, 2, 1, 5, 5, 3, 2]
@@ -351,7 +351,7 @@ def test_what_stands_before_a_bad_line_is_recovered_by_the_hints_own_command(fol
         assert lines_of(told)[0] == f"shorter.log: 39 records kept, {len(lines) - 40} added; nothing was dropped" and (folder / "out.log").read_bytes() == sheet
 
 
-@pytest.mark.parametrize("data,line,words", [one for one in MAIL if one[0].endswith(b"\n") and not one[0].startswith(logs.WIDE)])
+@pytest.mark.parametrize("data,line,words", [one for one in MAIL if one[0].endswith(b"\n") and not one[0].startswith(mail.WIDE)])
 def test_what_mail_did_to_whole_lines_is_told_and_how_it_is_undone(data, line, words, folder, run):
     """And a tail behind them changes nothing."""
     tail = b"K\t0\t2"
@@ -363,7 +363,7 @@ def test_what_mail_did_to_whole_lines_is_told_and_how_it_is_undone(data, line, w
 
 
 def test_a_log_of_16_bits_a_letter_is_told(folder, run):
-    for mark, kind in zip(logs.WIDE, ("utf-16-le", "utf-16-be")):
+    for mark, kind in zip(mail.WIDE, ("utf-16-le", "utf-16-be")):
         told = run("recover", folder / "o.sheet", put(folder, mark + (O_SHEET + b"K\t0").decode().encode(kind)), "--limit", "none")
         assert told.exit == 1 and "a.log, line 1, byte 0: the file has 16 bits a letter" in told.err
         assert mended(folder, told.err.splitlines()[2]) == O_SHEET + b"K\t0"

@@ -46,6 +46,7 @@ mod proved {
         pub fn flaxglimmer_grow_back(rows: usize, corners: usize, room: *mut u32, room_length: usize, log: *const u32, log_length: usize) -> Counted;
         pub fn flaxglimmer_replay(corners: usize, table: *mut u32, table_length: usize, log: *const u32, log_length: usize) -> Counted;
         pub fn flaxglimmer_volume(table: *const u32, table_length: usize, corners: *const i32, corners_length: usize) -> Measure;
+        pub fn flaxglimmer_exact_sum(table: *const u32, table_length: usize, corners: *const i32, corners_length: usize, whole: *mut i64, rest: *mut u64) -> u64;
         pub fn flaxglimmer_change(earlier: *const u32, earlier_length: usize, later: *const u32, later_length: usize, corners: *const i32, corners_length: usize) -> Measure;
         pub fn flaxglimmer_shift(corner: u32, corners: *const i32, corners_length: usize, log: *const u32, log_length: usize, stand_in: *mut u64, count: *mut u64, squared: *mut u64) -> u64;
         pub fn flaxglimmer_limit(unit: u32, figure: f64) -> Centimetres;
@@ -60,6 +61,7 @@ mod proved {
         pub fn flaxglimmer_open_log_sheet(bytes: *const u8, bytes_length: usize, corners: *mut u64, rows: *mut u64, place: *mut u64) -> u64;
         pub fn flaxglimmer_next_record(bytes: *const u8, bytes_length: usize, place: usize, found: *mut u64, after: *mut u64, numbers: *mut super::Record) -> u64;
         pub fn flaxglimmer_recover(unit: u32, figure: f64, table: *mut u32, table_length: usize, corners: *const i32, corners_length: usize, log: *mut u32, log_length: usize, bytes: *const u8, bytes_length: usize, kept: *mut u64, records: *mut u64) -> u64;
+        pub fn flaxglimmer_job(bytes: *const u8, bytes_length: usize) -> Measure;
     }
 }
 
@@ -187,6 +189,13 @@ pub fn volume(table: &[u32], corners: &[i32]) -> Result<i64, Refusal> {
     answered(a.status, a.figure)
 }
 
+/// The exact sixfold sum of a stage, as a line of a job has it.
+pub fn exact_sum(table: &[u32], corners: &[i32]) -> Result<i128, Refusal> {
+    let (mut whole, mut rest) = (0, 0);
+    let status = unsafe { proved::flaxglimmer_exact_sum(table.as_ptr(), table.len(), corners.as_ptr(), corners.len(), &mut whole, &mut rest) };
+    answered(status, 6_000_000 * i128::from(whole) + i128::from(rest))
+}
+
 /// The change from an earlier stage to a later one over the same coordinates, in cubic metres.
 pub fn change(earlier: &[u32], later: &[u32], corners: &[i32]) -> Result<i64, Refusal> {
     let a = unsafe { proved::flaxglimmer_change(earlier.as_ptr(), earlier.len(), later.as_ptr(), later.len(), corners.as_ptr(), corners.len()) };
@@ -223,6 +232,12 @@ pub fn catch_up<'a>(first: &'a [u32], second: &'a [u32]) -> &'a [u32] {
     let which = unsafe { proved::flaxglimmer_catch_up(first.as_ptr(), first.len(), second.as_ptr(), second.len(), &mut from, &mut to) };
     let log = if which == 0 { first } else { second };
     &log[from as usize..to as usize]
+}
+
+/// The net of a job sheet in cubic metres: the topmost entry's sum less the nets of those directly in it, rounded once.
+pub fn job(bytes: &[u8]) -> Result<i64, Refusal> {
+    let a = unsafe { proved::flaxglimmer_job(bytes.as_ptr(), bytes.len()) };
+    answered(a.status, a.figure)
 }
 
 /// Reads a sheet: its rows in front of the table, its coordinates in front of the corners.

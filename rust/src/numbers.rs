@@ -20,6 +20,12 @@ pub const MOST_SHEET_ROWS: usize = 1024;
 pub const MOST_SHEET_CORNERS: usize = 514;
 /// Most bytes of a log sheet, which suffice for any log that can be written as one.
 pub const MOST_LOG_BYTES: usize = 65536;
+/// Most bytes of a job sheet.
+pub const MOST_JOB_BYTES: usize = 65536;
+/// Most entries of a job.
+pub const MOST_ENTRIES: usize = 32;
+/// How deep the entries of a job may stand in each other, the first at 1.
+pub const MOST_DEPTH: usize = 8;
 /// Bytes that suffice for the desk's answer to any sheet.
 pub const MOST_TEXT: usize = 65536;
 
@@ -40,13 +46,19 @@ pub enum Refusal {
     NotConnected,
     SheetForm,
     RecordFails,
+    JobCount,
+    JobKind,
+    JobName,
+    JobAlternation,
+    JobDepth,
+    JobSum,
     /// A number that has no name here, as an archive later than this file may answer.
     Other(u64),
 }
 
 impl Refusal {
     /// Those that have a name.
-    pub const NAMED: [Refusal; 13] = [
+    pub const NAMED: [Refusal; 19] = [
         Refusal::LimitUnusable,
         Refusal::CountsOutside,
         Refusal::RoomShort,
@@ -60,6 +72,12 @@ impl Refusal {
         Refusal::NotConnected,
         Refusal::SheetForm,
         Refusal::RecordFails,
+        Refusal::JobCount,
+        Refusal::JobKind,
+        Refusal::JobName,
+        Refusal::JobAlternation,
+        Refusal::JobDepth,
+        Refusal::JobSum,
     ];
 
     /// The refusal with a number. It is `Other` only where no name has the number, and 0, which is the status of what is done, has none.
@@ -83,6 +101,12 @@ impl Refusal {
             Refusal::NotConnected => 11,
             Refusal::SheetForm => 12,
             Refusal::RecordFails => 13,
+            Refusal::JobCount => 20,
+            Refusal::JobKind => 21,
+            Refusal::JobName => 22,
+            Refusal::JobAlternation => 23,
+            Refusal::JobDepth => 24,
+            Refusal::JobSum => 25,
             Refusal::Other(number) => number,
         }
     }

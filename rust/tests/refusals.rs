@@ -1,20 +1,22 @@
-// A refusal for every status: 01's thirteen by name, any other, as 02's later numbers, as a number and without a panic.
+// A refusal for every status: 01's thirteen and those of 02's jobs by name, any other, as 02's later numbers, as a number and without a panic.
 use flaxglimmer::*;
 
 #[test]
-fn a_name_for_each_of_01s_numbers() {
+fn a_name_for_each_of_01s_numbers_and_of_the_jobs() {
     let numbers: Vec<u64> = Refusal::NAMED.into_iter().map(Refusal::number).collect();
-    assert_eq!(numbers, (1..=13).collect::<Vec<_>>());
+    assert_eq!(numbers, (1..=13).chain(20..=25).collect::<Vec<_>>());
     for named in Refusal::NAMED {
         assert_eq!(Refusal::of(named.number()), named);
     }
     assert_eq!(Refusal::of(4), Refusal::CoordinateOutOfRange);
     assert_eq!(Refusal::of(13), Refusal::RecordFails);
+    assert_eq!(Refusal::of(20), Refusal::JobCount);
+    assert_eq!(Refusal::of(25), Refusal::JobSum);
 }
 
 #[test]
 fn any_other_number_is_kept() {
-    for number in (14..=99).chain([1 << 32, (1 << 32) + 4, u64::MAX, 0]) {
+    for number in (14..=19).chain(26..=99).chain([1 << 32, (1 << 32) + 4, u64::MAX, 0]) {
         assert_eq!(Refusal::of(number), Refusal::Other(number));
         assert_eq!(Refusal::of(number).number(), number);
     }

@@ -1,8 +1,8 @@
 -- Why each answer to a sheet is right, and that there is no second one.
 use mathlib.Core.Path.{_≡_, refl, sym, _∙_, ap, subst}
 use mathlib.Core.Logic.{_⊎_, inl, inr}
-use mathlib.Core.List.{List, [], _∷_, map}
-use Prim.Native.Nat.{ℕ, _-_, _≤_, _<_}
+use mathlib.Core.List.{List, [], _∷_}
+use Prim.Native.Nat.{ℕ, _≤_, _<_}
 use native.Mathlib.Omega.{arith}
 use lib.IntN.{ℤ, ℤ-discrete}
 use lib.ListN.{length, length-map, take}
@@ -12,9 +12,9 @@ use Rattle.wide.specs.Rounding.{figure}
 use Rattle.jobform.specs.declared.Entry.{Entry}
 use Rattle.jobform.specs.Limits.{most-job-bytes, most-entries}
 use Rattle.jobform.specs.JobSheet.{JobSheetOf, NoJobSheet}
-use Rattle.jobform.specs.Inner.{kept-name, Kept, JobRead, BadJob, too-long, no-sheet}
+use Rattle.jobform.specs.Inner.{kept-name, JobRead, BadJob, too-long, no-sheet}
 use Rattle.jobform.proofs.Forming.{one-job}
-use Rattle.nest.specs.Questions.{Every, Counted, Marked, Named, Alternates, Shallow, SumIn}
+use Rattle.nest.specs.Questions.{Counted}
 use Rattle.nest.specs.Net.{Nets, told-sum}
 use Rattle.nest.specs.Inner.{Lists, Even}
 use Rattle.nest.proofs.Netting.{Sound, top-net}

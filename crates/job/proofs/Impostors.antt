@@ -1,11 +1,11 @@
 -- Wrong programs: what each answers on a small job does not satisfy the words of the contract. In units of a cubic metre (6,000,000), a station of 3
 -- has a pillar of 2, and the pillar a void of 1.
-use mathlib.Core.Path.{_≡_, refl, sym, _∙_, ap, subst}
+use mathlib.Core.Path.{_≡_, refl, sym, _∙_, ap}
 use mathlib.Core.Bool.{true, false, cond}
 use mathlib.Core.List.{List, [], _∷_, map}
 use Prim.Native.Nat.{ℕ, zero, suc, _+_, _*_, _%_, _^_, _≤_, _<_}
 use native.Mathlib.Omega.{arith}
-use lib.IntN.{ℤ, pos, negsuc, negℤ, _+ℤ_, _-ℤ_, natAbs}
+use lib.IntN.{ℤ, pos, negℤ, _+ℤ_, _-ℤ_, natAbs}
 use lib.ListN.{length, replicate, length-replicate, getD}
 use Rattle.ints.proofs.Ints.{abs-neg}
 use Rattle.refusal.proofs.Laws.{_nor_, none-yet, first-one, given-first}

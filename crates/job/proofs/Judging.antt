@@ -1,13 +1,12 @@
 -- Why the first question that is not answered well is the answer, and that a job which passes has its net.
-use mathlib.Core.Path.{_≡_, refl, sym, _∙_, ap, subst}
+use mathlib.Core.Path.{_≡_, refl, sym, _∙_, ap}
 use mathlib.Core.Bool.{Bool, true, false}
-use mathlib.Core.Logic.{inl, inr}
 use mathlib.Core.List.{List, [], _∷_, map}
 use Prim.Native.Nat.{ℕ, zero, suc, _-_, _≤_, _<_}
 use native.Mathlib.Omega.{arith}
 use lib.IntN.{ℤ, pos, natAbs}
 use lib.ListN.{length, length-map, getD}
-use Rattle.refusal.specs.First.{Clause, _when_, FirstOf}
+use Rattle.refusal.specs.First.{Clause, FirstOf}
 use Rattle.refusal.proofs.Laws.{Verdicts, NoneBefore, _nor_, none-yet, given-first, passes-none}
 use Rattle.wide.specs.Rounding.{figure}
 use Rattle.jobform.specs.declared.Name.{Name}
@@ -16,16 +15,14 @@ use Rattle.jobform.specs.declared.Entry.{Entry}
 use Rattle.jobform.specs.Limits.{most-entries}
 use Rattle.jobform.specs.Inner.{kept-name}
 use Rattle.nest.specs.Limits.{most-depth, most-sum}
-use Rattle.nest.specs.Questions.{At, Every, Marked, Named, Alternates, Shallow, SumIn}
+use Rattle.nest.specs.Questions.{At, Every, Named, SumIn}
 use Rattle.nest.specs.Inner.{Lists, Even, Earlier, AllAnswer, net-within, Summable}
-use Rattle.nest.proofs.Entries.{at-get, found, earlier}
+use Rattle.nest.proofs.Entries.{earlier}
 use Rattle.nest.proofs.Netting.{Sound, nets-there, top-net}
 use Rattle.job.specs.declared.JobRefusal.{JobRefusal}
-use Rattle.job.specs.declared.JobVerdict.{JobVerdict}
 use Rattle.job.specs.declared.JobVerdict.the-variants.{Passes, Refused}
-use Rattle.job.specs.declared.Job.{Job}
 use Rattle.job.specs.declared.Job.the-variants as job
-use Rattle.job.specs.Inner.{asked, Passing, JudgedOf, Judged, SettledOf, turned-down, worked-out}
+use Rattle.job.specs.Inner.{asked, Passing, JudgedOf, Judged, SettledOf, worked-out}
 
 -- ---- verdicts of a job are told apart
 

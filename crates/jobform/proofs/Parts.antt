@@ -5,7 +5,7 @@ use Prim.Native.Nat.{ℕ}
 use native.Mathlib.Omega.{arith}
 use lib.IntN.{ℤ}
 use Rattle.text.specs.Decimal.{minus, decimal, signed}
-use Rattle.text.specs.Inner.{Digit, NoDigit}
+use Rattle.text.specs.Inner.{Digit}
 use Rattle.text.specs.InnerReading.{NumberAt, SignedAt}
 use Rattle.text.proofs.Digits.{decimal-injective}
 use Rattle.text.proofs.Scan.{none-there, number-unique}

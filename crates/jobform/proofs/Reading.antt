@@ -1,6 +1,6 @@
 -- A letter and a name at a place: why each way out of their readers is right.
-use mathlib.Core.Path.{_≡_, refl, sym, _∙_, ap}
-use mathlib.Core.List.{List, [], _∷_}
+use mathlib.Core.Path.{_≡_, sym, _∙_, ap}
+use mathlib.Core.List.{List, _∷_}
 use Prim.Native.Nat.{ℕ, suc, _+_, _^_, _≤_, _<_}
 use native.Mathlib.Omega.{arith}
 use lib.IntN.{natAbs}
@@ -19,7 +19,7 @@ use Rattle.jobform.specs.declared.Entry.{Entry}
 use Rattle.jobform.specs.Limits.{most-sum-digits}
 use Rattle.jobform.specs.JobSheet.{Capital, ShortName}
 use Rattle.jobform.specs.Inner.{LetterAt, NameAt, EntryAt, kept-name, Keepable}
-use Rattle.jobform.proofs.Parts.{name-number, number-name, name-none}
+use Rattle.jobform.proofs.Parts.{name-number, name-none}
 
 -- ---- a letter
 

@@ -1,14 +1,13 @@
 -- What inner functions are asked on and give: no public contract names it.
 use mathlib.Core.Path.{_≡_}
 use mathlib.Core.Bool.{cond}
-use mathlib.Core.List.{List, [], _∷_, _++_, map}
+use mathlib.Core.List.{List, _∷_, _++_, map}
 use Prim.Native.Nat.{ℕ, suc, _^_, _≤_, _<_}
 use lib.Dec.{ltb}
 use lib.IntN.{ℤ, natAbs}
 use lib.ListN.{length, take, drop, set}
 use Rattle.text.specs.Inner.{NoDigit}
 use Rattle.lines.specs.Lines.{tab}
-use Rattle.heading.specs.Heading.{most-digits}
 use Rattle.jobform.specs.declared.Name.{Name}
 use Rattle.jobform.specs.declared.Name.the-variants.{Nothing, Number}
 use Rattle.jobform.specs.declared.Entry.{Entry}

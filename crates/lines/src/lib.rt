@@ -26,7 +26,7 @@ pub fn read_field(s: &[u8], from: Cursor, most: usize) -> Signed
 }
 
 // So many fields, put into room from its place start on.
-pub fn read_fields(
+fn read_fields(
     s: &[u8],
     from: Cursor,
     most: usize,

@@ -1,6 +1,5 @@
 -- The nets of what stands directly in an entry, added up one by one: what holds between two of them, and why the net is what is left.
-use mathlib.Core.Path.{_≡_, refl, sym, ap, subst}
-use mathlib.Core.Bool.{cond}
+use mathlib.Core.Path.{_≡_, refl, sym, subst}
 use mathlib.Core.List.{List}
 use Prim.Native.Nat.{ℕ, zero, suc, _+_, _-_, _≤_, _<_}
 use native.Mathlib.Omega.{arith}
@@ -14,7 +13,7 @@ use Rattle.wide.proofs.Laws.{fits-within, exact-plus, exact-minus}
 use Rattle.nest.specs.Limits.{most-depth}
 use Rattle.nest.specs.Net.{added}
 use Rattle.nest.specs.Inner.{kept-in, net-within, Summable}
-use Rattle.nest.proofs.Sizes.{net-fits, part-fits, own-fits}
+use Rattle.nest.proofs.Sizes.{net-fits, part-fits}
 
 -- what is taken off the own sum of entry i where so much depth is left
 pub inside : ℕ → List ℕ → List ℤ → ℕ → ℤ

@@ -1,7 +1,7 @@
 -- The questions asked of one entry: why each answer is right.
 use mathlib.Core.Path.{_≡_, refl, sym, _∙_, ap, subst}
 use mathlib.Core.Bool.{Bool, true, false}
-use mathlib.Core.List.{List, [], _∷_, map}
+use mathlib.Core.List.{List, map}
 use Prim.Native.Nat.{ℕ, zero, suc, _+_, _-_, _≤_, _<_}
 use native.Mathlib.Omega.{arith}
 use native.Mathlib.Decide.{decLt}
@@ -18,7 +18,7 @@ use Rattle.jobform.specs.Inner.{kept-name}
 use Rattle.nest.specs.declared.Kind.{Kind}
 use Rattle.nest.specs.declared.Kind.the-variants.{Void, Solid, Other}
 use Rattle.nest.specs.Limits.{most-depth, most-sum}
-use Rattle.nest.specs.Questions.{void-letter, solid-letter, kind-of, kind, At, Every, Marked, NameGood, Alternates, Deep, top, below, Named, Shallow, SumIn}
+use Rattle.nest.specs.Questions.{void-letter, solid-letter, kind-of, kind, At, Marked, NameGood, Alternates, Deep, top, below, Named, Shallow, SumIn}
 use Rattle.nest.specs.Inner.{kind-number, Lists, Earlier, GoodName, Alternated, DeepAt, Answers, AllAnswer}
 use Rattle.nest.proofs.Entries.{at-get, at-below, at-one, found, kept-none, kept-number, name-at}
 

@@ -5,3 +5,4 @@ pub mod Refusing
 pub mod Whole
 pub mod Mailing
 pub mod Recovering
+pub mod Stations

@@ -4,3 +4,4 @@ pub mod Thinning
 pub mod Stages
 pub mod Mailing
 pub mod Recovery
+pub mod Stations

@@ -2,87 +2,65 @@
 use mathlib.Core.Logic.{inl, inr}
 use Rattle.jobform.specs.Inner.{ReadJob}
 use Rattle.job.proofs.Answering.{bad-form, bad-count, kept-lists, letters-long, names-long, sums-long, askable, settled}
-use native.Mathlib.Omega.{arith}
 use borrow.Author.Needs.{needs}
 use Rattle.job.proofs.job_net.Statement.{statement}
 use Rattle.job.proofs.job_net.Tie as tie
-use Rattle.job.proofs.job_net.Reads as reads
-use Rattle.job.proofs.job_net.Lts as lts
-use Rattle.job.proofs.settle.Reads as settle-reads
-use Rattle.jobform.proofs.read_job_form.Reads as read-job-form-reads
 
--- src/lib.rt:93:46
 slice-aggregate-read-job-form : tie.Need-slice-aggregate-read-job-form
 slice-aggregate-read-job-form c = search needs
 
--- src/lib.rt:93:60
 slice-aggregate-read-job-form-2 : tie.Need-slice-aggregate-read-job-form-2
 slice-aggregate-read-job-form-2 c = search needs
 
--- src/lib.rt:93:72
 slice-aggregate-read-job-form-3 : tie.Need-slice-aggregate-read-job-form-3
 slice-aggregate-read-job-form-3 c = search needs
 
--- src/lib.rt:93:9
 read-job-form-requires : tie.Need-read-job-form-requires
 read-job-form-requires c κs = search needs
 
--- src/lib.rt:94:23
 enum-known-form : tie.Need-enum-known-form
 enum-known-form c = search needs
 
--- src/lib.rt:95:29
 enum-told : tie.Need-enum-told
 enum-told c = search needs
 
--- src/lib.rt:95:9
 returns : tie.Need-returns
 unfolding ReadJob
 returns c = bad-form (rw (c .enum-told .given .1) at (c .before .before .before .before .before .read-job-form .ensures))
 
--- src/lib.rt:98:9
 returns-2 : tie.Need-returns-2
 unfolding ReadJob
 returns-2 c = bad-count (rw (c .before .before .form .given .1) at (c .before .before .before .before .before .before .before .read-job-form .ensures)) (inl (c .if1 .taken))
 
--- src/lib.rt:101:9
 returns-3 : tie.Need-returns-3
 unfolding ReadJob
 returns-3 c = bad-count (rw (c .before .before .before .form .given .1) at (c .before .before .before .before .before .before .before .before .read-job-form .ensures)) (inr (c .if2 .taken))
 
--- src/lib.rt:103:12
 array-share-prefix-letters : tie.Need-array-share-prefix-letters
 array-share-prefix-letters c = search needs
 
--- src/lib.rt:103:12
 slice-aggregate-settle : tie.Need-slice-aggregate-settle
 unfolding ReadJob
 slice-aggregate-settle c = letters-long (rw (c .before .before .before .before .form .given .1) at (c .before .before .before .before .before .before .before .before .before .read-job-form .ensures)) (c .before .before .if1 .left) (c .before .if2 .left)
 
--- src/lib.rt:103:31
 array-share-prefix-names : tie.Need-array-share-prefix-names
 array-share-prefix-names c = search needs
 
--- src/lib.rt:103:31
 slice-aggregate-settle-2 : tie.Need-slice-aggregate-settle-2
 unfolding ReadJob
 slice-aggregate-settle-2 c = names-long (rw (c .before .before .before .before .before .form .given .1) at (c .before .before .before .before .before .before .before .before .before .before .read-job-form .ensures)) (c .before .before .before .if1 .left) (c .before .before .if2 .left)
 
--- src/lib.rt:103:48
 array-share-prefix-sums : tie.Need-array-share-prefix-sums
 array-share-prefix-sums c = search needs
 
--- src/lib.rt:103:48
 slice-aggregate-settle-3 : tie.Need-slice-aggregate-settle-3
 unfolding ReadJob
 slice-aggregate-settle-3 c = sums-long (rw (c .before .before .before .before .before .before .form .given .1) at (c .before .before .before .before .before .before .before .before .before .before .before .read-job-form .ensures)) (c .before .before .before .before .if1 .left) (c .before .before .before .if2 .left)
 
--- src/lib.rt:103:5
 settle-requires : tie.Need-settle-requires
 unfolding ReadJob
 settle-requires c κs = askable (rw (c .before .before .before .before .before .before .form .given .1) at (c .before .before .before .before .before .before .before .before .before .before .before .read-job-form .ensures)) (c .before .before .before .before .if1 .left) (c .before .before .before .if2 .left)
 
--- src/lib.rt:87:1
 returns-4 : tie.Need-returns-4
 unfolding ReadJob
 returns-4 c =

@@ -6,51 +6,37 @@ use mir.ValLaws.{toZ-ofZ}
 use Rattle.ints.proofs.Machine.{sfits-abs}
 use Rattle.jobform.specs.Inner.{kept-name}
 use Rattle.jobform.proofs.Keeping.{keep-here, keep-past}
-use native.Mathlib.Omega.{arith}
 use borrow.Author.Needs.{needs}
 use Rattle.jobform.proofs.keep_entry.Statement.{statement}
 use Rattle.jobform.proofs.keep_entry.Tie as tie
-use Rattle.jobform.proofs.keep_entry.Reads as reads
-use Rattle.jobform.proofs.keep_entry.Lts as lts
-use Rattle.jobform.proofs.kept_name.Reads as kept-name-reads
 
--- src/lib.rt:156:9
 slice-write-letters : tie.Need-slice-write-letters
 slice-write-letters c = search needs
 
--- src/lib.rt:158:20
 kept-name-requires : tie.Need-kept-name-requires
 kept-name-requires c κs = search needs
 
--- src/lib.rt:158:9
 mul-names : tie.Need-mul-names
 mul-names c = search needs
 
--- src/lib.rt:158:9
 slice-write-names : tie.Need-slice-write-names
 slice-write-names c = search needs
 
--- src/lib.rt:160:9
 mul-z : tie.Need-mul-z
 mul-z c = search needs
 
--- src/lib.rt:160:9
 slice-set-from-z : tie.Need-slice-set-from-z
 slice-set-from-z c = search needs
 
--- src/lib.rt:150:1
 same-length : tie.Need-same-length
 same-length c = search needs
 
--- src/lib.rt:150:1
 same-length-2 : tie.Need-same-length-2
 same-length-2 c = search needs
 
--- src/lib.rt:150:1
 same-length-3 : tie.Need-same-length-3
 same-length-3 c = search needs
 
--- src/lib.rt:150:1
 returns : tie.Need-returns
 returns c =
     let args = c .before .before .before .before .before .args in
@@ -62,7 +48,6 @@ returns c =
       ap (set (args .sums .now) (args .i)) (toZ-ofZ w64 z (sfits-abs w64 z (pre .1 .sum))) ∙ keep-here (args .sums .now) (args .i) z h,
     )
 
--- src/lib.rt:150:1
 returns-2 : tie.Need-returns-2
 returns-2 c =
     let args = c .before .before .before .args in

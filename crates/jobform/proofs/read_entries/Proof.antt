@@ -4,14 +4,9 @@ use lib.ListN.{length}
 use Rattle.jobform.specs.Inner.{ReadEntry, ReadEntries}
 use Rattle.jobform.proofs.Reading.{keepable}
 use Rattle.jobform.proofs.Keeping.{Reading, reading-start, few-entries, nearer, reading-next, other-stands, all-read}
-use native.Mathlib.Omega.{arith}
 use borrow.Author.Needs.{needs}
 use Rattle.jobform.proofs.read_entries.Statement.{statement}
 use Rattle.jobform.proofs.read_entries.Tie as tie
-use Rattle.jobform.proofs.read_entries.Reads as reads
-use Rattle.jobform.proofs.read_entries.Lts as lts
-use Rattle.jobform.proofs.keep_entry.Reads as keep-entry-reads
-use Rattle.jobform.proofs.read_entry.Reads as read-entry-reads
 
 abbrev Inv-loop : tie.InvT-loop
 Inv-loop s letters₀ names₀ sums₀ k₀ count₀ letters names sums k count = Reading s letters names sums k₀ k count
@@ -19,58 +14,46 @@ Inv-loop s letters₀ names₀ sums₀ k₀ count₀ letters names sums k count 
 abbrev μ-loop : tie.MeasureT-loop
 μ-loop s letters₀ names₀ sums₀ k₀ count₀ letters names sums k count = length s - k
 
--- src/lib.rt:177:5
 loop-holds : tie.Need-loop-holds Inv-loop μ-loop
 loop-holds c =
     let args = c .before .before .before .args in
     reading-start (args .s .now) (args .letters .now) (args .names .now) (args .sums .now) (args .from .at) (c .before .before .before .pre)
 
--- src/lib.rt:178:13
 read-entry-requires : tie.Need-read-entry-requires Inv-loop μ-loop
 read-entry-requires c κs = search needs
 
--- src/lib.rt:179:29
 enum-known-read : tie.Need-enum-known-read Inv-loop μ-loop
 enum-known-read c = search needs
 
--- src/lib.rt:180:13
 enum-told : tie.Need-enum-told Inv-loop μ-loop
 enum-told c = search needs
 
--- src/lib.rt:180:13
 same-length : tie.Need-same-length Inv-loop μ-loop
 same-length c = search needs
 
--- src/lib.rt:180:13
 same-length-2 : tie.Need-same-length-2 Inv-loop μ-loop
 same-length-2 c = search needs
 
--- src/lib.rt:180:13
 same-length-3 : tie.Need-same-length-3 Inv-loop μ-loop
 same-length-3 c = search needs
 
--- src/lib.rt:180:13
 returns : tie.Need-returns Inv-loop μ-loop
 unfolding ReadEntry ReadEntries
 returns c = other-stands (c .before .before .before .before .loop .inv) (c .before .before .before .loop-test .taken) (rw (c .enum-told .given .1) at (c .before .before .read-entry .ensures))
 
--- src/lib.rt:182:9
 keep-entry-requires : tie.Need-keep-entry-requires Inv-loop μ-loop
 unfolding ReadEntry
 keep-entry-requires c κs = (c .before .before .before .before .before .before .before .before .loop .inv .rooms, keepable (rw (c .before .before .before .before .read .given .1) at (c .before .before .before .before .before .before .read-entry .ensures)))
 
--- src/lib.rt:184:9
 add-count : tie.Need-add-count Inv-loop μ-loop
 add-count c = let h = few-entries (c .before .before .before .before .before .before .before .before .before .before .before .before .before .before .loop .inv) in search needs
 
--- src/lib.rt:177:5
 loop-less : tie.Need-loop-less Inv-loop μ-loop
 unfolding ReadEntry
 loop-less c =
     let read = c .before .before .before .before .before .before .before .before .before .before .read in
     nearer (c .before .before .before .before .before .before .before .before .before .before .before .before .before .before .loop .inv) (read .given .0 .0) (read .given .0 .1 .0 .at) (rw (read .given .1) at (c .before .before .before .before .before .before .before .before .before .before .before .before .read-entry .ensures))
 
--- src/lib.rt:177:5
 loop-again : tie.Need-loop-again Inv-loop μ-loop
 unfolding ReadEntry
 loop-again c =
@@ -78,19 +61,15 @@ loop-again c =
     let keep = c .before .before .before .before .before .keep-entry .ensures in
     reading-next (c .before .before .before .before .before .before .before .before .before .before .before .before .before .before .loop .inv) (read .given .0 .0) (read .given .0 .1 .0 .at) (rw (read .given .1) at (c .before .before .before .before .before .before .before .before .before .before .before .before .read-entry .ensures)) _ _ _ (keep .0) (keep .1) (keep .2)
 
--- src/lib.rt:165:1
 same-length-4 : tie.Need-same-length-4 Inv-loop μ-loop
 same-length-4 c = search needs
 
--- src/lib.rt:165:1
 same-length-5 : tie.Need-same-length-5 Inv-loop μ-loop
 same-length-5 c = search needs
 
--- src/lib.rt:165:1
 same-length-6 : tie.Need-same-length-6 Inv-loop μ-loop
 same-length-6 c = search needs
 
--- src/lib.rt:165:1
 returns-2 : tie.Need-returns-2 Inv-loop μ-loop
 unfolding ReadEntries
 returns-2 c = all-read (c .before .loop .inv) (c .loop-test .left)

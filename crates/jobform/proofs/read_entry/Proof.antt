@@ -11,64 +11,45 @@ use native.Mathlib.Omega.{arith}
 use borrow.Author.Needs.{needs}
 use Rattle.jobform.proofs.read_entry.Statement.{statement}
 use Rattle.jobform.proofs.read_entry.Tie as tie
-use Rattle.jobform.proofs.read_entry.Reads as reads
-use Rattle.jobform.proofs.read_entry.Lts as lts
-use Rattle.jobform.proofs.read_letter.Reads as read-letter-reads
-use Rattle.jobform.proofs.read_name.Reads as read-name-reads
-use Rattle.lines.proofs.read_field.Reads as read-field-reads
-use Rattle.text.proofs.expect.Reads as expect-reads
 
--- src/lib.rt:108:38
 slice-aggregate-expect : tie.Need-slice-aggregate-expect
 slice-aggregate-expect c = search needs
 
--- src/lib.rt:108:9
 expect-requires : tie.Need-expect-requires
 expect-requires c κs = search needs
 
--- src/lib.rt:109:20
 enum-known-word : tie.Need-enum-known-word
 enum-known-word c = search needs
 
--- src/lib.rt:110:9
 enum-told : tie.Need-enum-told
 enum-told c = search needs
 
--- src/lib.rt:110:9
 returns : tie.Need-returns
 unfolding Expected ReadEntry
 returns c = no-word (rw (c .enum-told .given .1) at (c .before .before .expect .ensures))
 
--- src/lib.rt:112:9
 read-letter-requires : tie.Need-read-letter-requires
 read-letter-requires c κs = search needs
 
--- src/lib.rt:113:22
 enum-known-letter : tie.Need-enum-known-letter
 enum-known-letter c = search needs
 
--- src/lib.rt:114:9
 enum-told-2 : tie.Need-enum-told-2
 enum-told-2 c = search needs
 
--- src/lib.rt:114:9
 returns-2 : tie.Need-returns-2
 unfolding Expected ReadLetter ReadEntry
 returns-2 c = no-letter (rw (c .before .before .before .before .word .given .1) at (c .before .before .before .before .before .before .expect .ensures)) (rw (c .enum-told2 .given .1) at (c .before .before .read-letter .ensures))
 
--- src/lib.rt:116:9
 read-name-requires : tie.Need-read-name-requires
 read-name-requires c κs = search needs
 
--- src/lib.rt:117:22
 enum-known-naming : tie.Need-enum-known-naming
 enum-known-naming c = search needs
 
--- src/lib.rt:118:9
 enum-told-3 : tie.Need-enum-told-3
 enum-told-3 c = search needs
 
--- src/lib.rt:118:9
 returns-3 : tie.Need-returns-3
 unfolding Expected ReadLetter ReadName ReadEntry
 returns-3 c =
@@ -76,19 +57,15 @@ returns-3 c =
     let letter = rw (c .before .before .before .before .letter .given .1) at (c .before .before .before .before .before .before .read-letter .ensures) in
     no-name word letter (rw (c .enum-told3 .given .1) at (c .before .before .read-name .ensures))
 
--- src/lib.rt:120:9
 read-field-requires : tie.Need-read-field-requires
 read-field-requires c κs = search needs
 
--- src/lib.rt:121:22
 enum-known-sum : tie.Need-enum-known-sum
 enum-known-sum c = search needs
 
--- src/lib.rt:122:9
 enum-told-4 : tie.Need-enum-told-4
 enum-told-4 c = search needs
 
--- src/lib.rt:122:9
 returns-4 : tie.Need-returns-4
 unfolding Expected ReadLetter ReadName ReadField ReadEntry
 returns-4 c =
@@ -97,23 +74,18 @@ returns-4 c =
     let name = rw (c .before .before .before .before .naming .given .1) at (c .before .before .before .before .before .before .read-name .ensures) in
     no-sum word letter name (rw (c .enum-told4 .given .1) at (c .before .before .read-field .ensures))
 
--- src/lib.rt:124:42
 slice-aggregate-expect-2 : tie.Need-slice-aggregate-expect-2
 slice-aggregate-expect-2 c = search needs
 
--- src/lib.rt:124:9
 expect-requires-2 : tie.Need-expect-requires-2
 expect-requires-2 c κs = search needs
 
--- src/lib.rt:126:20
 enum-known-end : tie.Need-enum-known-end
 enum-known-end c = search needs
 
--- src/lib.rt:134:24
 enum-told-5 : tie.Need-enum-told-5
 enum-told-5 c = search needs
 
--- src/lib.rt:105:1
 returns-5 : tie.Need-returns-5
 unfolding Expected ReadLetter ReadName ReadField ReadEntry
 returns-5 c =
@@ -123,7 +95,6 @@ returns-5 c =
     let sum = rw (c .before .before .before .before .before .before .sum .given .1) at (c .before .before .before .before .before .before .before .before .read-field .ensures) in
     whole-line word letter name sum (sym (toZ-ofZ w64 (c .before .before .before .before .before .before .sum .given .0 .0) (field-small (omega arith) sum))) (rw (c .before .end .given .1) at (c .before .before .before .expect2 .ensures))
 
--- src/lib.rt:105:1
 returns-6 : tie.Need-returns-6
 unfolding Expected ReadLetter ReadName ReadField ReadEntry
 returns-6 c =

@@ -2,117 +2,88 @@
 use Rattle.lines.specs.Inner.{ReadInto}
 use Rattle.jobform.specs.Inner.{ReadEntries, ReadJob, too-long}
 use Rattle.jobform.proofs.Forming.{one-count, count-fits, no-first, no-entries, another-count, job-read}
-use native.Mathlib.Omega.{arith}
 use borrow.Author.Needs.{needs}
 use Rattle.jobform.proofs.read_job_form.Statement.{statement}
 use Rattle.jobform.proofs.read_job_form.Tie as tie
-use Rattle.jobform.proofs.read_job_form.Reads as reads
-use Rattle.jobform.proofs.read_job_form.Lts as lts
-use Rattle.jobform.proofs.read_entries.Reads as read-entries-reads
-use Rattle.reading.proofs.number_line.Reads as number-line-reads
 
--- src/lib.rt:195:9
 returns : tie.Need-returns
 unfolding ReadJob
 returns c = too-long (c .if1 .taken)
 
--- src/lib.rt:199:52
 slice-aggregate-number-line : tie.Need-slice-aggregate-number-line
 slice-aggregate-number-line c = search needs
 
--- src/lib.rt:199:85
 slice-aggregate-number-line-2 : tie.Need-slice-aggregate-number-line-2
 slice-aggregate-number-line-2 c = search needs
 
--- src/lib.rt:199:9
 number-line-requires : tie.Need-number-line-requires
 number-line-requires c κs = search needs
 
--- src/lib.rt:200:20
 enum-known-first : tie.Need-enum-known-first
 enum-known-first c = search needs
 
--- src/lib.rt:201:9
 enum-told : tie.Need-enum-told
 enum-told c = search needs
 
--- src/lib.rt:201:9
 returns-2 : tie.Need-returns-2
 unfolding ReadInto ReadJob
 returns-2 c = no-first (c .before .before .before .before .before .before .if1 .left) (rw (c .enum-told .given .1) at (c .before .before .before .number-line .ensures))
 
--- src/lib.rt:203:9
 read-entries-requires : tie.Need-read-entries-requires
 read-entries-requires c κs = search needs
 
--- src/lib.rt:205:24
 enum-known-read : tie.Need-enum-known-read
 enum-known-read c = search needs
 
--- src/lib.rt:206:21
 array-read-if2 : tie.Need-array-read-if2
 array-read-if2 c = search needs
 
--- src/lib.rt:206:21
 cast-if2 : tie.Need-cast-if2
 unfolding ReadInto
 cast-if2 c = count-fits (one-count (rw (c .before .before .before .before .before .before .before .before .before .before .before .before .before .first .given .1) at (c .before .before .before .before .before .before .before .before .before .before .before .before .before .before .before .before .number-line .ensures)))
 
--- src/lib.rt:207:17
 same-length : tie.Need-same-length
 same-length c = search needs
 
--- src/lib.rt:207:17
 same-length-2 : tie.Need-same-length-2
 same-length-2 c = search needs
 
--- src/lib.rt:207:17
 same-length-3 : tie.Need-same-length-3
 same-length-3 c = search needs
 
--- src/lib.rt:207:17
 returns-3 : tie.Need-returns-3
 unfolding ReadInto ReadEntries ReadJob
 returns-3 c =
     let first = one-count (rw (c .before .before .before .before .before .before .before .before .before .before .before .before .before .before .first .given .1) at (c .before .before .before .before .before .before .before .before .before .before .before .before .before .before .before .before .before .number-line .ensures)) in
     job-read (c .before .before .before .before .before .before .before .before .before .before .before .before .before .before .before .before .before .before .before .before .if1 .left) (c .before .before .before .before .before .before .before .before .before .before .before .before .before .before .first .given .0 .0 .at) first (rw (c .before .before .read .given .1) at (c .before .before .before .before .before .before .before .before .before .read-entries .ensures)) (c .if2 .taken)
 
--- src/lib.rt:211:27
 enum-told-2 : tie.Need-enum-told-2
 enum-told-2 c = search needs
 
--- src/lib.rt:190:1
 same-length-4 : tie.Need-same-length-4
 same-length-4 c = search needs
 
--- src/lib.rt:190:1
 same-length-5 : tie.Need-same-length-5
 same-length-5 c = search needs
 
--- src/lib.rt:190:1
 same-length-6 : tie.Need-same-length-6
 same-length-6 c = search needs
 
--- src/lib.rt:190:1
 returns-4 : tie.Need-returns-4
 unfolding ReadInto ReadEntries ReadJob
 returns-4 c =
     let first = one-count (rw (c .before .before .before .before .before .before .before .before .before .before .before .before .before .before .first .given .1) at (c .before .before .before .before .before .before .before .before .before .before .before .before .before .before .before .before .before .number-line .ensures)) in
     another-count (c .before .before .before .before .before .before .before .before .before .before .before .before .before .before .before .before .before .before .before .before .if1 .left) (c .before .before .before .before .before .before .before .before .before .before .before .before .before .before .first .given .0 .0 .at) first (rw (c .before .before .read .given .1) at (c .before .before .before .before .before .before .before .before .before .read-entries .ensures)) (c .if2 .left)
 
--- src/lib.rt:190:1
 same-length-7 : tie.Need-same-length-7
 same-length-7 c = search needs
 
--- src/lib.rt:190:1
 same-length-8 : tie.Need-same-length-8
 same-length-8 c = search needs
 
--- src/lib.rt:190:1
 same-length-9 : tie.Need-same-length-9
 same-length-9 c = search needs
 
--- src/lib.rt:190:1
 returns-5 : tie.Need-returns-5
 unfolding ReadInto ReadEntries ReadJob
 returns-5 c =

@@ -21,51 +21,43 @@ abbrev depth-of-below : ℕ → In 1 depth-of-kinds.ps
 depth-of-below t =
     and 1 depth-of-kinds.ps (falls 1 depth-of-kinds.ps _<_ μ-depth-of t) depth-of.Pre
 
--- src/lib.rt:106:16
 depth-of-mul-name :
     (t : ℕ) →
     depth-of-lts.Need-mul-name (depth-of-below t, depth-of.Post) (depth-of-at t) depth-of.Post
 depth-of-mul-name t c = search needs
 
--- src/lib.rt:106:16
 depth-of-shared-slice-read-name : (t : ℕ) → depth-of-lts.Need-shared-slice-read-name (
   depth-of-below t,
   depth-of.Post,
 ) (depth-of-at t) depth-of.Post
 depth-of-shared-slice-read-name t c = search needs
 
--- src/lib.rt:106:16
 depth-of-cast-name :
     (t : ℕ) →
     depth-of-lts.Need-cast-name (depth-of-below t, depth-of.Post) (depth-of-at t) depth-of.Post
 depth-of-cast-name t c = omega (arith, c .shared-slice-known2 .given (c .before .before .args .i))
 
--- src/lib.rt:108:9
 depth-of-returns :
     (t : ℕ) →
     depth-of-lts.Need-returns (depth-of-below t, depth-of.Post) (depth-of-at t) depth-of.Post
 depth-of-returns t c = let s = c .before .before .before in (deep-top (s .args .i) (s .args .names .now) (s .pre .1 .0) (s .pre .1 .1) (c .if1 .taken), omega arith)
 
--- src/lib.rt:110:21
 depth-of-sub-depth-of :
     (t : ℕ) →
     depth-of-lts.Need-sub-depth-of (depth-of-below t, depth-of.Post) (depth-of-at t) depth-of.Post
 depth-of-sub-depth-of t c = search needs
 
--- src/lib.rt:110:5
 depth-of-depth-of-requires : (t : ℕ) → depth-of-lts.Need-depth-of-requires (
   depth-of-below t,
   depth-of.Post,
 ) (depth-of-at t) depth-of.Post
 depth-of-depth-of-requires t c κs = let s = c .before .before .before in let h = s .pre .1 .0 (s .args .i) (s .pre .1 .1) in (omega (arith, s .pre .0, c .if1 .left), (s .pre .1 .0, omega (arith, s .pre .1 .1)))
 
--- src/lib.rt:110:5
 depth-of-add-result :
     (t : ℕ) →
     depth-of-lts.Need-add-result (depth-of-below t, depth-of.Post) (depth-of-at t) depth-of.Post
 depth-of-add-result t c = let s = c .before .before .before .before in let h = s .pre .1 .0 (s .args .i) (s .pre .1 .1) in let f = s .fits .i in let g = c .depth-of .ensures .1 in record { fits = omega (arith, c .before .if1 .left) }
 
--- src/lib.rt:102:1
 depth-of-returns-2 :
     (t : ℕ) →
     depth-of-lts.Need-returns-2 (depth-of-below t, depth-of.Post) (depth-of-at t) depth-of.Post

@@ -4,55 +4,40 @@ use native.Mathlib.Omega.{arith}
 use borrow.Author.Needs.{needs}
 use Rattle.nest.proofs.alternates.Statement.{statement}
 use Rattle.nest.proofs.alternates.Tie as tie
-use Rattle.nest.proofs.alternates.Reads as reads
-use Rattle.nest.proofs.alternates.Lts as lts
-use Rattle.nest.proofs.differ.Reads as differ-reads
-use Rattle.nest.proofs.kind_of.Reads as kind-of-reads
 
--- src/lib.rt:94:16
 mul-name : tie.Need-mul-name
 mul-name c = search needs
 
--- src/lib.rt:94:16
 shared-slice-read-name : tie.Need-shared-slice-read-name
 shared-slice-read-name c = search needs
 
--- src/lib.rt:94:16
 cast-name : tie.Need-cast-name
 cast-name c = omega (arith, c .shared-slice-known3 .given (c .before .before .before .args .i))
 
--- src/lib.rt:96:9
 returns : tie.Need-returns
 returns c = alternates-none (c .before .before .before .before .args .i) (c .before .before .before .before .args .letters .now) (c .before .before .before .before .args .names .now) (c .if1 .taken)
 
--- src/lib.rt:98:20
 shared-slice-read-kind-of : tie.Need-shared-slice-read-kind-of
 shared-slice-read-kind-of c = search needs
 
--- src/lib.rt:98:12
 kind-of-requires : tie.Need-kind-of-requires
 kind-of-requires c κs = search needs
 
--- src/lib.rt:98:49
 sub-kind-of : tie.Need-sub-kind-of
 sub-kind-of c = search needs
 
--- src/lib.rt:98:41
 shared-slice-read-kind-of-2 : tie.Need-shared-slice-read-kind-of-2
 shared-slice-read-kind-of-2 c =
     let pre = c .before .before .before .before .before .before .before .pre in
     let h = pre .2 (c .before .before .before .before .before .before .before .args .i) (rw (pre .0) (pre .1)) in
     omega (arith, h, pre .1)
 
--- src/lib.rt:98:33
 kind-of-requires-2 : tie.Need-kind-of-requires-2
 kind-of-requires-2 c κs = search needs
 
--- src/lib.rt:98:5
 differ-requires : tie.Need-differ-requires
 differ-requires c κs = search needs
 
--- src/lib.rt:90:1
 returns-2 : tie.Need-returns-2
 returns-2 c =
     let args = c .before .before .before .before .before .before .before .before .before .args in

@@ -5,107 +5,79 @@ use lib.ListN.{getD}
 use mir.Syntax.{w64}
 use mir.ValLaws.{toZ-ofZ}
 use Rattle.nest.proofs.Asking.{asked-kind, asked-name, asked-alternation, asked-depth, asked-sum}
-use native.Mathlib.Omega.{arith}
 use borrow.Author.Needs.{needs}
 use Rattle.nest.proofs.answers.Statement.{statement}
 use Rattle.nest.proofs.answers.Tie as tie
-use Rattle.nest.proofs.answers.Reads as reads
-use Rattle.nest.proofs.answers.Lts as lts
-use Rattle.ints.proofs.size.Reads as size-reads
-use Rattle.nest.proofs.alternates.Reads as alternates-reads
-use Rattle.nest.proofs.depth_of.Reads as depth-of-reads
-use Rattle.nest.proofs.marked.Reads as marked-reads
-use Rattle.nest.proofs.named.Reads as named-reads
 
--- src/lib.rt:120:34
 enum-told : tie.Need-enum-told
 enum-told c = search needs
 
--- src/lib.rt:120:34
 shared-slice-read-marked : tie.Need-shared-slice-read-marked
 shared-slice-read-marked c = search needs
 
--- src/lib.rt:120:27
 marked-requires : tie.Need-marked-requires
 marked-requires c κs = search needs
 
--- src/lib.rt:121:33
 enum-told-2 : tie.Need-enum-told-2
 enum-told-2 c = search needs
 
--- src/lib.rt:121:33
 mul-named : tie.Need-mul-named
 mul-named c = search needs
 
--- src/lib.rt:121:33
 shared-slice-read-named : tie.Need-shared-slice-read-named
 shared-slice-read-named c = search needs
 
--- src/lib.rt:121:27
 named-requires : tie.Need-named-requires
 named-requires c κs = search needs
 
--- src/lib.rt:122:34
 enum-told-3 : tie.Need-enum-told-3
 enum-told-3 c = search needs
 
--- src/lib.rt:122:34
 alternates-requires : tie.Need-alternates-requires
 alternates-requires c κs =
     let pre = c .before .before .before .before .pre in
     (pre .0 .names-many, pre .1, rw (c .enum-told3 .given .1) at (pre .2))
 
--- src/lib.rt:123:28
 enum-told-4 : tie.Need-enum-told-4
 enum-told-4 c = search needs
 
--- src/lib.rt:123:28
 depth-of-requires : tie.Need-depth-of-requires
 depth-of-requires c κs =
     let pre = c .before .before .before .before .pre in
     (rw (c .enum-told4 .given .1) at (pre .2), rw (pre .0 .names-many) (pre .1))
 
--- src/lib.rt:125:23
 enum-told-5 : tie.Need-enum-told-5
 enum-told-5 c = search needs
 
--- src/lib.rt:125:23
 mul-sum : tie.Need-mul-sum
 mul-sum c = search needs
 
--- src/lib.rt:125:23
 shared-slice-copy-out-sum : tie.Need-shared-slice-copy-out-sum
 shared-slice-copy-out-sum c = search needs
 
--- src/lib.rt:126:13
 size-requires : tie.Need-size-requires
 size-requires c κs = search needs
 
--- src/lib.rt:115:1
 returns : tie.Need-returns
 returns c =
     let args = c .before .before .before .before .before .before .args in
     rw (c .before .before .enum-told .given .1) (asked-kind (args .i) (args .letters .now) (args .names .now) (args .sums .now) (c .marked .result) (c .marked .ensures))
 
--- src/lib.rt:115:1
 returns-2 : tie.Need-returns-2
 returns-2 c =
     let args = c .before .before .before .before .before .before .args in
     rw (c .before .before .enum-told2 .given .1) (asked-name (args .i) (args .letters .now) (args .names .now) (args .sums .now) (c .named .result) (c .named .ensures))
 
--- src/lib.rt:115:1
 returns-3 : tie.Need-returns-3
 returns-3 c =
     let args = c .before .before .before .before .before .args in
     rw (c .before .enum-told3 .given .1) (asked-alternation (args .i) (args .letters .now) (args .names .now) (args .sums .now) (c .alternates .result) (c .alternates .ensures))
 
--- src/lib.rt:115:1
 returns-4 : tie.Need-returns-4
 returns-4 c =
     let args = c .before .before .before .before .before .args in
     rw (c .before .enum-told4 .given .1) (asked-depth (args .i) (args .letters .now) (args .names .now) (args .sums .now) (c .depth-of .result) (c .depth-of .ensures .0))
 
--- src/lib.rt:115:1
 returns-5 : tie.Need-returns-5
 returns-5 c =
     let args = c .before .before .before .before .before .before .args in

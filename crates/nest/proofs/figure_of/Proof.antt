@@ -8,54 +8,37 @@ use native.Mathlib.Omega.{arith}
 use borrow.Author.Needs.{needs}
 use Rattle.nest.proofs.figure_of.Statement.{statement}
 use Rattle.nest.proofs.figure_of.Tie as tie
-use Rattle.nest.proofs.figure_of.Reads as reads
-use Rattle.nest.proofs.figure_of.Lts as lts
-use Rattle.nest.proofs.kind_of.Reads as kind-of-reads
-use Rattle.nest.proofs.net_of_solid.Reads as net-of-solid-reads
-use Rattle.nest.proofs.net_of_void.Reads as net-of-void-reads
-use Rattle.wide.proofs.cubic_metres.Reads as cubic-metres-reads
 
--- src/lib.rt:189:24
 shared-slice-read-kind-of : tie.Need-shared-slice-read-kind-of
 shared-slice-read-kind-of c = search needs
 
--- src/lib.rt:189:9
 kind-of-requires : tie.Need-kind-of-requires
 kind-of-requires c κs = search needs
 
--- src/lib.rt:191:70
 enum-told : tie.Need-enum-told
 enum-told c = search needs
 
--- src/lib.rt:191:70
 sub-net-of-void : tie.Need-sub-net-of-void
 sub-net-of-void c = search needs
 
--- src/lib.rt:191:42
 net-of-void-requires : tie.Need-net-of-void-requires
 net-of-void-requires c κs = search needs
 
--- src/lib.rt:191:23
 cubic-metres-requires : tie.Need-cubic-metres-requires
 cubic-metres-requires c κs = let pre = c .before .before .before .before .before .before .before .pre in net-fits (pre .0) 7 (omega arith) 0 (pre .2) (c .net-of-void .ensures)
 
--- src/lib.rt:192:86
 sub-net-of-solid : tie.Need-sub-net-of-solid
 sub-net-of-solid c = search needs
 
--- src/lib.rt:192:57
 net-of-solid-requires : tie.Need-net-of-solid-requires
 net-of-solid-requires c κs = search needs
 
--- src/lib.rt:192:38
 cubic-metres-requires-2 : tie.Need-cubic-metres-requires-2
 cubic-metres-requires-2 c κs = let pre = c .before .before .before .before .before .before .pre in net-fits (pre .0) 7 (omega arith) 0 (pre .2) (c .net-of-solid .ensures)
 
--- src/lib.rt:185:1
 returns : tie.Need-returns
 returns c = toZ-ofZ w64 (c .cubic-metres .result) (record { sfits = c .cubic-metres .ok }) ∙ c .cubic-metres .ensures ∙ ap figure (c .before .net-of-void .ensures .is)
 
--- src/lib.rt:185:1
 returns-2 : tie.Need-returns-2
 returns-2 c = toZ-ofZ w64 (c .cubic-metres2 .result) (record { sfits = c .cubic-metres2 .ok }) ∙ c .cubic-metres2 .ensures ∙ ap figure (c .before .net-of-solid .ensures .is)
 

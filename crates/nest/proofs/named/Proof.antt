@@ -1,21 +1,14 @@
 -- `named` meets its contract.
 use Rattle.nest.proofs.Asking.{first-named, unnamed, later-named}
-use native.Mathlib.Omega.{arith}
-use borrow.Author.Needs.{needs}
 use Rattle.nest.proofs.named.Statement.{statement}
 use Rattle.nest.proofs.named.Tie as tie
-use Rattle.nest.proofs.named.Reads as reads
-use Rattle.nest.proofs.named.Lts as lts
 
--- src/lib.rt:81:9
 returns : tie.Need-returns
 returns c = rw (c .if1 .taken) (first-named (c .before .args .name))
 
--- src/lib.rt:84:9
 returns-2 : tie.Need-returns-2
 returns-2 c = unnamed (c .before .before .args .i) (c .before .before .args .name) (c .before .if1 .left) (c .if2 .taken)
 
--- src/lib.rt:77:1
 returns-3 : tie.Need-returns-3
 returns-3 c = later-named (c .before .before .args .i) (c .before .before .args .name) (c .before .if1 .left) (c .if2 .left)
 
