@@ -1,6 +1,5 @@
--- Wrong programs: what each answers on a small job does not satisfy the words of the contract. In units of a cubic metre (6,000,000), a station of 3
--- has a pillar of 2, and the pillar a void of 1.
-use mathlib.Core.Path.{_≡_, refl, sym, _∙_, ap}
+-- Wrong programs: each is asked a small job, of which the right figure is answered, and what it answers does not satisfy the words of the contract.
+use mathlib.Core.Path.{_≡_, refl, sym, _∙_, ap, subst}
 use mathlib.Core.Bool.{true, false, cond}
 use mathlib.Core.List.{List, [], _∷_, map}
 use Prim.Native.Nat.{ℕ, zero, suc, _+_, _*_, _%_, _^_, _≤_, _<_}
@@ -13,12 +12,14 @@ use Rattle.wide.specs.Rounding.{figure}
 use Rattle.jobform.specs.declared.Name.{Name}
 use Rattle.jobform.specs.declared.Name.the-variants.{Nothing, Number}
 use Rattle.jobform.specs.declared.Entry.{Entry}
+use Rattle.jobform.specs.Inner.{kept-name}
 use Rattle.text.specs.Decimal.{digits, decimal}
 use Rattle.text.proofs.Digits.{below-digits}
 use Rattle.jobform.specs.JobSheet.{ShortName, InForm, AllInForm, job-text, JobSheetOf}
 use Rattle.nest.specs.declared.Kind.{Kind}
 use Rattle.nest.specs.declared.Kind.the-variants.{Other}
-use Rattle.nest.specs.Questions.{void-letter, solid-letter, At, Every, Marked, Named}
+use Rattle.nest.specs.Questions.{void-letter, solid-letter, kind, At, Every, Counted, Marked, NameGood, Named, Deep, top, below}
+use Rattle.nest.specs.Limits.{most-sum}
 use Rattle.nest.specs.Inner.{kind-number}
 use Rattle.nest.specs.Net.{is-void, is-solid, stands, added, Nets, told-sum}
 use Rattle.nest.proofs.Entries.{at-get}
@@ -28,9 +29,10 @@ use Rattle.job.specs.declared.JobVerdict.the-variants as verdict
 use Rattle.job.specs.declared.Job.the-variants.{Net, Refused}
 use Rattle.job.specs.Number.{number}
 use Rattle.job.specs.Outcome.{job-refusals, JobFirst, JobAnswered, refused, answered}
+use Rattle.job.specs.Inner.{Passing}
 use Rattle.job.proofs.Judging.{verdicts}
 use Rattle.job.proofs.Answering.{fails-of, fails-there}
-use Rattle.job.proofs.Laws.{no-net, one-refusal, told-net}
+use Rattle.job.proofs.Laws.{no-net, one-refusal, told-net, answers}
 
 abbrev void : Name → ℤ → Entry
 void n z = record { letter = void-letter; name = n; sum = z }
@@ -38,13 +40,17 @@ void n z = record { letter = void-letter; name = n; sum = z }
 abbrev solid : Name → ℤ → Entry
 solid n z = record { letter = solid-letter; name = n; sum = z }
 
+-- a station and n solids directly in it
+abbrev star : ℕ → ℤ → ℤ → List Entry
+star n x y = void Nothing x ∷ replicate n (solid (Number 0) y)
+
 -- a station with a pillar
 abbrev pair : ℤ → ℤ → List Entry
-pair station pillar = void Nothing station ∷ solid (Number 0) pillar ∷ []
+pair x y = star 1 x y
 
 -- and a void in the pillar
 abbrev three : ℤ → ℤ → ℤ → List Entry
-three station pillar room = void Nothing station ∷ solid (Number 0) pillar ∷ void (Number 1) room ∷ []
+three x y z = void Nothing x ∷ solid (Number 0) y ∷ void (Number 1) z ∷ []
 
 -- ---- their sheets
 
@@ -87,6 +93,91 @@ three-net x y z net n =
     n .of-void 0 (void Nothing x) refl refl
     ∙ ap (λ u. x -ℤ ((pos 0 +ℤ u) +ℤ pos 0)) (n .of-solid 1 (solid (Number 0) y) refl refl ∙ ap (λ w. y -ℤ (pos 0 +ℤ w)) (n .of-void 2 (void (Number 1) z) refl refl))
 
+-- ---- each of them passes
+
+kinds-apart : {k l : Kind} → (kind-number k ≡ kind-number l → ⊥) → k ≡ l → ⊥
+kinds-apart apart e = apart (ap kind-number e)
+
+names-apart : {n m : Name} → (kept-name n ≡ kept-name m → ⊥) → n ≡ m → ⊥
+names-apart apart e = apart (ap kept-name e)
+
+pair-counted : {x y : ℤ} → Counted (pair x y)
+pair-counted = record { some = omega arith; few = omega arith }
+
+-- an entry is the station or one of the solids
+of-star : (P : ℕ → Entry → Type 0) (n : ℕ) (x y : ℤ) → P 0 (void Nothing x) → ((k : ℕ) → P (suc k) (solid (Number 0) y)) → (i : ℕ) (e : Entry) → At (star n x y) i e → P i e
+of-star P n x y station others zero e a = subst (P 0) a station
+of-star P n x y station others (suc k) e a = subst (P (suc k)) (all-one n k a) (others k)
+  where
+    all-one : (n k : ℕ) → At (replicate n (solid (Number 0) y)) k e → solid (Number 0) y ≡ e
+    all-one zero k a = absurd a
+    all-one (suc n) zero a = a
+    all-one (suc n) (suc k) a = all-one n k a
+
+module _ (x y : ℤ) (small : natAbs x ≤ most-sum) (small′ : natAbs y ≤ most-sum) (n : ℕ) where
+  station-deep : {d : ℕ} → Deep (star n x y) 0 d → d ≤ 1
+  station-deep (top e a m) = omega arith
+  station-deep (below e a m p) = absurd (names-apart (λ k. (let z = k in omega arith)) (ap (λ d. d .name) a ∙ m))
+
+  solid-deep : (k : ℕ) {d : ℕ} → Deep (star n x y) (suc k) d → d ≤ 8
+  solid-deep k (top e a m) = omega arith
+  solid-deep k (below {j = j} {d = d} e a m p) =
+      let named : e .name ≡ Number 0 = of-star (λ i c. (i ≡ 0 → ⊥) → c .name ≡ Number 0) n x y (λ z. absurd (z refl)) (λ k z. refl) (suc k) e a (λ z. (let q = z in omega arith)) in
+      let first : _≡_ {A = ℕ} (suc j) 1 = ap kept-name (sym m ∙ named) in
+      let zeroth : j ≡ 0 = omega arith in
+      let h = station-deep (subst (λ (i : ℕ). Deep (star n x y) i d) zeroth p) in
+      omega arith
+
+  star-alternates : (k j : ℕ) (d : Entry) → Number 0 ≡ Number j → At (star n x y) j d → ¬ (kind (solid (Number 0) y) ≡ kind d)
+  star-alternates k zero d m a h = kinds-apart (λ q. (let z = q in omega arith)) (h ∙ sym (ap kind a))
+  star-alternates k (suc j) d m a h = names-apart (λ q. (let z = q in omega arith)) m
+
+  star-passing : Passing (star n x y)
+  star-passing = record {
+    marked = of-star (λ i e. ¬ (kind e ≡ Other)) n x y (kinds-apart (λ q. (let z = q in omega arith))) (λ k. kinds-apart (λ q. (let z = q in omega arith)));
+    named = of-star (λ i e. NameGood i (e .name)) n x y tt (λ k. omega arith);
+    alternates = of-star (λ i e. (j : ℕ) (d : Entry) → e .name ≡ Number j → At (star n x y) j d → ¬ (kind e ≡ kind d)) n x y (λ j d m a h. names-apart (λ q. (let z = q in omega arith)) m) star-alternates;
+    shallow = of-star (λ i e. (d : ℕ) → Deep (star n x y) i d → d ≤ 8) n x y (λ d p. (let h = station-deep p in omega arith)) (λ k d p. solid-deep k p);
+    sums = of-star (λ i e. natAbs (e .sum) ≤ most-sum) n x y small (λ k. small′);
+  }
+
+-- no entry stands deeper than its own place
+place-deep : {es : List Entry} → Every Named es → {i d : ℕ} → Deep es i d → d ≤ suc i
+place-deep named (top e a m) = omega arith
+place-deep {es} named {i} (below {j = j} e a m p) = let g = named i e a in let h = place-deep named p in go i (subst (NameGood i) m g) h
+  where
+    go : (i : ℕ) {d : ℕ} → NameGood i (Number j) → d ≤ suc j → suc d ≤ suc i
+    go zero g h = absurd g
+    go (suc i) g h = omega arith
+
+module _ (x y z : ℤ) (small : natAbs x ≤ most-sum) (small′ : natAbs y ≤ most-sum) (small″ : natAbs z ≤ most-sum) where
+  of-three : (P : ℕ → Entry → Type 0) → P 0 (void Nothing x) → P 1 (solid (Number 0) y) → P 2 (void (Number 1) z) → (i : ℕ) (e : Entry) → At (three x y z) i e → P i e
+  of-three P a b c zero e q = subst (P 0) q a
+  of-three P a b c (suc zero) e q = subst (P 1) q b
+  of-three P a b c (suc (suc zero)) e q = subst (P 2) q c
+  of-three P a b c (suc (suc (suc i))) e q = absurd q
+
+  three-named : Every Named (three x y z)
+  three-named = of-three (λ i e. NameGood i (e .name)) tt (omega arith) (omega arith)
+
+  three-passing : Passing (three x y z)
+  three-passing = record {
+    marked = of-three (λ i e. ¬ (kind e ≡ Other)) (kinds-apart (λ q. (let k = q in omega arith))) (kinds-apart (λ q. (let k = q in omega arith))) (kinds-apart (λ q. (let k = q in omega arith)));
+    named = three-named;
+    alternates = of-three (λ i e. (j : ℕ) (d : Entry) → e .name ≡ Number j → At (three x y z) j d → ¬ (kind e ≡ kind d)) (λ j d m a h. names-apart (λ q. (let k = q in omega arith)) m) pillar room;
+    shallow = of-three (λ i e. (d : ℕ) → Deep (three x y z) i d → d ≤ 8) (λ d p. (let h = place-deep three-named p in omega arith)) (λ d p. (let h = place-deep three-named p in omega arith)) (λ d p. (let h = place-deep three-named p in omega arith));
+    sums = of-three (λ i e. natAbs (e .sum) ≤ most-sum) small small′ small″;
+  }
+    where
+      pillar : (j : ℕ) (d : Entry) → Number 0 ≡ Number j → At (three x y z) j d → ¬ (kind (solid (Number 0) y) ≡ kind d)
+      pillar zero d m a h = kinds-apart (λ q. (let k = q in omega arith)) (h ∙ sym (ap kind a))
+      pillar (suc j) d m a h = names-apart (λ q. (let k = q in omega arith)) m
+
+      room : (j : ℕ) (d : Entry) → Number 1 ≡ Number j → At (three x y z) j d → ¬ (kind (void (Number 1) z) ≡ kind d)
+      room zero d m a h = names-apart (λ q. (let k = q in omega arith)) m
+      room (suc zero) d m a h = kinds-apart (λ q. (let k = q in omega arith)) (h ∙ sym (ap kind a))
+      room (suc (suc j)) d m a h = names-apart (λ q. (let k = q in omega arith)) m
+
 -- ---- the impostors
 
 two-figures : (a b : ℕ) → pos a ≡ pos b → (a ≡ b → ⊥) → ⊥
@@ -97,26 +188,32 @@ two-below a b e apart = apart (sym (abs-neg (pos a)) ∙ ap natAbs e ∙ abs-neg
 
 -- each entry rounded before it is taken off: one cubic metre for a sum of 3,000,000, and none taken off it for one of 2,999,999; the net is a
 -- six-millionth, and its figure 0
-pub each-rounded : ¬ JobAnswered (job-text (pair (pos 3000000) (pos 2999999))) (Net (figure (pos 3000000) -ℤ figure (pos 2999999)))
+pub each-rounded : JobAnswered (job-text (pair (pos 3000000) (pos 2999999))) (Net (pos 0)) × ¬ JobAnswered (job-text (pair (pos 3000000) (pos 2999999))) (Net (figure (pos 3000000) -ℤ figure (pos 2999999)))
 unfolding figure
-each-rounded a = two-figures 1 0 (told-net _ a (pair-sheet (pos 3000000) (pos 2999999) (omega arith) (omega arith)) (pair-net (pos 3000000) (pos 2999999))) (λ e. (let k = e in omega arith))
+each-rounded =
+    let s = pair-sheet (pos 3000000) (pos 2999999) (omega arith) (omega arith) in
+    let n = pair-net (pos 3000000) (pos 2999999) in
+    (answers s pair-counted (star-passing (pos 3000000) (pos 2999999) (omega arith) (omega arith) 1) _ n, λ a. two-figures 1 0 (told-net _ a s n) (λ e. (let k = e in omega arith)))
 
 -- a solid added: 2 for a station of 1 with a pillar of 1, where nothing is left
-pub solid-added : ¬ JobAnswered (job-text (pair (pos 6000000) (pos 6000000))) (Net (figure (pos 6000000 +ℤ pos 6000000)))
+pub solid-added : JobAnswered (job-text (pair (pos 6000000) (pos 6000000))) (Net (pos 0)) × ¬ JobAnswered (job-text (pair (pos 6000000) (pos 6000000))) (Net (figure (pos 6000000 +ℤ pos 6000000)))
 unfolding figure
-solid-added a = two-figures 2 0 (told-net _ a (pair-sheet (pos 6000000) (pos 6000000) (omega arith) (omega arith)) (pair-net (pos 6000000) (pos 6000000))) (λ e. (let k = e in omega arith))
+solid-added =
+    let s = pair-sheet (pos 6000000) (pos 6000000) (omega arith) (omega arith) in
+    let n = pair-net (pos 6000000) (pos 6000000) in
+    (answers s pair-counted (star-passing (pos 6000000) (pos 6000000) (omega arith) (omega arith) 1) _ n, λ a. two-figures 2 0 (told-net _ a s n) (λ e. (let k = e in omega arith)))
 
 -- what stands two levels down taken off again: 1 for the station of 3 whose net is 2
-pub taken-off-again : ¬ JobAnswered (job-text (three (pos 18000000) (pos 12000000) (pos 6000000))) (Net (figure ((pos 18000000 -ℤ (pos 12000000 -ℤ pos 6000000)) -ℤ pos 6000000)))
+pub taken-off-again : JobAnswered (job-text (three (pos 18000000) (pos 12000000) (pos 6000000))) (Net (pos 2)) × ¬ JobAnswered (job-text (three (pos 18000000) (pos 12000000) (pos 6000000))) (Net (figure ((pos 18000000 -ℤ (pos 12000000 -ℤ pos 6000000)) -ℤ pos 6000000)))
 unfolding figure
-taken-off-again a =
-    two-figures 1 2 (told-net _ a (three-sheet (pos 18000000) (pos 12000000) (pos 6000000) (omega arith) (omega arith) (omega arith)) (three-net (pos 18000000) (pos 12000000) (pos 6000000))) (λ e. (let k = e in omega arith))
+taken-off-again =
+    let s = three-sheet (pos 18000000) (pos 12000000) (pos 6000000) (omega arith) (omega arith) (omega arith) in
+    let n = three-net (pos 18000000) (pos 12000000) (pos 6000000) in (
+      answers s (record { some = omega arith; few = omega arith }) (three-passing (pos 18000000) (pos 12000000) (pos 6000000) (omega arith) (omega arith) (omega arith)) _ n,
+      λ a. two-figures 1 2 (told-net _ a s n) (λ e. (let k = e in omega arith)),
+    )
 
 -- ---- a sum taken modulo 2^64
-
--- a station and n solids directly in it
-abbrev star : ℕ → ℤ → ℤ → List Entry
-star n x y = void Nothing x ∷ replicate n (solid (Number 0) y)
 
 -- the largest sums: 32 of them pass 2^64
 abbrev largest : ℕ
@@ -179,9 +276,13 @@ module _ (n : ℕ) where
 
 -- a station of the largest sum below zero with 31 solids of the largest above it: the net is 32 of them below zero, which past 2^64 would come
 -- round to another figure
-pub comes-round : ¬ JobAnswered (job-text (star 31 (negℤ (pos largest)) (pos largest))) (Net (figure (negℤ (pos (32 * largest % 2 ^ 64)))))
+pub comes-round : JobAnswered (job-text (star 31 (negℤ (pos largest)) (pos largest))) (Net (negℤ (pos 4096000000000))) × ¬ JobAnswered (job-text (star 31 (negℤ (pos largest)) (pos largest))) (Net (figure (negℤ (pos (32 * largest % 2 ^ 64)))))
 unfolding figure
-comes-round a = two-below 1021542654382 4096000000000 (told-net _ a (star-sheet 31 (omega arith)) (star-net 31)) (λ e. (let k = e in omega arith))
+comes-round =
+    let s = star-sheet 31 (omega arith) in (
+      answers s (record { some = omega arith; few = omega arith }) (star-passing (negℤ (pos largest)) (pos largest) (omega arith) (omega arith) 31) _ (star-net 31),
+      λ a. two-below 1021542654382 4096000000000 (told-net _ a s (star-net 31)) (λ e. (let k = e in omega arith)),
+    )
 
 -- ---- the order of 22 and 23 exchanged
 
@@ -200,13 +301,10 @@ muddle-size : length (job-text muddle) ≡ 30
 unfolding decimal digits
 muddle-size = refl
 
-a-kind : {X : Type 0} {k : Kind} → kind-number k < 2 → k ≡ Other → X
-a-kind h e = let z = ap kind-number e in absurd (omega arith)
-
 muddle-marked : Every Marked muddle
-muddle-marked zero e a = rw (sym a) (a-kind (omega arith))
-muddle-marked (suc zero) e a = rw (sym a) (a-kind (omega arith))
-muddle-marked (suc (suc zero)) e a = rw (sym a) (a-kind (omega arith))
+muddle-marked zero e a = rw (sym a) (kinds-apart (λ q. (let k = q in omega arith)))
+muddle-marked (suc zero) e a = rw (sym a) (kinds-apart (λ q. (let k = q in omega arith)))
+muddle-marked (suc (suc zero)) e a = rw (sym a) (kinds-apart (λ q. (let k = q in omega arith)))
 muddle-marked (suc (suc (suc i))) e a = absurd a
 
 misnamed : ¬ Every Named muddle

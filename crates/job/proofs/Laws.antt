@@ -1,18 +1,18 @@
 -- What a job's answer comes to, and which jobs are answered.
 use mathlib.Core.Path.{_≡_, sym, _∙_, ap, subst}
 use mathlib.Core.List.{List}
-use Prim.Native.Nat.{ℕ, _≤_}
+use Prim.Native.Nat.{ℕ}
 use native.Mathlib.Omega.{arith}
 use lib.IntN.{ℤ}
-use lib.ListN.{length}
 use Rattle.refusal.proofs.Laws.{_nor_, none-yet, first-one, passes-none}
 use Rattle.wide.specs.Rounding.{figure}
 use Rattle.jobform.specs.declared.Entry.{Entry}
-use Rattle.jobform.specs.Limits.{most-job-bytes}
 use Rattle.jobform.specs.JobSheet.{JobSheetOf}
 use Rattle.jobform.proofs.Forming.{one-job}
+use Rattle.jobform.proofs.Sizes.{sheet-size}
 use Rattle.nest.specs.Questions.{Counted}
 use Rattle.nest.specs.Net.{Nets, told-sum}
+use Rattle.nest.proofs.Netting.{Sound, nets-there}
 use Rattle.job.specs.declared.JobRefusal.{JobRefusal}
 use Rattle.job.specs.declared.JobVerdict.the-variants as verdict
 use Rattle.job.specs.declared.Job.{Job}
@@ -44,12 +44,12 @@ told-net z (refused first e) s one = no-net e
 told-net z (answered es′ net first s′ n e) s one = same-figure e ∙ ap figure (one net (subst (λ x. Nets x (told-sum x) net) (sym (one-job s′ s)) n))
 
 -- a job of which every question is answered well is answered
-module _ {b : List ℕ} {es : List Entry} (size : length b ≤ most-job-bytes) (s : JobSheetOf b es) (c : Counted es) (p : Passing es) where
+module _ {b : List ℕ} {es : List Entry} (s : JobSheetOf b es) (c : Counted es) (p : Passing es) where
   pub passes : JobFirst b verdict.Passes
   unfolding job-refusals
   passes =
       passes-none verdicts (job-refusals b) .1 (
-      (λ h. (let k = h in omega arith))
+      (λ h. (let k = h in omega (arith, sheet-size s (c .few))))
       nor (λ none. none es s)
       nor (λ f. fails-there s f c)
       nor (λ f. fails-there s f (p .marked))
@@ -62,3 +62,10 @@ module _ {b : List ℕ} {es : List Entry} (size : length b ≤ most-job-bytes) (
   pub accepted : {a : Job} → JobAnswered b a → (f : ℤ) × (a ≡ Net f)
   accepted (refused first e) = absurd (verdicts .none (first-one verdicts (job-refusals b) first passes))
   accepted (answered es′ net first s′ n e) = (figure (net 0), e)
+
+  -- with the figure of the one topmost net
+  pub answers : (z : ℤ) → ((net : ℕ → ℤ) → Nets es (told-sum es) net → net 0 ≡ z) → JobAnswered b (Net (figure z))
+  answers z one =
+      let sound : Sound es = record { some = c .some; marked = p .marked; named = p .named; alternates = p .alternates; shallow = p .shallow } in
+      let n = nets-there sound in
+      answered es _ passes s n (ap (λ y. Net (figure y)) (sym (one _ n)))

@@ -5,6 +5,8 @@ use Prim.Native.Nat.{_-_, _<_}
 use native.Mathlib.Omega.{arith}
 use lib.IntN.{ℤ}
 use lib.ListN.{getD}
+use Rattle.refusal.specs.declared.Refusal.the-variants as refusal
+use Rattle.refusal.specs.Number as refusals
 use Rattle.refusal.specs.Told.{Told, done}
 use Rattle.job.specs.declared.JobRefusal.{JobRefusal}
 use Rattle.job.specs.declared.JobRefusal.the-variants.{SheetForm, JobCount, JobKind, JobName, JobAlternation, JobDepth, JobSum}
@@ -25,6 +27,10 @@ numbered JobName = (omega arith, refl)
 numbered JobAlternation = (omega arith, refl)
 numbered JobDepth = (omega arith, refl)
 numbered JobSum = (omega arith, refl)
+
+-- a bad form has 01's number
+pub form-number : number SheetForm ≡ refusals.number refusal.SheetForm
+form-number = refl
 
 pub tells-refusal : (r s : JobRefusal) → refused r ≡ refused s → r ≡ s
 tells-refusal r s e = sym (numbered r .1) ∙ ap (λ (t : Told). getD in-order (t .number - 19) SheetForm) e ∙ numbered s .1

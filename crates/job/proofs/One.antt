@@ -1,20 +1,14 @@
 -- A job of one void: its net is its own sum.
 use mathlib.Core.Path.{_≡_, refl, sym, _∙_, ap}
-use mathlib.Core.List.{List, [], _∷_, _++_}
+use mathlib.Core.List.{List, [], _∷_}
 use Prim.Native.Nat.{ℕ, zero, suc, _≤_}
 use native.Mathlib.Omega.{arith}
-use lib.IntN.{ℤ, pos, natAbs, +ℤ-idr}
-use lib.ListN.{length, length-append}
+use lib.IntN.{ℤ, natAbs, +ℤ-idr}
 use Rattle.wide.specs.Rounding.{figure}
-use Rattle.text.specs.Decimal.{signed}
-use Rattle.lines.specs.Lines.{newline, line}
-use Rattle.lines.proofs.Lengths.{line-length}
-use Rattle.heading.proofs.Sizes.{signed-size, fields-size}
 use Rattle.jobform.specs.declared.Name.the-variants.{Nothing, Number}
 use Rattle.jobform.specs.declared.Entry.{Entry}
-use Rattle.jobform.specs.Limits.{most-job-bytes}
 use Rattle.jobform.specs.Inner.{kept-name}
-use Rattle.jobform.specs.JobSheet.{JOB, entry-line, JobSheetOf}
+use Rattle.jobform.specs.JobSheet.{JobSheetOf}
 use Rattle.nest.specs.Limits.{most-sum}
 use Rattle.nest.specs.Questions.{void-letter, kind, At, Every, Marked, Named, Alternates, Deep, top, below, SumIn}
 use Rattle.nest.specs.Net.{added, Nets, told-sum}
@@ -60,24 +54,9 @@ module _ (z : ℤ) where
   sums small zero e a = rw (sym a) small
   sums small (suc i) e a = absurd a
 
-  alone-size : {b : List ℕ} → JobSheetOf b (alone z ∷ []) → length b ≤ most-job-bytes
-  alone-size s =
-      let e = ap length (s .text) in
-      let f = s .form .0 in
-      omega (
-        arith,
-        length-append (line JOB (pos 1 ∷ [])) (entry-line (alone z) ++ []),
-        line-length JOB (pos 1 ∷ []),
-        fields-size (pos 1 ∷ []) (s .short),
-        length-append (entry-line (alone z)) [],
-        length-append (signed z) (newline ∷ []),
-        signed-size z,
-        f .short-sum,
-      )
-
   -- its answer is the figure of its own sum
   pub alone-figure : natAbs z ≤ most-sum → {b : List ℕ} {a : Job} → JobSheetOf b (alone z ∷ []) → JobAnswered b a → a ≡ Net (figure z)
   alone-figure small {b} {a} s w =
       let p : Passing (alone z ∷ []) = record { marked = marked; named = named; alternates = alternates; shallow = (λ i e h d q. alone-shallow q); sums = sums small } in
-      let f = accepted (alone-size s) s (record { some = omega arith; few = omega arith }) p w in
+      let f = accepted s (record { some = omega arith; few = omega arith }) p w in
       f .1 ∙ ap Net (told-net z (rw (sym (f .1)) w) s alone-net)

@@ -6,11 +6,11 @@ use Rattle.job.specs.declared.JobRefusal.the-variants.{SheetForm, JobCou
 abbrev pub number : JobRefusal → ℕ
 -- sheet not in its form, or too long
 number SheetForm = 12
--- entries outside limits
+-- entries outside limits: none, or too many
 number JobCount = 20
 -- a kind that is neither V nor S
 number JobKind = 21
--- a name that is no earlier entry's
+-- a name that is no earlier entry's, or `-` in any but the first, or a number in the first
 number JobName = 22
 -- kinds that do not alternate
 number JobAlternation = 23

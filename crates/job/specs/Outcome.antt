@@ -18,13 +18,14 @@ use Rattle.job.specs.declared.JobVerdict.the-variants as verdict
 use Rattle.job.specs.declared.Job.{Job}
 use Rattle.job.specs.declared.Job.the-variants.{Net, Refused}
 
--- b is a job sheet whose entries do not all answer a question well
+-- b is a job sheet whose entries are not good in one way
 pub record Fails (b : List ℕ) (Good : List Entry → Type 0) : Type 0 where
   pub es : List Entry
   pub sheet : JobSheetOf b es
   pub not : ¬ Good es
 
--- "bad form or another number of lines 12, tested first"; "Order: count, kind, name, alternation, depth, sum"
+-- "bad form or another number of lines 12, tested first", and over 65,536 bytes is bad form, as of a sheet; "Order: count, kind, name, alternation,
+-- depth, sum"
 unfoldable pub job-refusals : List ℕ → List (Clause JobRefusal)
 job-refusals b =
     (SheetForm when (most-job-bytes < length b))

@@ -10,7 +10,7 @@ ghost use Rattle.job.specs.Inner.{Judged, Settled};
 use jobform::JobForm;
 use nest::Question;
 
-// One case for each number of 02's.
+// One case for each number of a job's list: 01's for a bad form, and 02's six.
 pub enum JobRefusal {
     SheetForm,
     JobCount,

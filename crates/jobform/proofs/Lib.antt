@@ -2,3 +2,4 @@ pub mod Parts
 pub mod Reading
 pub mod Keeping
 pub mod Forming
+pub mod Sizes

@@ -1,5 +1,5 @@
--- A job sheet: "First line `JOB` and the count; then per entry `J`, one capital letter, the entry's number from 0 or `-` for none, and the sum,
--- up to 18 digits; otherwise number and line rules as in 01".
+-- A job sheet: "First line `JOB` and the count; then per entry `J`, one capital letter (21 unless `V` or `S`), the entry's number from 0 or `-` for
+-- none, and the sum, up to 18 digits; otherwise number and line rules as in 01".
 use mathlib.Core.Path.{_≡_}
 use mathlib.Core.List.{List, [], _∷_, _++_}
 use Prim.Native.Nat.{ℕ, _≤_}

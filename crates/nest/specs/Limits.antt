@@ -5,6 +5,6 @@ use Prim.Native.Nat.{ℕ}
 abbrev pub most-depth : ℕ
 most-depth = 8
 
--- "768,000,000,000,000,000 either way": the largest sum of a stage
+-- "768,000,000,000,000,000 either way (1,024 rows of six products at the coordinate limit)"
 abbrev pub most-sum : ℕ
 most-sum = 768000000000000000

@@ -143,7 +143,8 @@ pub fn every(q: Question, letters: &[u8], names: &[u32], sums: &[i64]) -> bool
     true
 }
 
-// The net of a void: its own exact sum less the nets of the solids directly in it, nesting so much deeper.
+// The net of a void: its own exact sum less the nets of the solids directly in it. All that name it are solids, since kinds alternate; `left` is how
+// many levels may lie below.
 fn net_of_void(names: &[u32], sums: &[i64], i: usize, left: usize) -> Wide
     requires { ⌜ Summable (now names) (now sums) × (i < length (now names)) × (left < most-depth) ⌝ }
     ensures { λ r. ⌜ Exact (net-within left (now (names .entry)) (now (sums .entry)) i) r ⌝ }
@@ -162,7 +163,7 @@ fn net_of_void(names: &[u32], sums: &[i64], i: usize, left: usize) -> Wide
     wide::less(wide::enter(own), solids)
 }
 
-// The net of a solid, worked the same way over the voids directly in it.
+// The net of a solid, worked the same way over the voids directly in it, which are all that name it.
 fn net_of_solid(names: &[u32], sums: &[i64], i: usize, left: usize) -> Wide
     requires { ⌜ Summable (now names) (now sums) × (i < length (now names)) × (left < most-depth) ⌝ }
     ensures { λ r. ⌜ Exact (net-within left (now (names .entry)) (now (sums .entry)) i) r ⌝ }

@@ -28,6 +28,8 @@ use Rattle.job.specs.declared.Job.the-variants.{Net, Refused}
 use Rattle.job.specs.Answer as jobs
 use Rattle.job.specs.Outcome.{JobAnswered, refused, answered}
 use Rattle.job.proofs.Numbers as job-numbers
+use Rattle.job.proofs.Answering.{one-net}
+use Rattle.job.proofs.Writing.{written}
 use Rattle.job.proofs.Laws.{no-net, the-net, accepted}
 use Rattle.job.proofs.One.{alone, alone-figure}
 use Rattle.promises.specs.Stations.{NetTold, Filled, Stations}
@@ -41,6 +43,13 @@ net-told (Refused r) e = absurd (job-numbers.refused-done r e)
 module _ {b : List ℕ} {es : List Entry} {f : ℤ} (w : NetTold b es f) where
   told-figure : JobAnswered b (Net f)
   told-figure = rw (sym (net-told (w .answer) (w .tells))) (w .answered)
+
+  its-one : {net net′ : ℕ → ℤ} → Nets es (told-sum es) net → Nets es (told-sum es) net′ → net 0 ≡ net′ 0
+  its-one {net} {net′} n m = go told-figure
+    where
+      go : JobAnswered b (Net f) → net 0 ≡ net′ 0
+      go (refused first e) = no-net e
+      go (answered es′ worked first s k e) = one-net first (w .sheet) n m
 
   its-nets : (net : ℕ → ℤ) × Nets es (told-sum es) net
   its-nets = go told-figure
@@ -79,6 +88,9 @@ sum-of {xs} {t} {z} f = go (f .report)
 in-range : {xs : List ℤ} {t : List ℕ} {z : ℤ} → Filled xs t z → natAbs z ≤ most-sum
 in-range f = let s = sum-of f in rw (s .is) (sum-size (checked-coordinates (s .checked) refl))
 
+filled-own : (es : List Entry) {xs : List ℤ} {t : List ℕ} (i : ℕ) (e : Entry) → Filled xs t (e .sum) → At es i e → told-sum es i ≡ sixfold xs (rows t)
+filled-own es i e f a = at-get (λ d. d .sum) (pos 0) es i e a ∙ sum-of f .is
+
 -- nets of the same own sums
 same-own : {es : List Entry} {own own′ net : ℕ → ℤ} → ((i : ℕ) (e : Entry) → At es i e → own i ≡ own′ i) → Nets es own net → Nets es own′ net
 same-own {es} {net = net} same n = record {
@@ -96,14 +108,17 @@ alone-volume {xs} {t} {z} f s w r =
 
 pub stations : Stations
 stations = record {
-  accepts = λ size s c marked named alternates shallow sums w.
-      (let a = accepted size s c (record { marked = marked; named = named; alternates = alternates; shallow = shallow; sums = sums }) w in
+  writes = written;
+  accepts = λ s c marked named alternates shallow sums w.
+      (let a = accepted s c (record { marked = marked; named = named; alternates = alternates; shallow = shallow; sums = sums }) w in
       (a .0, ap jobs.told (a .1)));
   nets = its-nets;
+  one-net = λ w n m. its-one w n m;
   near = λ w n. within-half w n;
   nearest = λ w n. half-away w n;
-  volumes = λ {b} {es} xs t w filled n.
-      within-half w (same-own (λ i e a. sym (sum-of (filled i e a) .is) ∙ sym (at-get (λ d. d .sum) (pos 0) es i e a)) n);
+  nested = λ {b} {es} xs t w filled. (let n = its-nets w in (n .0, same-own (λ i e a. filled-own es i e (filled i e a) a) (n .1)));
+  volumes = λ {b} {es} xs t w filled n. within-half w (same-own (λ i e a. sym (filled-own es i e (filled i e a) a)) n);
+  bound = refl;
   fits = in-range;
   one-void = alone-volume;
 }

@@ -1,5 +1,5 @@
 // Exact sums wider than an i64, and the one rounding: 6,000,000 times a whole part, and a rest.
-// All here is inner: the calls that report sums and figures check the stages and their coordinates first.
+// All here is inner: the calls that report sums and figures bound them first, by a check of the stages or by what a job may hold.
 ghost use mathlib.Core.Path.{_≡_};
 ghost use lib.IntN.{_+ℤ_, _-ℤ_};
 ghost use Rattle.wide.specs.Rounding.{figure};
