@@ -4,9 +4,9 @@
  * A row is three corner numbers; corners are three coordinates each, in centimetres; a record is FLAXGLIMMER_WIDTH numbers of a log.
  *
  * status: 0 done, else the number of the first refusal that holds, FLAXGLIMMER_LIMIT_UNUSABLE to FLAXGLIMMER_RECORD_FAILS below, and of a job
- * FLAXGLIMMER_JOB_COUNT to FLAXGLIMMER_JOB_SUM; a later archive may answer further numbers. A refused call leaves every list that it was lent as it was, and each of its values is 0, those in lent
- * numbers and in a lent record too. But FLAXGLIMMER_RECORD_FAILS tells how many records were done before it, and leaves the stage that they led
- * to; flaxglimmer_recover also leaves those records in front of its log.
+ * FLAXGLIMMER_JOB_COUNT to FLAXGLIMMER_JOB_SUM; a later archive may answer further numbers. A refused call leaves every list that it was lent as
+ * it was, and each of its values is 0, those in lent numbers and in a lent record too. But FLAXGLIMMER_RECORD_FAILS tells how many records were
+ * done before it, and leaves the stage that they led to; flaxglimmer_recover also leaves those records in front of its log.
  *
  * What is lent. A list is a pointer and how many numbers (of a sheet or a text: bytes) stand there, its length. It is lent for the call alone:
  * nothing is kept, and nothing is freed.

@@ -15,7 +15,7 @@ use crate::place;
 use crate::protocol::*;
 use crate::refusal::{ALTERNATION, DEPTH, ENTRIES, KIND, NAME, SUM};
 
-/// What a stage of a real job has at most, so that six of them stay quick.
+/// What every stage of a real job but the first has at most, so that six of them stay quick.
 const FEW_ROWS: usize = 40;
 /// The least nets that 63 and 64 bits do not hold, but for the sign.
 pub const PAST_63: i128 = 1 << 63;

@@ -1,6 +1,6 @@
-//! 01's own cases: its trial skins, its slips, its limits and its sheet; its O as the log sheet of 02, cut and recovered;
-//! the feet and the jobs of 02. What is expected here is copied from them, or worked by hand, and both the driven programs and
-//! this program's own rules are held to it.
+//! 01's own cases: its trial skins, its slips, its limits and its sheet; its O as the log sheet of 02, cut and
+//! recovered; the feet and the jobs of 02. What is expected here is copied from them, or worked by hand, and both the
+//! driven programs and this program's own rules are held to it.
 
 use crate::answers::answer;
 use crate::bench::Bench;

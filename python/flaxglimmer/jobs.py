@@ -151,12 +151,17 @@ def below_zero(entries: list[Entry]) -> list[str]:
 
 
 def wrong(number: int, entries: list[Entry]) -> list[tuple[int | None, str]]:
-    """The entries that make a refusal of 20 to 25 true, each with what is wrong; None is the job as a whole."""
-    finders = {20: _count, 21: _kinds, 22: _names, 23: _alternation, 24: _depths, 25: _sums}
+    """The entries that make a refusal of a job true, each with what is wrong; None is the job as a whole."""
+    finders = {12: _length, 20: _count, 21: _kinds, 22: _names, 23: _alternation, 24: _depths, 25: _sums}
     found = list(finders[number](entries)) if number in finders else []
     if not found:
         raise OurFault(f"the library refuses by {number}, and no place of it is found")
     return found
+
+
+def _length(entries) -> Iterator:
+    if len(text(entries)) > LIMITS.MOST_JOB_BYTES:
+        yield None, f"{len(entries):,} entries, and their sheet would have over {LIMITS.MOST_JOB_BYTES:,} bytes"
 
 
 def _count(entries) -> Iterator:

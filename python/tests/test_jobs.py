@@ -333,7 +333,7 @@ def test_every_refusal_of_a_job_is_among_them():
 @pytest.mark.parametrize("sheet", [job(("S", "-", -MOST)), DEEP, WIDE, bush(0)])
 def test_no_finder_finds_anything_in_a_job_that_stands(sheet):
     assert expected(sheet)[0] == 0
-    for number in range(20, 26):
+    for number in (12, *range(20, 26)):
         with pytest.raises(fg.OurFault):
             jobs.wrong(number, jobs.entries_of(sheet))
 

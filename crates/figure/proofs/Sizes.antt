@@ -1,7 +1,7 @@
 -- How large a sum and a change can be, by the names of the limits: all fit a machine number.
 use mathlib.Core.Path.{_≡_}
 use mathlib.Core.List.{List, [], _∷_}
-use Prim.Native.Nat.{ℕ, _+_, _*_, _^_, _≤_, _<_}
+use Prim.Native.Nat.{ℕ, _*_, _^_, _≤_, _<_}
 use native.Mathlib.Omega.{arith}
 use lib.IntN.{ℤ, _-ℤ_, natAbs}
 use lib.ListN.{length}
@@ -43,13 +43,10 @@ module _ (xs : List ℤ) (r : InRange xs) where
   sixfold-size [] = omega arith
   sixfold-size (row a b c ∷ T) = omega (arith, abs-add (determinant xs a b c) (sixfold xs T), determinant-size a b c, sixfold-size T)
 
--- ---- what fits an i64: these two fail first where the limits grow
+-- ---- what fits an i64: this fails first where the limits grow
 
 pub sums-fit : sum-bound < 2 ^ 63
 sums-fit = omega arith
-
-pub changes-fit : sum-bound + sum-bound < 2 ^ 63
-changes-fit = omega arith
 
 module _ {T : List Row} {xs : List ℤ} (c : WithCoordinates T xs) where
   pub sum-size : natAbs (sixfold xs T) ≤ sum-bound
@@ -57,9 +54,6 @@ module _ {T : List Row} {xs : List ℤ} (c : WithCoordinates T xs) where
 
   pub sum-fits : SFits w64 (sixfold xs T)
   sum-fits = sfits-abs w64 _ (omega (arith, sum-size, sums-fit))
-
-pub change-fits : {T T′ : List Row} {xs : List ℤ} → WithCoordinates T xs → WithCoordinates T′ xs → SFits w64 (sixfold xs T′ -ℤ sixfold xs T)
-change-fits {T} {T′} {xs} c c′ = sfits-abs w64 _ (omega (arith, abs-minus (sixfold xs T′) (sixfold xs T), sum-size c, sum-size c′, changes-fit))
 
 -- ---- what fits an exact sum: 32 sums of as many rows as 16 tables have
 

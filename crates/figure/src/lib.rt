@@ -1,4 +1,4 @@
-// The figures: the exact sum of a stage, its volume, and the change between two stages, each an exact sum rounded once.
+// The exact sum of a stage; its volume and the change between two stages, each an exact sum rounded once.
 // All here is inner: the calls that report sums and figures check the stages and their coordinates first.
 use wide::Wide;
 ghost use mathlib.Core.Path.{_≡_};

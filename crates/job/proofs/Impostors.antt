@@ -1,4 +1,4 @@
--- Wrong programs: each is asked a small job, of which the right figure is answered, and what it answers does not satisfy the words of the contract.
+-- Wrong programs: each is asked a job to which the right answer is shown, and what it answers does not satisfy the words of the contract.
 use mathlib.Core.Path.{_≡_, refl, sym, _∙_, ap, subst}
 use mathlib.Core.Bool.{true, false, cond}
 use mathlib.Core.List.{List, [], _∷_, map}
@@ -7,7 +7,7 @@ use native.Mathlib.Omega.{arith}
 use lib.IntN.{ℤ, pos, negℤ, _+ℤ_, _-ℤ_, natAbs}
 use lib.ListN.{length, replicate, length-replicate, getD}
 use Rattle.ints.proofs.Ints.{abs-neg}
-use Rattle.refusal.proofs.Laws.{_nor_, none-yet, first-one, given-first}
+use Rattle.refusal.proofs.Laws.{_nor_, none-yet, given-first}
 use Rattle.wide.specs.Rounding.{figure}
 use Rattle.jobform.specs.declared.Name.{Name}
 use Rattle.jobform.specs.declared.Name.the-variants.{Nothing, Number}
@@ -28,11 +28,11 @@ use Rattle.job.specs.declared.JobRefusal.the-variants.{JobName, JobAlter
 use Rattle.job.specs.declared.JobVerdict.the-variants as verdict
 use Rattle.job.specs.declared.Job.the-variants.{Net, Refused}
 use Rattle.job.specs.Number.{number}
-use Rattle.job.specs.Outcome.{job-refusals, JobFirst, JobAnswered, refused, answered}
+use Rattle.job.specs.Outcome.{job-refusals, JobFirst, JobAnswered, refused}
 use Rattle.job.specs.Inner.{Passing}
 use Rattle.job.proofs.Judging.{verdicts}
-use Rattle.job.proofs.Answering.{fails-of, fails-there}
-use Rattle.job.proofs.Laws.{no-net, one-refusal, told-net, answers}
+use Rattle.job.proofs.Answering.{fails-of, fails-there, one-answer}
+use Rattle.job.proofs.Laws.{one-refusal, told-net, answers}
 
 abbrev void : Name → ℤ → Entry
 void n z = record { letter = void-letter; name = n; sum = z }
@@ -215,9 +215,9 @@ taken-off-again =
 
 -- ---- a sum taken modulo 2^64
 
--- the largest sums: 32 of them pass 2^64
+-- 32 of the largest sums pass 2^64
 abbrev largest : ℕ
-largest = 768000000000000000
+largest = most-sum
 
 module _ (x y : ℤ) where
   solids-form : (n : ℕ) → natAbs y < 10 ^ 18 → AllInForm (replicate n (solid (Number 0) y))
@@ -310,16 +310,14 @@ muddle-marked (suc (suc (suc i))) e a = absurd a
 misnamed : ¬ Every Named muddle
 misnamed every = let h = every 2 (solid (Number 7) (pos 0)) refl in omega arith
 
-pub asked-too-early : ¬ JobAnswered (job-text muddle) (Refused JobAlternation)
+misnamed-first : JobFirst (job-text muddle) (verdict.Refused JobName)
 unfolding job-refusals
-asked-too-early (answered es net first s n e) = no-net (sym e)
-asked-too-early (refused {r = r} first e) =
-    let right : JobFirst (job-text muddle) (verdict.Refused JobName) = given-first verdicts (
+misnamed-first = given-first verdicts (
     (λ h. (let k = muddle-size in omega arith))
     nor (λ none. none muddle muddle-sheet)
     nor (λ f. fails-there muddle-sheet f (record { some = omega arith; few = omega arith }))
     nor (λ f. fails-there muddle-sheet f muddle-marked)
-    nor none-yet) (fails-of muddle-sheet misnamed) in
-    let same : JobName ≡ r = verdicts .one (first-one verdicts (job-refusals (job-text muddle)) right first) in
-    let wrong : _≡_ {A = ℕ} 22 23 = ap number same ∙ ap number (sym (one-refusal e)) in
-    omega arith
+    nor none-yet) (fails-of muddle-sheet misnamed)
+
+pub asked-too-early : JobAnswered (job-text muddle) (Refused JobName) × ¬ JobAnswered (job-text muddle) (Refused JobAlternation)
+asked-too-early = (refused misnamed-first refl, λ a. (let k : _≡_ {A = ℕ} 22 23 = ap number (one-refusal (one-answer (refused misnamed-first refl) a)) in omega arith))

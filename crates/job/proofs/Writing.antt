@@ -1,4 +1,4 @@
--- Entries that answer the questions well can be written on a sheet.
+-- Entries whose count, kinds, names and sums are good can be written on a sheet.
 use mathlib.Core.Path.{_≡_, refl, sym}
 use mathlib.Core.List.{List, [], _∷_}
 use Prim.Native.Nat.{ℕ, zero, suc, _<_}

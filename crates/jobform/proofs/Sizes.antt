@@ -1,4 +1,4 @@
--- How long a job sheet of the most entries is: it never comes near the size limit.
+-- How long a job sheet is: none of at most 32 entries passes the size limit.
 use mathlib.Core.Path.{ap}
 use mathlib.Core.List.{List, [], _∷_, _++_}
 use Prim.Native.Nat.{ℕ, _*_, _≤_}

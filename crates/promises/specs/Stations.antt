@@ -35,7 +35,7 @@ pub record Filled (xs : List ℤ) (t : List ℕ) (z : ℤ) : Type 0 where
   pub line : z ≡ pos divisor *ℤ whole +ℤ pos rest
 
 pub record Stations : Type 0 where
-  -- entries within the limits can be written on a sheet
+  -- entries whose count, kinds, names and sums are good can be written on a sheet
   pub writes : {es : List Entry} → Counted es → Every Marked es → Every Named es → Every SumIn es → JobSheetOf (job-text es) es
   -- and every sheet of entries that answer each question well is answered with a figure
   pub accepts : {b : List ℕ} {es : List Entry} {a : Job} → JobSheetOf b es → Counted es → Every Marked es → Every Named es → Every Alternates es → Every Shallow es → Every SumIn es →
@@ -50,10 +50,10 @@ pub record Stations : Type 0 where
   pub nearest : {b : List ℕ} {es : List Entry} {f : ℤ} {net : ℕ → ℤ} → NetTold b es f → Nets es (told-sum es) net → Nearest (net 0) f
   -- where each entry's sum is filled in from a stage of its own, the volumes are so nested
   pub nested : {b : List ℕ} {es : List Entry} {f : ℤ} (xs : ℕ → List ℤ) (t : ℕ → List ℕ) → NetTold b es f → ((i : ℕ) (e : Entry) → At es i e → Filled (xs i) (t i) (e .sum)) →
-      (volumes : ℕ → ℤ) × Nets es (λ i. sixfold (xs i) (rows (t i))) volumes
+      (net : ℕ → ℤ) × Nets es (λ i. sixfold (xs i) (rows (t i))) net
   -- and it is within half a cubic metre of the volumes so nested
-  pub volumes : {b : List ℕ} {es : List Entry} {f : ℤ} (xs : ℕ → List ℤ) (t : ℕ → List ℕ) {nested : ℕ → ℤ} → NetTold b es f → ((i : ℕ) (e : Entry) → At es i e → Filled (xs i) (t i) (e .sum)) →
-      Nets es (λ i. sixfold (xs i) (rows (t i))) nested → WithinHalf (nested 0) f
+  pub volumes : {b : List ℕ} {es : List Entry} {f : ℤ} (xs : ℕ → List ℤ) (t : ℕ → List ℕ) {net : ℕ → ℤ} → NetTold b es f → ((i : ℕ) (e : Entry) → At es i e → Filled (xs i) (t i) (e .sum)) →
+      Nets es (λ i. sixfold (xs i) (rows (t i))) net → WithinHalf (net 0) f
   -- a sum may be as large as 1,024 rows of six products at the coordinate limit, so none that is filled in from a stage is out of range
   pub bound : most-sum ≡ most-rows * (6 * (most-coordinate * (most-coordinate * most-coordinate)))
   pub fits : {xs : List ℤ} {t : List ℕ} {z : ℤ} → Filled xs t z → natAbs z ≤ most-sum

@@ -20,7 +20,7 @@ use Rattle.figure.specs.Sum.{sixfold}
 use Rattle.volume.specs.declared.ExactSum.{ExactSum}
 use Rattle.volume.specs.declared.ExactSum.the-variants as exact
 use Rattle.volume.specs.Answer.{told-exact}
-use Rattle.volume.specs.Report.{VolumeReport, ExactReport, summed, unsummed, FigureOf}
+use Rattle.volume.specs.Report.{VolumeReport, ExactReport, summed, unsummed}
 use Rattle.volume.proofs.Laws.{volume-done, volume-refused, exact-done, exact-refused}
 
 -- ---- no second answer
@@ -47,6 +47,13 @@ told-exact-one (exact.Refused r) (exact.Refused s) e = ap exact.Refused (tells-r
 
 pub exact-sum-one : {xs : List ℤ} {t : List ℕ} (a b : ExactSum) → ExactReport xs t (told-exact a) → ExactReport xs t (told-exact b) → a ≡ b
 exact-sum-one a b p q = told-exact-one a b (exact-report-one p q)
+
+-- an exact sum is told, and the figure f is that of it
+pub record FigureOf (xs : List ℤ) (t : List ℕ) (f : ℤ) : Type 0 where
+  pub whole : ℤ
+  pub rest : ℕ
+  pub exact : ExactReport xs t (done (whole ∷ pos rest ∷ []))
+  pub rounded : f ≡ figure (pos divisor *ℤ whole +ℤ pos rest)
 
 module _ {xs : List ℤ} {t : List ℕ} where
   -- ---- the volume is the figure of the exact sum

@@ -3,7 +3,7 @@ use mathlib.Core.Path.{_≡_}
 use mathlib.Core.Bool.{false}
 use mathlib.Core.List.{List, [], _∷_}
 use Prim.Native.Nat.{ℕ}
-use lib.IntN.{ℤ, pos, _+ℤ_, _*ℤ_}
+use lib.IntN.{ℤ, pos}
 use Rattle.surface.specs.Rows.{rows}
 use Rattle.surface.specs.Stage.{Stage}
 use Rattle.corners.specs.Skin.{InRange}
@@ -19,7 +19,7 @@ use Rattle.faults.specs.Order.{refusals-at, CheckedStageAt}
 use Rattle.figure.specs.Sum.{sixfold}
 use Rattle.wide.specs.declared.Wide.{Wide}
 use Rattle.wide.specs.Wide.{Exact}
-use Rattle.wide.specs.Rounding.{divisor, figure, change, WithinHalf}
+use Rattle.wide.specs.Rounding.{figure, change, WithinHalf}
 use Rattle.volume.specs.declared.Measured.{Measured}
 use Rattle.volume.specs.Answer.{told}
 
@@ -51,10 +51,3 @@ pub record Near (s : ℤ) (a : Measured) : Type 0 where
   pub f : ℤ
   pub tells : told a ≡ done (f ∷ [])
   pub near : WithinHalf s f
-
--- an exact sum is told, and the figure f is that of it
-pub record FigureOf (xs : List ℤ) (t : List ℕ) (f : ℤ) : Type 0 where
-  pub whole : ℤ
-  pub rest : ℕ
-  pub exact : ExactReport xs t (done (whole ∷ pos rest ∷ []))
-  pub rounded : f ≡ figure (pos divisor *ℤ whole +ℤ pos rest)
