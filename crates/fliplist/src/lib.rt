@@ -1,0 +1,1 @@
+// Flipping a list of edges.

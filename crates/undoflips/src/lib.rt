@@ -1,0 +1,1 @@
+// Undoing a flip log.
