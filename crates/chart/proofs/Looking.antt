@@ -59,3 +59,28 @@ module _ (t : List ℕ) (w : length t % 3 ≡ 0) (a b r : ℕ) (f : Found t a b 
 
   pub found-edge : 0 < r → Edge (rows t) a b
   found-edge p = (getD t (next-slot (next-slot (r - 1))) 0, rw (f .from p, f .to p) at (at-follows t w (r - 1) (let u = f .upto in omega arith)))
+
+-- on the way down the chain of u to the slot e: x is a link above it, and y hangs on x
+pub record Walked (t : List ℕ) (u e x y : ℕ) : Type 0 where
+  pub link : Link t u x
+  pub over : e < top t x
+  pub hangs : Last t u (top t x) y
+  pub upto : y ≤ length t
+
+module _ (t : List ℕ) (u e : ℕ) where
+  pub walk-none : (y : ℕ) → e < length t → Last t u (length t) y → Walked t u e 0 y
+  unfolding Link top
+  walk-none y h l = record { link = _; over = h; hangs = l; upto = l .upto }
+
+  pub walk-more : (x y z : ℕ) → Walked t u e x y → e + 1 < y → Last t u (y - 1) z → Walked t u e y z
+  unfolding Link top
+  walk-more x zero z k h l = absurd (omega arith)
+  walk-more x (suc f) z k h l =
+      let s : suc f - 1 ≡ f = omega arith in
+      let up = k .upto in
+      let m : Last t u f z = rw s at l in
+      let n = m .upto in
+      record { link = (omega arith, rw s at (k .hangs .hit (omega arith))); over = omega arith; hangs = m; upto = omega arith }
+
+  pub walk-end : (x y : ℕ) → Walked t u e x y → y ≤ e + 1 → Above t u e x
+  walk-end x y k h = record { link = k .link; over = k .over; none = λ f i j. k .hangs .miss f (omega arith) j }

@@ -3,10 +3,8 @@
 use record::Corner;
 use record::Leaving;
 ghost use mathlib.Core.Path.{_≡_};
-ghost use mathlib.Core.List.{_∷_, []};
 ghost use Prim.Native.Nat.{_+_, _*_, _≤_, _<_};
 ghost use lib.ListN.{length, set};
-ghost use lib.Seq.{sets};
 ghost use Rattle.edges.specs.Sweep.{Found};
 ghost use Rattle.chart.specs.Chart.{InChains, Above, Numbered};
 ghost use Rattle.chart.specs.Links.{after, hung-last, hung-prev};
@@ -100,7 +98,7 @@ pub fn put_row(t: &mut [u32], last: &mut [usize], prev: &mut [usize], r: Leaving
     requires { ⌜ InChains (now t) (now last) (now prev) ⌝ }
     requires { ⌜ 3 * r .place .0 + 2 < length (now t) ⌝ }
     requires { ⌜ Numbered r (length (now last)) ⌝ }
-    ensures { λ _. ⌜ now (t .exit) ≡ sets (now (t .entry)) (3 * r .place .0) (r .a .0 ∷ r .b .0 ∷ r .c .0 ∷ []) ⌝ }
+    ensures { λ _. ⌜ now (t .exit) ≡ set (set (set (now (t .entry)) (3 * r .place .0) (r .a .0)) (3 * r .place .0 + 1) (r .b .0)) (3 * r .place .0 + 2) (r .c .0) ⌝ }
     ensures { λ _. ⌜ InChains (now (t .exit)) (now (last .exit)) (now (prev .exit)) ⌝ }
 {
     let e = 3 * (r.place.0 as usize);

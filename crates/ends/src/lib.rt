@@ -50,8 +50,8 @@ fn third_corner(r: Leaving, p: Corner, q: Corner) -> Third
     Third::Missing
 }
 
-// x of one row, y of the other.
-fn pair_of(r: Leaving, z: Leaving, kept: Corner, removed: Corner) -> Ends
+// Inner: x of one row, y of the other.
+pub fn pair_of(r: Leaving, z: Leaving, kept: Corner, removed: Corner) -> Ends
     ensures { λ e. ⌜ PairIs (kept .0) (removed .0) (row-of r) (row-of z) e ⌝ }
 {
     let x = third_corner(r, kept, removed);

@@ -1,55 +1,65 @@
+-- `above` meets its contract.
+use Prim.Native.Nat.{_-_}
+use Rattle.chart.proofs.Looking.{Walked, walk-none, walk-more, walk-end}
 use native.Mathlib.Omega.{arith}
 use borrow.Author.Needs.{needs}
 use Rattle.chart.proofs.above.Statement.{statement}
 use Rattle.chart.proofs.above.Tie as tie
-use Rattle.chart.proofs.above.Reads as reads
-use Rattle.chart.proofs.above.Lts as lts
 
 abbrev Inv-loop : tie.InvT-loop
-Inv-loop t last prev u e x₀ y₀ x y = ?
+Inv-loop t last prev u e x₀ y₀ x y = Walked t u e x y
 
 abbrev μ-loop : tie.MeasureT-loop
-μ-loop t last prev u e x₀ y₀ x y = ?
+μ-loop t last prev u e x₀ y₀ x y = y
 
--- src/lib.rt:41:17
 mul-y : tie.Need-mul-y Inv-loop μ-loop
-mul-y c = ?
+mul-y c = search needs
 
--- src/lib.rt:41:17
 shared-slice-read-y : tie.Need-shared-slice-read-y Inv-loop μ-loop
-shared-slice-read-y c = ?
+shared-slice-read-y c = search needs
 
--- src/lib.rt:42:5
 loop-holds : tie.Need-loop-holds Inv-loop μ-loop
-loop-holds c = ?
+loop-holds c =
+    let args = c .before .args in
+    let pre = c .before .pre in
+    walk-none (args .t .now) (args .u) (args .e) _ (pre .1 .1) (pre .0 .chained .heads .lasts (args .u) (pre .1 .0))
 
--- src/lib.rt:42:11
 add-loop : tie.Need-add-loop Inv-loop μ-loop
-add-loop c = ?
+add-loop c =
+    let pre = c .before .before .pre in
+    omega (arith, pre .1 .1)
 
--- src/lib.rt:44:18
 sub-y : tie.Need-sub-y Inv-loop μ-loop
-sub-y c = ?
+sub-y c = search needs
 
--- src/lib.rt:44:13
 mul-y-2 : tie.Need-mul-y-2 Inv-loop μ-loop
-mul-y-2 c = ?
+mul-y-2 c = search needs
 
--- src/lib.rt:44:13
 shared-slice-read-y-2 : tie.Need-shared-slice-read-y-2 Inv-loop μ-loop
-shared-slice-read-y-2 c = ?
+shared-slice-read-y-2 c = search needs
 
--- src/lib.rt:42:5
 loop-less : tie.Need-loop-less Inv-loop μ-loop
-loop-less c = ?
+loop-less c =
+    let pre = c .before .before .before .before .pre in
+    let loop = c .before .before .loop in
+    let up = loop .inv .upto in
+    omega (arith, (pre .0 .chained .links (loop .y - 1) (omega arith)) .upto)
 
--- src/lib.rt:42:5
 loop-again : tie.Need-loop-again Inv-loop μ-loop
-loop-again c = ?
+loop-again c =
+    let args = c .before .before .before .before .args in
+    let pre = c .before .before .before .before .pre in
+    let loop = c .before .before .loop in
+    let loop-test = c .before .loop-test in
+    let up = loop .inv .upto in
+    walk-more (args .t .now) (args .u) (args .e) (loop .x) (loop .y) _ (loop .inv) (loop-test .taken) (rw (loop .inv .hangs .hit (omega arith)) at (pre .0 .chained .links (loop .y - 1) (omega arith)))
 
--- src/lib.rt:34:1
 returns : tie.Need-returns Inv-loop μ-loop
-returns c = ?
+returns c =
+    let args = c .before .before .before .args in
+    let loop = c .before .loop in
+    let loop-test = c .loop-test in
+    walk-end (args .t .now) (args .u) (args .e) (loop .x) (loop .y) (loop .inv) (loop-test .left)
 
 pub above-spec : {M : Type 1} → statement M
 above-spec =
