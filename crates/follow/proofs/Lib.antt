@@ -1,3 +1,4 @@
 pub mod Leading
 pub mod Following
+pub mod Within
 pub mod Upto

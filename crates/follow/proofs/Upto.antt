@@ -4,11 +4,12 @@ use mathlib.Core.List.{[], _∷_, _++_}
 use Prim.Native.Nat.{ℕ, suc, _+_, _≤_, _<_}
 use native.Mathlib.Numerals.{add-one}
 use native.Mathlib.Omega.{arith}
-use lib.ListN.{length, take, drop, getD, take-append-drop}
-use lib.Seq.{take-suc, take-length, length-take-le, drop-cons}
+use lib.ListN.{length, take, drop, getD, take-append-drop, length-append}
+use lib.Seq.{take-suc, take-length, take-at, length-take-le, drop-cons}
 use Rattle.follow.specs.Leads.{Leads, no-step}
-use Rattle.follow.specs.Follow.{Call, Followed, all, some}
+use Rattle.follow.specs.Follow.{Call, Followed, all, some, Outcome}
 use Rattle.follow.proofs.Leading.{leads-more}
+use Rattle.follow.proofs.Following.{Apart, Did, outcome-reached}
 
 module _ {S I R Q A B : Type 0} (c : Call S I R Q A B) where
   -- k items are done, and they lead to t
@@ -39,3 +40,12 @@ module _ {S I R Q A B : Type 0} (c : Call S I R Q A B) where
         within = omega arith;
         led = rw (add-one k) (rw (take-suc (c .items) k i h ∙ ap (λ j. take k (c .items) ++ (j ∷ [])) is) (leads-more (u .led) d));
       }
+
+  -- what is left, all done or stopped, is what so many items lead to
+  pub outcome-upto : Apart (c .answers) → {a : A} {b : B} {k : ℕ} → Did (c .answers) k a → Outcome c a b → c .Else × (t : S) × Upto k t × (b ≡ c .left t)
+  outcome-upto x {k = k} d o =
+      let r = outcome-reached c x d o in
+      let q = r .6 .1 in
+      let e = ap length q ∙ length-append (r .2) (r .6 .0) in
+      let n = r .4 in
+      (r .0, r .1, record { within = omega arith; led = rw (ap (take k) q ∙ take-at (r .2) (r .6 .0) k n) (r .3) }, r .5)
