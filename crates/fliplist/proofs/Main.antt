@@ -1,6 +1,5 @@
 -- Flipping a list has one outcome, since its tables are stages, where a flip is one; and what it leaves, done or stopped, in table and log.
 use mathlib.Core.Path.{_≡_, refl, sym, _∙_, ap}
-use mathlib.Core.Logic.{inl, inr}
 use mathlib.Core.List.{List, [], _∷_, _++_, append-nil, append-assoc}
 use Prim.Native.Nat.{ℕ, suc, _*_, _≤_, _<_}
 use native.Mathlib.Omega.{arith}
@@ -18,6 +17,8 @@ use Rattle.surface.specs.Table.{Arrow, _⇒_}
 use Rattle.surface.specs.Stage.{Stage}
 use Rattle.surface.proofs.Flat.{rows-flat}
 use Rattle.flips.specs.Flip.{Flip, Flips}
+use Rattle.flips.specs.Kept.{SkinKept}
+use Rattle.flips.proofs.Keeping.{kept-none, kept-on, flip-keeps}
 use Rattle.flips.proofs.Flips.{flip-one, gone-joined, gone-flips, joined-flips}
 use Rattle.refusal.specs.declared.Refusal.{Refusal}
 use Rattle.refusal.specs.declared.Verdict.the-variants.{Passes}
@@ -33,9 +34,10 @@ use Rattle.flipped.specs.Answer.{told, FlipsTold}
 use Rattle.flipped.proofs.Telling.{flipped-apart, did}
 use Rattle.fliplog.specs.Layout.{edge-list, width, flip-log}
 use Rattle.fliplog.proofs.Logging.{flip-log-sound}
-use Rattle.fliplist.specs.Outcome.{FlipFits, flip-room, flip-refusals, Reached, FlipsOn, FlipRefused, Lent, flipping, FlippedAs}
-use Rattle.fliplist.specs.Left.{SkinKept, FlipsLeft}
-use Rattle.fliplist.proofs.Keeping.{kept-none, kept-on, flip-keeps, whole-table, kept-flat}
+use Rattle.flip.specs.Refused.{missing, blocked}
+use Rattle.fliplist.specs.Outcome.{FlipFits, flip-room, flip-refusals, Reached, FlipsOn, FlipStops, Lent, flipping, FlippedAs}
+use Rattle.fliplist.specs.Left.{FlipsLeft}
+use Rattle.fliplist.proofs.Keeping.{whole-table, kept-flat}
 
 module _ (n : ℕ) where
   -- the table is a stage
@@ -50,15 +52,15 @@ module _ (n : ℕ) where
       let e = flip-one z (f .1) (g .1) in
       λ j. record { table = e .1 j; log = (f .2 ∙ ap (λ k. s .log ++ (k ∷ [])) (e .0) ∙ sym (g .2)) j }
 
-  apart : (s s′ : Reached) (i : Arrow) (r : FlipRefusal) → OnStage s → FlipRefused s i r → FlipsOn s i s′ → ⊥
-  apart s s′ (a ⇒ b) r z (inl m) f = gone-flips (m .0) (f .1)
-  apart s s′ (a ⇒ b) r z (inr j) f = joined-flips z (j .0) (f .1)
+  apart : (s s′ : Reached) (i : Arrow) (r : FlipRefusal) → OnStage s → FlipStops s i r → FlipsOn s i s′ → ⊥
+  apart s s′ (a ⇒ b) r z (missing m e) f = gone-flips m (f .1)
+  apart s s′ (a ⇒ b) r z (blocked j e) f = joined-flips z j (f .1)
 
-  reason : (s : Reached) (i : Arrow) (r q : FlipRefusal) → FlipRefused s i r → FlipRefused s i q → r ≡ q
-  reason s (a ⇒ b) r q (inl m) (inl o) = m .1 ∙ sym (o .1)
-  reason s (a ⇒ b) r q (inl m) (inr j) = absurd (gone-joined (m .0) (j .0))
-  reason s (a ⇒ b) r q (inr j) (inl m) = absurd (gone-joined (m .0) (j .0))
-  reason s (a ⇒ b) r q (inr j) (inr o) = j .1 ∙ sym (o .1)
+  reason : (s : Reached) (i : Arrow) (r q : FlipRefusal) → FlipStops s i r → FlipStops s i q → r ≡ q
+  reason s (a ⇒ b) r q (missing m e) (missing o f) = e ∙ sym f
+  reason s (a ⇒ b) r q (missing m e) (blocked j f) = absurd (gone-joined m j)
+  reason s (a ⇒ b) r q (blocked j e) (missing m f) = absurd (gone-joined m j)
+  reason s (a ⇒ b) r q (blocked j e) (blocked o f) = e ∙ sym f
 
 -- an edge of a stage is flipped to one table with one record, or is refused by one number
 pub flipping-plain : (n : ℕ) (t edges l : List ℕ) → Plain (within (OnStage n) (flipping n t edges l))

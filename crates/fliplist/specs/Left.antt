@@ -1,27 +1,15 @@
 -- What the flips of a list leave: in table and log those done and no others, and a skin as it was before.
 use mathlib.Core.Path.{_≡_}
-use mathlib.Core.Logic.{_↔_}
 use mathlib.Core.List.{List, []}
 use Prim.Native.Nat.{ℕ, _*_, _≤_}
-use lib.IntN.{ℤ}
 use lib.ListN.{length, take, drop}
 use Rattle.follow.specs.Leads.{Leads}
-use Rattle.surface.specs.Rows.{Row, rows}
-use Rattle.surface.specs.Table.{Used}
-use Rattle.surface.specs.Stage.{Stage}
-use Rattle.surface.specs.Euler.{Euler}
+use Rattle.surface.specs.Rows.{rows}
 use Rattle.flips.specs.Flip.{Flip}
+use Rattle.flips.specs.Kept.{SkinKept}
 use Rattle.laid.specs.Laid.{laid, count, items}
 use Rattle.fliplog.specs.Layout.{edge-list, width, flip-log}
 use Rattle.fliplist.specs.Outcome.{FlipsOn}
-
--- "a closed oriented skin with the same corners and Euler number": a stage before and after, of as many rows
-pub record SkinKept (n : ℕ) (T T′ : List Row) : Type 0 where
-  pub before : Stage n T
-  pub after : Stage n T′
-  pub size : length T′ ≡ length T
-  pub used : {v : ℕ} → Used T v ↔ Used T′ v
-  pub euler : {χ : ℤ} → Euler T χ → Euler T′ χ
 
 -- what k flips of a list leave in the table t and the log's room l
 pub record FlipsLeft (n : ℕ) (t edges l : List ℕ) (k : ℕ) (t′ l′ : List ℕ) : Type 0 where

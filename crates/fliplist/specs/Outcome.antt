@@ -1,7 +1,6 @@
 -- Flipping a list of edges in 02's words: the refusals in their order, or the flips done up to the first refusal and what they leave.
 use mathlib.Core.Path.{_≡_}
 use mathlib.Core.Bool.{false}
-use mathlib.Core.Logic.{_⊎_}
 use mathlib.Core.List.{List, [], _∷_, _++_}
 use Prim.Native.Nat.{ℕ, _*_, _<_}
 use lib.ListN.{length}
@@ -9,7 +8,7 @@ use Rattle.follow.specs.Follow.{Call, Outcome}
 use Rattle.surface.specs.Rows.{Row, rows, flat}
 use Rattle.surface.specs.Table.{Arrow, _⇒_}
 use Rattle.surface.specs.Stage.{Stage}
-use Rattle.flips.specs.Flip.{Flip, Flips, EdgeGone, Joined}
+use Rattle.flips.specs.Flip.{Flip, Flips}
 use Rattle.refusal.specs.declared.Refusal.{Refusal}
 use Rattle.refusal.specs.declared.Refusal.the-variants.{CountsOutside, RoomShort}
 use Rattle.refusal.specs.declared.Verdict.the-variants as verdict
@@ -18,10 +17,10 @@ use Rattle.faults.specs.Counts.{CountsFit}
 use Rattle.faults.specs.Order.{row-refusals}
 use Rattle.laid.specs.Laid.{count, items, WholeItems, in-front}
 use Rattle.flipped.specs.declared.FlipRefusal.{FlipRefusal}
-use Rattle.flipped.specs.declared.FlipRefusal.the-variants.{EdgeMissing, EdgeBlocked}
 use Rattle.flipped.specs.declared.Flipped.{Flipped}
 use Rattle.flipped.specs.Answer.{flipped}
 use Rattle.fliplog.specs.Layout.{edge-list, width, flip-log}
+use Rattle.flip.specs.Refused.{FlipRefused}
 
 -- not 2: the table and the corner count are within their limits, and the list is of even length
 pub record FlipFits (n : ℕ) (t edges : List ℕ) : Type 0 where
@@ -49,8 +48,8 @@ abbrev pub FlipsOn : Reached → Arrow → Reached → Type 0
 FlipsOn s (a ⇒ b) s′ = (k : Flip) × Flips (s .table) a b k (s′ .table) × (s′ .log ≡ s .log ++ (k ∷ []))
 
 -- 30 or 31
-abbrev pub FlipRefused : Reached → Arrow → FlipRefusal → Type 0
-FlipRefused s (a ⇒ b) r = (EdgeGone (s .table) a b × (r ≡ EdgeMissing)) ⊎ (Joined (s .table) a b × (r ≡ EdgeBlocked))
+abbrev pub FlipStops : Reached → Arrow → FlipRefusal → Type 0
+FlipStops s (a ⇒ b) r = FlipRefused (s .table) a b r
 
 -- what is lent to be written
 pub record Lent : Type 0 where
@@ -67,7 +66,7 @@ flipping n t edges l = record {
   items = items edge-list edges;
   start = record { table = rows t; log = [] };
   Does = FlipsOn;
-  FailsBy = FlipRefused;
+  FailsBy = FlipStops;
   answers = flipped;
   -- refused before any flip, nothing is changed; else table and log hold the flips done and no others, and the rest of the log's room is as it was
   lent = record { table = t; log = l };

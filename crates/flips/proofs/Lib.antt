@@ -1,3 +1,4 @@
 pub mod Places
 pub mod Flipped
 pub mod Flips
+pub mod Keeping

@@ -1,3 +1,4 @@
 pub mod Flip
 pub mod Undo
+pub mod Kept
 pub mod InnerUndoable

@@ -24,8 +24,9 @@ use Rattle.flipped.specs.declared.Flipped.the-variants.{Refused}
 use Rattle.flipped.specs.Answer.{told, FlipsTold}
 use Rattle.flipped.proofs.Telling.{flipped-apart, did}
 use Rattle.fliplog.specs.Layout.{flip-log}
-use Rattle.fliplist.specs.Left.{SkinKept}
-use Rattle.fliplist.proofs.Keeping.{kept-none, kept-on, undo-keeps, whole-table, kept-flat}
+use Rattle.flips.specs.Kept.{SkinKept}
+use Rattle.flips.proofs.Keeping.{kept-none, kept-on, undo-keeps}
+use Rattle.fliplist.proofs.Keeping.{whole-table, kept-flat}
 use Rattle.undoflips.specs.Outcome.{UndoFits, undo-refusals, undoing, UndoneAs}
 use Rattle.undoflips.specs.Left.{UndoneLeft}
 

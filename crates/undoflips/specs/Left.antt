@@ -8,7 +8,7 @@ use Rattle.surface.specs.Rows.{rows}
 use Rattle.flips.specs.Undo.{Undone}
 use Rattle.laid.specs.Laid.{count, items}
 use Rattle.fliplog.specs.Layout.{flip-log}
-use Rattle.fliplist.specs.Left.{SkinKept}
+use Rattle.flips.specs.Kept.{SkinKept}
 
 -- what k records undone leave in the table t
 pub record UndoneLeft (n : ℕ) (t log : List ℕ) (k : ℕ) (t′ : List ℕ) : Type 0 where
