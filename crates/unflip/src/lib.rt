@@ -35,7 +35,10 @@ fn wrote(upper: Leaving, lower: Leaving, r: FlipRecord) -> bool
             if c.0 != upper.a.0 {
                 return false;
             }
-            d.0 == upper.c.0
+            if d.0 != upper.c.0 {
+                return false;
+            }
+            true
         }
     }
 }
@@ -61,7 +64,10 @@ fn undoable(t: &[u32], last: &[usize], prev: &[usize], r: FlipRecord) -> bool
     }
     let a = upper.b;
     let b = lower.c;
-    chart::slot_of(t, last, prev, a, b) == 0
+    if chart::slot_of(t, last, prev, a, b) != 0 {
+        return false;
+    }
+    true
 }
 
 // Inner: undoes a record where it is undone, and tells whether it is.
