@@ -1,2 +1,4 @@
+pub mod Judging
+pub mod Going
 pub mod Main
 pub mod Restoring
