@@ -30,6 +30,7 @@ use Rattle.undoflips.specs.Inner.{AnyStage, UndoneOn}
 -- after so many records, on a table that is a stage of any corner count told
 pub record Going (t log : List ℕ) (done : ℕ) (t′ last prev : List ℕ) : Type 0 where
   pub upto : (n : ℕ) → StageTable n t → Upto (undoing n t log) done (rows t′)
+  pub size : length t′ ≡ length t
   pub chains : InChains t′ last prev
 
 -- a whole table is its rows' numbers
@@ -41,7 +42,7 @@ module _ (t log : List ℕ) (g : AnyStage t) where
   many-items = length-reverse (items flip-log log) ∙ first-length flip-log (count flip-log log) log
 
   pub going-none : {last prev : List ℕ} → InChains t last prev → Going t log 0 t last prev
-  going-none k = record { upto = λ n s. upto-none (undoing n t log); chains = k }
+  going-none k = record { upto = λ n s. upto-none (undoing n t log); size = refl; chains = k }
 
   module _ (done : ℕ) (t′ last prev : List ℕ) (w : Going t log done t′ last prev) where
     -- an undone record leaves a stage
@@ -76,9 +77,10 @@ module _ (t log : List ℕ) (g : AnyStage t) where
         };
       }
 
-      pub next-done : (t″ : List ℕ) {last′ prev′ : List ℕ} → Undoes t′ next true t″ → InChains t″ last′ prev′ → Going t log (done + 1) t″ last′ prev′
+      pub next-done : (t″ : List ℕ) {last′ prev′ : List ℕ} → Undoes t′ next true t″ → length t″ ≡ length t′ → InChains t″ last′ prev′ → Going t log (done + 1) t″ last′ prev′
       unfolding Undoes
-      next-done t″ f c = record {
+      next-done t″ f same c = record {
         upto = λ n s. upto-more (undoing n t log) (w .upto n s) more-items next (items-back flip-log log done next more) (rw (f .1) (undone (stage n s) (f .0)));
+        size = same ∙ w .size;
         chains = c;
       }
