@@ -14,7 +14,7 @@ use Rattle.record.specs.Layout.{width, record-at, count, records}
 use Rattle.record.proofs.Log.{first-length, first-at}
 
 -- from the end of a list
-reverse-at : {A : Type 0} (l : List A) (j : ℕ) (d : A) → j < length l → getD (reverse l) j d ≡ getD l (length l - 1 - j) d
+pub reverse-at : {A : Type 0} (l : List A) (j : ℕ) (d : A) → j < length l → getD (reverse l) j d ≡ getD l (length l - 1 - j) d
 reverse-at [] j d h = absurd (omega arith)
 reverse-at (a ∷ l) j d h = ap (λ m. getD m j d) (reverse-cons a l) ∙ go (decLt j (length l)) (λ k. reverse-at l j d k)
   where

@@ -77,8 +77,8 @@ pub fn read_contracted(log: &[u32], i: usize) -> Contracted
     }
 }
 
-// Writes a leaving row's place and numbers.
-fn write_leaving(log: &mut [u32], i: usize, r: Leaving)
+// Inner: writes a leaving row's place and numbers.
+pub fn write_leaving(log: &mut [u32], i: usize, r: Leaving)
     requires { ⌜ i + 4 ≤ length (now log) ⌝ }
     ensures { λ _. ⌜ now (log .exit) ≡ sets (now (log .entry)) i (r .place .0 ∷ r .a .0 ∷ r .b .0 ∷ r .c .0 ∷ []) ⌝ }
 {

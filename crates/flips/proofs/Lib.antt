@@ -1,0 +1,3 @@
+pub mod Places
+pub mod Flipped
+pub mod Flips

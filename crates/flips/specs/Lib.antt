@@ -1,0 +1,3 @@
+pub mod Flip
+pub mod Undo
+pub mod InnerUndoable
