@@ -28,12 +28,12 @@ def commands(document):
 
 
 def test_readme_shows_what_the_command_prints(place):
-    assert [shown(place, *one) for one in commands(README)] == [0, 0, 1, 0]
+    assert [shown(place, *one) for one in commands(README)] == [0, 0, 1, 0, 0]
     assert (place / "report.html").exists()
 
 
-def test_the_page_shows_the_two_feet_what_becomes_of_a_mailed_log_and_a_job(place):
-    assert [shown(place, *one) for one in commands(FRONT_END)] == [0, 0, 0, 0, 1, 0, 1, 0, 0, 1]
+def test_the_page_shows_the_two_feet_what_becomes_of_a_mailed_log_a_job_and_flips(place):
+    assert [shown(place, *one) for one in commands(FRONT_END)] == [0, 0, 0, 0, 1, 0, 1, 0, 0, 1, 0, 0, 0, 0, 1]
 
 
 def shown(place, command, printed):
