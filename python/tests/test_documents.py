@@ -47,6 +47,7 @@ def test_the_python_of_the_document_runs(place):
     ran = subprocess.run([sys.executable, "-c", code], cwd=place, env={**os.environ, "PYTHONPATH": str(ROOT / "python")}, capture_output=True, text=True)
     assert ran.returncode == 0, ran.stderr
     assert ran.stdout.splitlines()[-1].split()[-1] == "29" and (place / "report.html").exists()
+    assert "True" in ran.stdout.splitlines()  # flips that were undone
 
 
 def test_every_command_option_and_exit_is_named():
