@@ -143,6 +143,40 @@ static void jobs(void)
     job("a sum beyond", "JOB\t1\nJ\tV\t-\t-768000000000000001\n");
 }
 
+/* The octahedron with these edges flipped, and then with so many records of the log undone: what each call answers, and the whole table after it.
+ * The log has a number of room more than it needs, and was all sevens. */
+static void flip(const char *name, const uint32_t *edges, size_t length, size_t records)
+{
+    uint32_t table[24], log[4 * FLAXGLIMMER_FLIP_WIDTH + 1];
+    size_t room = length / 2 * FLAXGLIMMER_FLIP_WIDTH + 1;
+    memcpy(table, first, sizeof first);
+    for (size_t i = 0; i < room; i++)
+        log[i] = 7;
+    counted(name, flaxglimmer_flip_list(6, table, 24, edges, length, log, room));
+    numbers("its rows", table, 24, 3);
+    numbers("its flip log", log, room, FLAXGLIMMER_FLIP_WIDTH);
+    counted("undo", flaxglimmer_undo_flips(6, table, 24, log, records * FLAXGLIMMER_FLIP_WIDTH));
+    numbers("its rows", table, 24, 3);
+}
+
+/* Flips that are done and undone, an edge that is blocked by a flip before it, one that is missing since, a record of sevens that is not undone, and
+ * refusals that change nothing. */
+static void flips(void)
+{
+    static const uint32_t both[4] = {0, 1, 2, 5}, blocked[4] = {0, 1, 5, 3}, missing[6] = {0, 1, 2, 5, 1, 0};
+    flip("flip", both, 4, 2);
+    flip("a blocked edge", blocked, 4, 1);
+    flip("a missing edge", missing, 6, 3);
+    flip("a list of odd length", both, 3, 0);
+
+    uint32_t table[24], log[2 * FLAXGLIMMER_FLIP_WIDTH];
+    memcpy(table, first, sizeof first);
+    counted("a short flip log", flaxglimmer_flip_list(6, table, 24, both, 4, log, 2 * FLAXGLIMMER_FLIP_WIDTH - 1));
+    counted("too few corners", flaxglimmer_flip_list(5, table, 24, both, 4, log, 2 * FLAXGLIMMER_FLIP_WIDTH));
+    counted("no whole records", flaxglimmer_undo_flips(6, table, 24, first, FLAXGLIMMER_FLIP_WIDTH + 1));
+    printf("left %s\n", memcmp(table, first, sizeof first) == 0 ? "yes" : "no");
+}
+
 /* Every list that may be empty, as NULL: first in calls that are done, on document 01's tetrahedron, which has no record; then everywhere. */
 static void empty(void)
 {
@@ -153,6 +187,8 @@ static void empty(void)
     counted("no log to thin", flaxglimmer_thin(FLAXGLIMMER_NO_LIMIT, 0, table, 12, at, 12, NULL, 0));
     counted("no log to grow back", flaxglimmer_grow_back(4, 4, table, 12, NULL, 0));
     counted("no log to replay", flaxglimmer_replay(4, table, 12, NULL, 0));
+    counted("no edges to flip", flaxglimmer_flip_list(4, table, 12, NULL, 0, NULL, 0));
+    counted("no flips to undo", flaxglimmer_undo_flips(4, table, 12, NULL, 0));
     uint64_t status = flaxglimmer_shift(3, at, 12, NULL, 0, &a, &b, &c);
     printf("no log to shift by %" PRIu64 " %" PRIu64 " %" PRIu64 " %" PRIu64 "\n", status, a, b, c);
     status = flaxglimmer_catch_up(NULL, 0, table, 12, &a, &b);
@@ -172,6 +208,8 @@ static void empty(void)
     counted("nothing to thin", flaxglimmer_thin(FLAXGLIMMER_NO_LIMIT, 0, NULL, 0, NULL, 0, NULL, 0));
     counted("nothing to grow back", flaxglimmer_grow_back(4, 4, NULL, 0, NULL, 0));
     counted("nothing to replay", flaxglimmer_replay(4, NULL, 0, NULL, 0));
+    counted("nothing to flip", flaxglimmer_flip_list(4, NULL, 0, NULL, 0, NULL, 0));
+    counted("nothing to undo", flaxglimmer_undo_flips(4, NULL, 0, NULL, 0));
     measure("nothing's volume", flaxglimmer_volume(NULL, 0, NULL, 0));
     exact_sum("nothing's exact sum", NULL, 0, NULL, 0);
     measure("no job", flaxglimmer_job(NULL, 0));
@@ -232,6 +270,7 @@ int main(void)
     log_sheet(log);
     recovery();
     jobs();
+    flips();
     log[0] = 5;
     counted("a record that fails", flaxglimmer_grow_back(4, 6, table, 24, log, 20));
 

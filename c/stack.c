@@ -26,6 +26,8 @@ struct skin {
     size_t log_bytes, first_record;
     uint8_t job_sheet[FLAXGLIMMER_MOST_JOB_BYTES];
     size_t job_bytes;
+    size_t edges;
+    uint32_t edge[2], flip[FLAXGLIMMER_FLIP_WIDTH], flipped[3 * FLAXGLIMMER_MOST_ROWS];
 };
 
 static struct skin table_limits, sheet_limits, log_limits, job_limits, ring, nothing;
@@ -35,7 +37,7 @@ static struct skin *now;
 static volatile uint64_t status;
 static uint64_t stand_in, count, squared;
 static int64_t whole;
-static uint32_t record[FLAXGLIMMER_WIDTH];
+static uint32_t record[FLAXGLIMMER_WIDTH], flip[FLAXGLIMMER_FLIP_WIDTH];
 
 static void thin(void)
 {
@@ -166,6 +168,18 @@ static void job(void)
     status = flaxglimmer_job(now->job_sheet, now->job_bytes).status;
 }
 
+static void flip_list(void)
+{
+    memcpy(now->table, now->first, sizeof now->first);
+    status = flaxglimmer_flip_list(now->corners, now->table, 3 * now->rows, now->edge, 2 * now->edges, flip, FLAXGLIMMER_FLIP_WIDTH).status;
+}
+
+static void undo_flips(void)
+{
+    memcpy(now->table, now->flipped, sizeof now->flipped);
+    status = flaxglimmer_undo_flips(now->corners, now->table, 3 * now->rows, now->flip, FLAXGLIMMER_FLIP_WIDTH * now->edges).status;
+}
+
 /* A call, the stack that it is made on, what the stack is filled with, and how deep it was written. */
 struct trial {
     void (*call)(void);
@@ -293,6 +307,21 @@ static void lay_out_job(struct skin *s, int entries)
     s->job_bytes = (size_t)(end - (char *)s->job_sheet);
 }
 
+/* Flips an edge of the skin's last row, for the calls that take an edge or a flip. */
+static void flip_last(struct skin *s)
+{
+    const uint32_t *last = s->first + 3 * (s->rows - 1);
+    s->edges = 1;
+    memcpy(s->flipped, s->first, sizeof s->first);
+    for (size_t i = 0; i < 3; i++) {
+        s->edge[0] = last[i], s->edge[1] = last[(i + 1) % 3];
+        if (flaxglimmer_flip_list(s->corners, s->flipped, 3 * s->rows, s->edge, 2, s->flip, FLAXGLIMMER_FLIP_WIDTH).status == FLAXGLIMMER_DONE)
+            return;
+    }
+    fputs("stack: no edge of a skin's last row is flipped\n", stderr);
+    exit(2);
+}
+
 int main(void)
 {
     ring.rows = 128, ring.corners = 64;
@@ -311,6 +340,8 @@ int main(void)
     lay_out_log(&log_limits);
     lay_out_job(&ring, 1);
     lay_out_job(&job_limits, FLAXGLIMMER_MOST_ENTRIES);
+    flip_last(&ring);
+    flip_last(&table_limits);
 
     int over = told("thin", thin, &table_limits, FLAXGLIMMER_STACK_THIN);
     over |= told("thin, under a limit", thin_under_a_limit, &table_limits, FLAXGLIMMER_STACK_THIN);
@@ -334,5 +365,7 @@ int main(void)
     over |= told("recover", recover, &table_limits, FLAXGLIMMER_STACK_RECOVER);
     over |= told("recover, under a limit", recover_under_a_limit, &table_limits, FLAXGLIMMER_STACK_RECOVER);
     over |= told("job", job, &job_limits, FLAXGLIMMER_STACK_OTHER);
+    over |= told("flip a list", flip_list, &table_limits, FLAXGLIMMER_STACK_FLIP_LIST);
+    over |= told("undo flips", undo_flips, &table_limits, FLAXGLIMMER_STACK_UNDO_FLIPS);
     return over;
 }

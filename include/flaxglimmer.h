@@ -1,12 +1,15 @@
 /* Flaxglimmer for C and C++: every public call. The functions are those of the proved crate `bridge`; link libbridge.a, which calls nothing
  * of other libraries but memcpy, memmove and memset.
  *
- * A row is three corner numbers; corners are three coordinates each, in centimetres; a record is FLAXGLIMMER_WIDTH numbers of a log.
+ * A row is three corner numbers; corners are three coordinates each, in centimetres; a record is FLAXGLIMMER_WIDTH numbers of a log, and that of a
+ * flip FLAXGLIMMER_FLIP_WIDTH numbers of a flip log.
  *
- * status: 0 done, else the number of the first refusal that holds, FLAXGLIMMER_LIMIT_UNUSABLE to FLAXGLIMMER_RECORD_FAILS below, and of a job
- * FLAXGLIMMER_JOB_COUNT to FLAXGLIMMER_JOB_SUM; a later archive may answer further numbers. A refused call leaves every list that it was lent as
- * it was, and each of its values is 0, those in lent numbers and in a lent record too. But FLAXGLIMMER_RECORD_FAILS tells how many records were
- * done before it, and leaves the stage that they led to; flaxglimmer_recover also leaves those records in front of its log.
+ * status: 0 done, else the number of the first refusal that holds, FLAXGLIMMER_LIMIT_UNUSABLE to FLAXGLIMMER_RECORD_FAILS below, of a job
+ * FLAXGLIMMER_JOB_COUNT to FLAXGLIMMER_JOB_SUM, and of flips FLAXGLIMMER_EDGE_MISSING to FLAXGLIMMER_FLIP_FAILS; a later archive may answer further
+ * numbers. A refused call leaves every list that it was lent as it was, and each of its values is 0, those in lent numbers and in a lent record too.
+ * But FLAXGLIMMER_RECORD_FAILS tells how many records were done before it, and leaves the stage that they led to; flaxglimmer_recover also leaves
+ * those records in front of its log. FLAXGLIMMER_EDGE_MISSING and FLAXGLIMMER_EDGE_BLOCKED tell how many flips were done before, and leave those in
+ * the table and in the log and no others; FLAXGLIMMER_FLIP_FAILS tells how many were undone before, and leaves the table that they led to.
  *
  * What is lent. A list is a pointer and how many numbers (of a sheet or a text: bytes) stand there, its length. It is lent for the call alone:
  * nothing is kept, and nothing is freed.
@@ -51,6 +54,9 @@ extern "C" {
 /* How many numbers of a log a record is. */
 #define FLAXGLIMMER_WIDTH 10
 
+/* How many numbers of a flip log the record of a flip is. */
+#define FLAXGLIMMER_FLIP_WIDTH 8
+
 /* The limits of a sheet; its least rows and corners are a table's. A longer sheet is FLAXGLIMMER_SHEET_FORM. */
 #define FLAXGLIMMER_MOST_SHEET_BYTES 65536
 #define FLAXGLIMMER_MOST_SHEET_ROWS 1024
@@ -69,8 +75,8 @@ extern "C" {
 #define FLAXGLIMMER_MOST_TEXT 65536
 
 /* How many bytes of stack a call takes at most; a call that has no name here takes FLAXGLIMMER_STACK_OTHER. No proof bounds a stack: these are
- * what c/stack.c measured on Arm, and on x86-64 under the kit's emulator, the calls of log sheets, recovery and jobs on x86-64 alone, on skins,
- * logs and jobs at the limits, with at least an eighth more and rounded up to 16 KiB; tests/bridge measures again and compares.
+ * what c/stack.c measured on Arm, and on x86-64 under the kit's emulator, the calls of log sheets, recovery, jobs and flips on x86-64 alone, on
+ * skins, logs and jobs at the limits, with at least an eighth more and rounded up to 16 KiB; tests/bridge measures again and compares.
  * The arrays on the stack have the length of the limits whatever is lent, and no function calls itself but by the digits of a number, and by the
  * nesting of a job, which FLAXGLIMMER_MOST_DEPTH bounds. */
 #define FLAXGLIMMER_STACK_THIN 114688
@@ -82,6 +88,8 @@ extern "C" {
 #define FLAXGLIMMER_STACK_READ_SHEET 147456
 #define FLAXGLIMMER_STACK_REPLY 262144
 #define FLAXGLIMMER_STACK_RECOVER 147456
+#define FLAXGLIMMER_STACK_FLIP_LIST 114688
+#define FLAXGLIMMER_STACK_UNDO_FLIPS 114688
 #define FLAXGLIMMER_STACK_OTHER 16384
 
 /* What a status says. */
@@ -105,7 +113,10 @@ enum {
     FLAXGLIMMER_JOB_NAME = 22,               /* a name that is no earlier entry's: the first names none, and only the first */
     FLAXGLIMMER_JOB_ALTERNATION = 23,        /* kinds that do not alternate: a void in a void, or a solid in a solid */
     FLAXGLIMMER_JOB_DEPTH = 24,              /* nesting too deep: over 8, the first at 1 */
-    FLAXGLIMMER_JOB_SUM = 25                 /* a sum out of range: beyond 768,000,000,000,000,000 either way */
+    FLAXGLIMMER_JOB_SUM = 25,                /* a sum out of range: beyond 768,000,000,000,000,000 either way */
+    FLAXGLIMMER_EDGE_MISSING = 30,           /* a listed edge that is missing */
+    FLAXGLIMMER_EDGE_BLOCKED = 31,           /* a listed edge whose opposite corners are neighbours already */
+    FLAXGLIMMER_FLIP_FAILS = 32              /* a flip's record that is not undone */
 };
 
 /* Units of a limit. Feet are survey feet, 1200/3937 of a metre; international feet have 30.48 centimetres. Any other number stands for a limit that
@@ -118,7 +129,7 @@ enum {
     FLAXGLIMMER_INTERNATIONAL_FEET = 4
 };
 
-/* How many records were written, grown back or replayed. */
+/* How many records were written, grown back or replayed, or how many flips done or undone. */
 struct flaxglimmer_counted {
     uint64_t status;
     uint64_t records;
@@ -269,6 +280,25 @@ uint64_t flaxglimmer_recover(uint32_t unit, double figure, uint32_t *table, size
  * FLAXGLIMMER_JOB_SUM in the order of their numbers, each asked of every entry before the next is.
  * bytes: the job sheet; read. */
 struct flaxglimmer_measure flaxglimmer_job(const uint8_t *bytes, size_t bytes_length);
+
+/* Flips listed edges of a stage over so many corners, in order up to the first that is refused. The edge a b stands in the rows (a, b, c) and
+ * (b, a, d), which become (c, a, d) in the first one's place and (c, d, b) in the second's: a b and b a write other rows. Each flip puts a record in
+ * the log, FLAXGLIMMER_FLIP_WIDTH numbers: the place and the old row of (a, b, c), as it was stored, and then those of (b, a, d). The log stays as
+ * it was past the records.
+ * FLAXGLIMMER_COUNTS_OUTSIDE for a table that is no whole rows, counts outside their limits, or a list of odd length; then FLAXGLIMMER_ROOM_SHORT;
+ * then FLAXGLIMMER_NUMBER_NOT_BELOW to FLAXGLIMMER_NOT_CONNECTED of the table, but not FLAXGLIMMER_CORNER_UNUSED; then edge by edge
+ * FLAXGLIMMER_EDGE_MISSING, also where a is b or one of them is no used corner, and FLAXGLIMMER_EDGE_BLOCKED where c and d are neighbours already.
+ * table: its rows; written. edges: two corner numbers each; read. log: room for FLAXGLIMMER_FLIP_WIDTH numbers for each listed edge; written. */
+struct flaxglimmer_counted flaxglimmer_flip_list(size_t corners, uint32_t *table, size_t table_length, const uint32_t *edges, size_t edges_length,
+                                                 uint32_t *log, size_t log_length);
+
+/* Undoes the flips of a flip log on a stage over so many corners, the last record first: its two rows are put back in their places. A record is
+ * undone where that gives a stage whose flip is allowed and writes the present table and this record.
+ * FLAXGLIMMER_COUNTS_OUTSIDE for a table that is no whole rows, counts outside their limits, or a log that is no whole records; then
+ * FLAXGLIMMER_NUMBER_NOT_BELOW to FLAXGLIMMER_NOT_CONNECTED of the table, but not FLAXGLIMMER_CORNER_UNUSED; then record by record
+ * FLAXGLIMMER_FLIP_FAILS.
+ * table: its rows; written. log: whole records of flips; read. */
+struct flaxglimmer_counted flaxglimmer_undo_flips(size_t corners, uint32_t *table, size_t table_length, const uint32_t *log, size_t log_length);
 
 #ifdef __cplusplus
 }

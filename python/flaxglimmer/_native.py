@@ -53,6 +53,8 @@ SIGNATURES = {  # name: (result, arguments)
     "next_record": (u64, [lent, size, size, number, number, lent]),
     "recover": (u64, [u32, c.c_double, lent, size, lent, size, lent, size, lent, size, number, number]),
     "job": (Measure, [lent, size]),
+    "flip_list": (Counted, [size, lent, size, lent, size, lent, size]),
+    "undo_flips": (Counted, [size, lent, size, lent, size]),
 }
 
 

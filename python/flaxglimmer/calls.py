@@ -69,9 +69,9 @@ def _stage(table, records: int) -> np.ndarray:
     return table[: table.size - 6 * records].reshape(-1, 3)
 
 
-def _records(log, records: int) -> np.ndarray:
+def _records(log, records: int, width: int = LIMITS.WIDTH) -> np.ndarray:
     """So many records in front of a log's room."""
-    return log[: LIMITS.WIDTH * records].reshape(-1, LIMITS.WIDTH)
+    return log[: width * records].reshape(-1, width)
 
 
 def check(rows, corners) -> int:
@@ -107,6 +107,32 @@ def replay(rows, corner_count: int, log) -> np.ndarray:
             refused.rows = _stage(table, refused.records)
         raise
     return _stage(table, records)
+
+
+def flip_list(rows, corner_count: int, edges) -> tuple[np.ndarray, np.ndarray]:
+    """The rows after the flips of these edges, (k, 2), in their order, and the flip log, (r, flip width). On 30 and 31 the rows and the log of the flips
+    done are Refused's."""
+    table, edges = np.array(_rows(rows)).reshape(-1), whole(edges, np.uint32, "edges")
+    log = np.empty(LIMITS.FLIP_WIDTH * (edges.size // 2), np.uint32)
+    try:
+        flips = lent.flip_list(corner_count, table, edges, log)
+    except Refused as refused:
+        if refused.number in (30, 31):
+            refused.rows, refused.log = table.reshape(-1, 3), _records(log, refused.records, LIMITS.FLIP_WIDTH)
+        raise
+    return table.reshape(-1, 3), _records(log, flips, LIMITS.FLIP_WIDTH)
+
+
+def undo_flips(rows, corner_count: int, log) -> np.ndarray:
+    """The rows before the flips of a flip log. On 32 those reached are Refused's rows."""
+    table, log = np.array(_rows(rows)).reshape(-1), _log(log)
+    try:
+        lent.undo_flips(corner_count, table, log)
+    except Refused as refused:
+        if refused.number == 32:
+            refused.rows = table.reshape(-1, 3)
+        raise
+    return table.reshape(-1, 3)
 
 
 def volume(rows, corners) -> int:

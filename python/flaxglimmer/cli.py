@@ -12,8 +12,10 @@ from functools import wraps
 import click
 import numpy as np
 
-from . import calls, faults, files, jobs, lengths, logs, skins
+from . import calls, faults, files, flips, jobs, lengths, logs, skins
 from .diameter import of_skin
+from .faults import counted, shown
+from .header import LIMITS
 from .refusals import FileFault, LibraryMissing, OurFault, Refused, UsageFault
 
 DONE, REFUSED, USAGE, NO_FILE, NOT_SHOWN, OURS = range(6)
@@ -109,7 +111,8 @@ def main():
     """Thins scanned skins of shafts by a proved library: checks them, says where a fault lies, and reports.
 
     FILE is a scan (.stl, .obj, .ply, .off), whose --unit has to be told, or a sheet (.sheet). LOG is a log sheet, LOG and K lines, or an answer of
-    the desk, OK, R and K lines. JOB is a job sheet, JOB and J lines.
+    the desk, OK, R and K lines; for undo a flip log, FLIPS and F lines. JOB is a job sheet, JOB and J lines. EDGES is a list of edges, two corner
+    numbers a line.
     In the repository `./flaxglimmer set-up` installs what is needed and builds the library."""
 
 
@@ -156,7 +159,7 @@ def named(path):
     try:
         yield
     except FileFault as fault:
-        named_fault = FileFault(f"{files.shown(path)}: {fault}")
+        named_fault = FileFault(f"{shown(path)}: {fault}")
         named_fault.line = fault.line
         raise named_fault from None
 
@@ -170,10 +173,16 @@ def opened_log(path, skin: skins.Skin) -> files.Log:
     """The log in a file. The counts of a log sheet have to be those of the skin that it is asked about with."""
     with named(path):
         log = files.read_log(path)
-    here = len(skin.corners), len(skin.rows)
-    if log.counts not in (None, here):
-        raise UsageFault(f"{logs.of_another(files.shown(path), log.counts, skin.name, here)}: {logs.SAME}")
+    if log.counts is not None:
+        of_this_skin(path, log.counts, skin, logs.SAME)
     return log
+
+
+def of_this_skin(path, counts: tuple[int, int], skin: skins.Skin, question: str) -> None:
+    """The counts that a log tells, corners and rows, have to be the skin's."""
+    here = len(skin.corners), len(skin.rows)
+    if counts != here:
+        raise UsageFault(f"{logs.of_another(shown(path), counts, skin.name, here)}: {question}")
 
 
 def left(log: files.Log, skin: skins.Skin) -> np.ndarray:
@@ -190,7 +199,7 @@ def apart(reads: list, writes: list) -> None:
     places = [_place(path) for path in paths]
     for path, place in zip(paths, places):
         if places.count(place) > 1:
-            raise UsageFault(f"{files.shown(path)} is named twice: what is read is never written over")
+            raise UsageFault(f"{shown(path)} is named twice: what is read is never written over")
 
 
 def _place(path):
@@ -207,7 +216,7 @@ def write(path, text: str) -> None:
         with open(path, "w", encoding="utf-8", newline="\n") as out:
             out.write(text)
     except (OSError, ValueError) as fault:
-        raise UsageFault(f"{files.shown(path)} cannot be written: {getattr(fault, 'strerror', None) or fault}") from None
+        raise UsageFault(f"{shown(path)} cannot be written: {getattr(fault, 'strerror', None) or fault}") from None
 
 
 def told_of(skin: skins.Skin, figure: int) -> list:
@@ -253,7 +262,7 @@ def recover(file, cut, limit, **asked):
     def taken_up(skin):
         with named(cut):
             sheet = files.log_bytes(cut)
-        return skins.recover(skin, sheet, limit, files.shown(cut))
+        return skins.recover(skin, sheet, limit, cut)
 
     return thinning([file, cut], limit, taken_up, **asked)
 
@@ -288,15 +297,14 @@ def thinned_outcome(thinned: skins.Thinned, first: int, last: int, diameter) -> 
     """The table of facts."""
     skin, change, farthest = thinned.skin, thinned.change(), thinned.farthest()
     used = [len(np.unique(rows)) for rows in (skin.rows, thinned.rows)]
-    lines = [f"{skin.name}: {thinned.under()}", f"{'':24}{'scanned':>10}{'thinned':>10}"]
-    for what, before, after in (
+    lines = [f"{skin.name}: {thinned.under()}"]
+    lines += facts("scanned", "thinned", [
         ("rows", len(skin.rows), len(thinned.rows)),
         ("corners used", *used),
         ("volume, cubic metres", first, last),
         ("change, cubic metres", None, change),
         ("records", None, len(thinned.log)),
-    ):
-        lines.append(f"{what:24}{'' if before is None else format(before, ','):>10}{after:>10,}")
+    ])  # fmt: skip
     if farthest:
         corner, shift = farthest
         lines.append(f"farthest moved: corner {corner}; corner {shift.stand_in} stands in after {shift.count}, squared distance {shift.squared:,} square cm")
@@ -307,9 +315,15 @@ def thinned_outcome(thinned: skins.Thinned, first: int, last: int, diameter) -> 
     if diameter:
         lines += [diameter.line(), "  it does not cover:"] + [f"    {what}" for what in diameter.not_covered()]
         answer["mean_diameter"] = {**asdict(diameter), "line": diameter.line(), "not_covered": diameter.not_covered()}
-    shown = diameter is None or diameter.verdict in (None, "met")
-    told = Outcome(answer, lines, notes=told_of(skin, first), exit=DONE if shown else NOT_SHOWN)
+    met = diameter is None or diameter.verdict in (None, "met")
+    told = Outcome(answer, lines, notes=told_of(skin, first), exit=DONE if met else NOT_SHOWN)
     return recovered_outcome(told, thinned) if isinstance(thinned, skins.Recovered) else told
+
+
+def facts(before: str, after: str, table: list) -> list:
+    """A table of facts, each before and after; None where there is nothing before."""
+    lines = [f"{what:24}{'' if first is None else format(first, ','):>10}{last:>10,}" for what, first, last in table]
+    return [f"{'':24}{before:>10}{after:>10}", *lines]
 
 
 def recovered_outcome(told: Outcome, recovered: skins.Recovered) -> Outcome:
@@ -439,7 +453,7 @@ def grow_back(file, log, start, sheet, **prepared):
     same = np.array_equal(grown, skin.rows)
     told = text_outcome(files.sheet_text(skins.Skin(grown, skin.corners)), sheet, "sheet", told_of(skin, 0))
     if read.rows is None:
-        told.notes.append(f"{files.shown(log)} was replayed on {skin.name} first: a log sheet has no rows to grow back from, and --from tells some")
+        told.notes.append(f"{shown(log)} was replayed on {skin.name} first: a log sheet has no rows to grow back from, and --from tells some")
     return compared(told, same, f"the grown rows are {'those of' if same else 'NOT those of'} {skin.name}, number for number")
 
 
@@ -458,10 +472,10 @@ def replay(file, log, answer, **prepared):
     told = text_outcome(files.answer_text(rows, read.log, first, last), answer, "log", told_of(skin, first))
     if read.rows is None:
         told.answer["same"] = None
-        told.notes.append(f"{files.shown(log)} replays to its end, {logs.counted(len(read.log), 'record')}; a log sheet has no rows to compare with")
+        told.notes.append(f"{shown(log)} replays to its end, {counted(len(read.log), 'record')}; a log sheet has no rows to compare with")
         return told
     same = np.array_equal(rows, read.rows)
-    return compared(told, same, f"the rows reached are {'those of' if same else 'NOT those of'} {files.shown(log)}, number for number")
+    return compared(told, same, f"the rows reached are {'those of' if same else 'NOT those of'} {shown(log)}, number for number")
 
 
 @command("log")
@@ -472,18 +486,80 @@ def log(log):
     It says what stands there. Whether a skin has such a log, `replay` says."""
     with named(log):
         data = files.log_bytes(log)
-    name = files.shown(log)
+    name = shown(log)
     try:
-        corners, rows, records = logs.read(data, name)
+        corners, rows, records = logs.read(data, log)
         told, summary = Outcome({"status": 0}), logs.summary(corners, rows, len(records))
     except Refused as refused:
         told = refusal(refused)
         corners, rows, records, bad = logs.held(data)
-        summary = f"{logs.counted(len(records), 'whole record')}, counted from 0; " + ("refused" if bad is None else f"then line {len(records) + 2}, which is none")
+        summary = f"{counted(len(records), 'whole record')}, counted from 0; " + ("refused" if bad is None else f"then line {len(records) + 2}, which is none")
     told.answer.update(file=name, corners=corners, rows=rows, records=len(records), log=[logs.parts(record) for record in records])
     if corners is not None:
         told.lines = [f"{name}: the log of a skin of {corners:,} corners and {rows:,} rows", summary]
         told.lines += [logs.in_words(at, record) for at, record in enumerate(records)]
+    return told
+
+
+# Flips
+
+
+@command("flip")
+@with_file
+@click.argument("edges")
+@to_write("log", "Write the flip log, by which undo takes the flips back.")
+@to_write("sheet", "Write the flipped skin as a sheet.")
+def flip(file, edges, sheet, log, **prepared):
+    """Flip the edges in the list EDGES, in its order, on the skin in FILE, up to the first that is refused.
+
+    An edge is a line with the numbers of its two corners, from 0, parted by blanks, a tab or a comma; what follows a # is skipped. Where one is
+    refused, the sheet and the log that are written have the flips before it and no others."""
+    apart([file, edges], [sheet, log])
+    skin = opened(file, **prepared)
+    with named(edges):
+        listed = flips.read_edges(files.bytes_of(edges, flips.MOST_LIST_BYTES))
+    skin.check()
+    turned, done = flips.flip(skin, listed, edges)
+    told = turned_outcome(turned, len(listed.numbers), "done", flips.Flip.in_words)
+    return turned_written(told, turned, {sheet: files.sheet_text(turned.left()), log: flips.log_text(skin, done)})
+
+
+@command("undo")
+@with_file
+@click.argument("log")
+@to_write("sheet", "Write the skin without these flips as a sheet.")
+def undo(file, log, sheet, **prepared):
+    """Undo the flips of the flip log LOG, the last first, on the flipped skin in FILE, up to the first that is refused."""
+    apart([file, log], [sheet])
+    skin = opened(file, **prepared)
+    with named(log):
+        counts, listed = flips.read_log(files.bytes_of(log, flips.MOST_LOG_BYTES), log)
+    of_this_skin(log, counts, skin, flips.SAME)
+    skin.check()
+    turned = flips.undo(skin, listed, log)
+    told = turned_outcome(turned, len(listed.numbers), "undone", flips.Flip.undone_in_words)
+    return turned_written(told, turned, {sheet: files.sheet_text(turned.left())})
+
+
+def turned_outcome(turned: flips.Turned, listed: int, what: str, in_words) -> Outcome:
+    """The flips one by one, and the volume before and after them; of a refused one also why."""
+    skin, count, (first, last), change = turned.skin, len(turned.flips), turned.volumes(), turned.change()
+    told = refusal(turned.refused) if turned.refused else Outcome({"status": 0}, notes=told_of(skin, first))
+    of = f" of {listed:,}" if turned.refused else ""
+    told.lines = [f"{skin.name}: {counted(count, 'flip')} {what}{of}"]
+    told.lines += [f"flip {at}: {in_words(one)}" for at, one in turned.flips]
+    told.lines += facts("before", "after", [("volume, cubic metres", first, last), ("change, cubic metres", None, change)])
+    told.answer.update(file=skin.name, listed=listed, flips=count, log=[{"flip": at, **one.told()} for at, one in turned.flips], volume=[first, last], change=change)
+    return told
+
+
+def turned_written(told: Outcome, turned: flips.Turned, texts: dict) -> Outcome:
+    """Writes what was asked: where a flip is refused, that has those before it and no others."""
+    texts.pop(None, None)
+    for path, text in texts.items():
+        write(path, text)
+    if turned.refused and texts:
+        told.notes.insert(0, f"{' and '.join(map(shown, texts))} {'has' if len(texts) == 1 else 'have'} the flips before it and no others")
     return told
 
 
@@ -508,7 +584,7 @@ def job(given, make, **prepared):
         apart([file], [make])
     entries, notes = skins_of_job(typed, **prepared)
     net, sheet = jobs.made(entries, given)
-    told = job_outcome(files.shown(make), net, entries, notes)
+    told = job_outcome(shown(make), net, entries, notes)
     write(make, sheet.decode("ascii"))
     return told
 
@@ -521,9 +597,8 @@ def answered_job(given, **prepared) -> Outcome:
         raise UsageFault("a job sheet has sums and no skins: unit, origin, weld, drop-flat and turn go with --make alone")
     (path,) = given
     with named(path):
-        sheet = files.job_bytes(path)
-    name = files.shown(path)
-    return job_outcome(name, *jobs.read(sheet, name), [])
+        sheet = files.bytes_of(path, LIMITS.MOST_JOB_BYTES)
+    return job_outcome(shown(path), *jobs.read(sheet, path), [])
 
 
 def job_outcome(name: str, net: int, entries: list, notes: list) -> Outcome:
@@ -555,7 +630,7 @@ def in_file(path):
     try:
         yield
     except Refused as refused:
-        refused.faults = tuple(replace(fault, text=f"{files.shown(path)}: {fault.text}") for fault in refused.faults)
+        refused.faults = tuple(replace(fault, text=f"{shown(path)}: {fault.text}") for fault in refused.faults)
         raise
 
 

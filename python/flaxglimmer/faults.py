@@ -3,6 +3,7 @@ from __future__ import annotations
 
 import re
 from collections import defaultdict
+from pathlib import Path
 
 import numpy as np
 
@@ -32,7 +33,29 @@ HINTS = {
     23: "a solid stands in a void and a void in a solid: is it the right number, and the right letter?",
     24: "is it the right number? Else take an inner part as a job of its own",
     25: "no skin has so large a sum: `flaxglimmer job --make` takes the sums from the skins",
+    30: "an edge is two corners of a row, by their numbers from 0 in the order of the sheet that `flaxglimmer sheet` writes; flips before it may have turned it",
+    31: "leave it out, or first flip the edge that these two corners have; flips before it may have given them one",
+    32: "is FILE the skin that the flips left, as `flip --sheet` wrote it, and LOG their whole flip log?",
 }
+
+
+def printable(text: str) -> str:
+    """A text with nothing in it that a terminal would act on."""
+    return "".join(letter if letter.isprintable() else "?" for letter in text)
+
+
+def shown(path) -> str:
+    """A file's name, without its folder."""
+    return printable(Path(path).name)
+
+
+def quoted(line: bytes) -> str:
+    """The beginning of a line, with nothing in it that a terminal would act on."""
+    return repr(line[:60].decode("ascii", "replace"))
+
+
+def counted(count: int, what: str) -> str:
+    return f"{count:,} {what}{'' if count == 1 else 's'}"
 
 
 def _listed(numbers) -> str:
@@ -207,11 +230,6 @@ def _form(sheet: bytes, lines: list, first) -> str:
     if len(lines) != corners + rows + 2 or lines[-1]:
         return f"line {corners + rows + 2}: after the last row and its one newline nothing may follow, and that newline must be there"
     raise OurFault("the library refuses by 12, and no place of it is found")
-
-
-def quoted(line: bytes) -> str:
-    """The beginning of a line, with nothing in it that a terminal would act on."""
-    return repr(line[:60].decode("ascii", "replace"))
 
 
 # Logs

@@ -11,7 +11,7 @@ from pathlib import Path
 import numpy as np
 
 from . import calls, lent, logs, readers
-from .faults import in_sheet, quoted
+from .faults import in_sheet, quoted, shown
 from .header import LIMITS
 from .lengths import CENTIMETRES, known, which
 from .refusals import Fault, FileFault, Refused, UsageFault
@@ -204,11 +204,6 @@ def no_unit(points: np.ndarray, name: str) -> str:
 # Files
 
 
-def shown(path) -> str:
-    """A file's name with nothing in it that a terminal would act on."""
-    return "".join(letter if letter.isprintable() else "?" for letter in Path(path).name)
-
-
 def _open(path: Path):
     """A file to be read, which is no folder, pipe or device."""
     try:
@@ -226,6 +221,12 @@ def _read_bytes(file, most: int = -1) -> bytes:
         return file.read(most)
     except OSError as fault:
         raise FileFault(f"it cannot be read: {fault.strerror}") from None
+
+
+def bytes_of(path, most: int) -> bytes:
+    """A file, as far as the longest of its kind goes and a byte more."""
+    with _open(Path(path)) as file:
+        return _read_bytes(file, most + 1)
 
 
 def refuse_count(count: int, name: str) -> None:
@@ -270,8 +271,7 @@ def is_sheet(path) -> bool:
 
 def read_sheet(path) -> Skin:
     """A skin from a sheet, which the library reads and checks."""
-    with _open(Path(path)) as file:
-        data = _read_bytes(file, LIMITS.MOST_SHEET_BYTES + 1)
+    data = bytes_of(path, LIMITS.MOST_SHEET_BYTES)
     try:
         rows, corners = calls.read_sheet(data)
     except Refused as refused:
@@ -287,12 +287,6 @@ def sheet_text(skin: Skin) -> str:
     return "\n".join(lines) + "\n"
 
 
-def job_bytes(path) -> bytes:
-    """A file that may be a job sheet, as far as the longest one goes and a byte more."""
-    with _open(Path(path)) as file:
-        return _read_bytes(file, LIMITS.MOST_JOB_BYTES + 1)
-
-
 # Logs: log sheets, and the desk's answer
 
 
@@ -306,16 +300,15 @@ class Log:
 
 
 def log_bytes(path) -> bytes:
-    """A file that may be a log, as far as the longest one goes and a byte more."""
-    with _open(Path(path)) as file:
-        return _read_bytes(file, max(LIMITS.MOST_TEXT, LIMITS.MOST_LOG_BYTES) + 1)
+    """A file that may be a log."""
+    return bytes_of(path, max(LIMITS.MOST_TEXT, LIMITS.MOST_LOG_BYTES))
 
 
 def read_log(path) -> Log:
     """The log in a file: a log sheet, whose first word is LOG, or the desk's answer."""
     data = log_bytes(path)
     if logs.is_log_sheet(data):
-        corners, rows, log = logs.read(data, shown(path))
+        corners, rows, log = logs.read(data, path)
         return Log(log, counts=(corners, rows))
     return _answer(data)
 

@@ -3,14 +3,13 @@ stands and what it comes to: each figure here is one that it gave, rounded once.
 from __future__ import annotations
 
 import re
-import shlex
 from collections.abc import Iterator
 from typing import NamedTuple
 
 from . import calls
-from .faults import COUNT, quoted
+from .faults import COUNT, quoted, shown
 from .header import LIMITS, MOST_SUM
-from .mail import done_to, is_empty
+from .mail import done_to, is_empty, no_newline
 from .refusals import Fault, LineFault, OurFault, Refused, UsageFault
 
 KINDS = {"V": "void", "S": "solid"}
@@ -28,6 +27,7 @@ FIELDS = (  # of an entry's line, behind its J: the form, what it is, and what i
 OTHERS = {
     b"SKIN": "a sheet, which has a skin and no sums",
     b"LOG": "a log sheet",
+    b"FLIPS": "a flip log",
     b"OK": "the desk's answer",
     b"NO": "the desk's answer to a sheet that it refused",
 }
@@ -67,16 +67,16 @@ def typed_entry(typed: str) -> tuple[str, int | None, str]:
     return found[1], None if found[2] == "-" else int(found[2]), found[3]
 
 
-def read(sheet: bytes, name: str) -> tuple[int, list[Entry]]:
+def read(sheet: bytes, path) -> tuple[int, list[Entry]]:
     """The net of a job sheet, and its entries; a refusal has its lines, and a hint."""
     try:
         return calls.job(sheet), entries_of(sheet)
     except Refused as refused:
         if refused.number == 12:
-            fault, refused.hint = _form(sheet, name)
+            fault, refused.hint = _form(sheet, path)
             refused.faults = (fault,)
         else:
-            refused.faults = tuple(_in_lines(sheet, name, refused.number))
+            refused.faults = tuple(_in_lines(sheet, shown(path), refused.number))
         raise
 
 
@@ -213,15 +213,16 @@ def _in_lines(sheet: bytes, name: str, number: int) -> Iterator[LineFault]:
         yield LineFault(f"{name}, line {line}, byte {byte}: {entry}{what}: {quoted(lines[line - 1])}", line=line, byte=byte)
 
 
-def _form(sheet: bytes, name: str) -> tuple[LineFault, str]:
+def _form(sheet: bytes, path) -> tuple[LineFault, str]:
     """The first thing in a sheet that is not in its form, and what to do about it."""
+    name = shown(path)
     if len(sheet) > LIMITS.MOST_JOB_BYTES:
         return LineFault(f"{name} has over {LIMITS.MOST_JOB_BYTES:,} bytes"), f"no job is so long: is it another file? {MAKE}"
     *lines, tail = sheet.split(b"\n")
     byte = 0
     for at, line in enumerate(lines + [tail] if tail or not lines else lines, 1):
         if at > len(lines) or not (LINE if at > 1 else FIRST).fullmatch(line):
-            what, hint = _damage(line, at == 1, at <= len(lines), shlex.quote(name))
+            what, hint = _damage(line, at == 1, at <= len(lines), path)
             return LineFault(f"{name}, line {at}, byte {byte}: {what}", line=at, byte=byte), hint
         byte += len(line) + 1
     told, there = int(FIRST.fullmatch(lines[0])[1]), len(lines) - 1
@@ -231,17 +232,17 @@ def _form(sheet: bytes, name: str) -> tuple[LineFault, str]:
     return LineFault(f"{name}, line 1, byte 0: {what}"), "lines were lost or put in, or the count was not changed with them"
 
 
-def _damage(line: bytes, first: bool, ended: bool, name: str) -> tuple[str, str]:
+def _damage(line: bytes, first: bool, ended: bool, path) -> tuple[str, str]:
     """What is wrong with a line, and what to do about it."""
     form, word = FIRST if first else LINE, line.split(b"\t")[0]
-    if told := done_to(line, form, name, MENDED):
+    if told := done_to(line, form, path, MENDED):
         return told
     if first and not ended and not line:
         return "the file is empty", MAKE
     if not ended and form.fullmatch(line):
-        whole = "" if first else "; is its sum whole?"
-        return f"the last line has no newline: {quoted(line)}", f"it was cut, or mail took the newline off; with one: (cat <{name}; echo) >{MENDED}{whole}"
-    if ended and (told := is_empty(line, name, MENDED)):
+        what, hint = no_newline(line, path, MENDED)
+        return what, hint + ("" if first else "; is its sum whole?")
+    if ended and (told := is_empty(line, path, MENDED)):
         return told
     if first and word in OTHERS:
         return f"it is no job sheet but {OTHERS[word]}", MAKE

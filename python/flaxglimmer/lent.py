@@ -76,12 +76,32 @@ def grow_back(rows: int, corner_count: int, room, log) -> int:
 
 def replay(corner_count: int, table, log) -> int:
     """Replays the log on the table; how many records were replayed."""
+    return _followed("replay", corner_count, table, log)
+
+
+def _followed(call: str, corner_count: int, table, log) -> int:
     corner_count = _whole(corner_count, 64, "corner count")
     _array(log, np.uint32, "log")
     _written(table, np.uint32, "table", log)
-    answer = library().flaxglimmer_replay(corner_count, *_over(table, log))
+    answer = getattr(library(), "flaxglimmer_" + call)(corner_count, *_over(table, log))
     _done(answer.status, answer.records)
     return answer.records
+
+
+def flip_list(corner_count: int, table, edges, log) -> int:
+    """Flips the edges of the table in order; how many flips stand in front of the log."""
+    corner_count = _whole(corner_count, 64, "corner count")
+    _array(edges, np.uint32, "edges")
+    _written(log, np.uint32, "log", edges)
+    _written(table, np.uint32, "table", edges, log)
+    answer = library().flaxglimmer_flip_list(corner_count, *_over(table, edges, log))
+    _done(answer.status, answer.records)
+    return answer.records
+
+
+def undo_flips(corner_count: int, table, log) -> int:
+    """Undoes the flips of the log on the table, the last first; how many were undone."""
+    return _followed("undo_flips", corner_count, table, log)
 
 
 def volume(table, corners) -> int:

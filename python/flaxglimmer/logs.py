@@ -3,20 +3,17 @@ its records stand; the words say what mail, an editor or a cut did to the line t
 from __future__ import annotations
 
 import re
-import shlex
 from typing import NamedTuple
 
 from . import calls
-from .faults import COUNT, HINTS, quoted
+from .faults import HINTS, counted, quoted, shown
 from .header import LIMITS
-from .mail import done_to, is_empty
+from .lines import Line
+from .mail import done_to, is_empty, no_newline, read_from
 from .refusals import LineFault, OurFault, Refused
 
-LINES = {b"LOG": 2, b"K": LIMITS.WIDTH}  # the numbers after each word
+FIRST, RECORD = Line(b"LOG", 2), Line(b"K", LIMITS.WIDTH)
 LONGEST = 1 + 7 * LIMITS.WIDTH  # bytes of a line: K, and for each number a tab and six digits
-FORMS = {word: re.compile(rb"%b(?:\t%b){%d}" % (word, COUNT, count)) for word, count in LINES.items()}
-CUT = {word: re.compile(rb"%b(?:\t%b){0,%d}\t?" % (word, COUNT, count)) for word, count in LINES.items()}
-ORDERED = {word: f"{word.decode()} and {count} numbers, parted by tabs" for word, count in LINES.items()}
 
 MENDED = "mended.log"
 OTHERS = {
@@ -24,6 +21,7 @@ OTHERS = {
     b"NO": "the desk's answer to a sheet that it refused",
     b"SKIN": "a sheet, which has a skin and no log",
     b"JOB": "a job sheet, which has sums and no log",
+    b"FLIPS": "a flip log, which `flaxglimmer undo` reads",
 }
 AGAIN = "ask for the log again, packed (as .zip), so that mail leaves it alone"
 SAME = "is it that scan, read with the same options?"
@@ -35,12 +33,12 @@ def is_log_sheet(data: bytes) -> bool:
     return re.match(rb"[^A-Za-z]*LOG(?![A-Za-z])", data[:80].replace(b"\0", b"")) is not None
 
 
-def read(sheet: bytes, name: str) -> calls.LogSheet:
+def read(sheet: bytes, path) -> calls.LogSheet:
     """Counts and log of a log sheet; a refusal has its line, and a hint."""
     try:
         return calls.read_log_sheet(sheet)
     except Refused as refused:
-        fault, refused.hint = (_form if refused.number == 12 else _counts)(sheet, name)
+        fault, refused.hint = (_form if refused.number == 12 else _counts)(sheet, path)
         refused.faults = (fault,)
         raise
 
@@ -73,66 +71,61 @@ def held(sheet: bytes) -> Held:
     return Held(corners, rows, records, None)
 
 
-def _counts(sheet: bytes, name: str) -> tuple[LineFault, str]:
+def _counts(sheet: bytes, path) -> tuple[LineFault, str]:
     """The counts that are refused by 2."""
     corners, rows, records, _ = held(sheet)
     if LIMITS.LEAST_CORNERS <= corners <= LIMITS.MOST_CORNERS and LIMITS.LEAST_ROWS <= rows <= LIMITS.MOST_ROWS:
         most = corners - LIMITS.LEAST_CORNERS
-        fault = LineFault(f"{name}, line 1: {len(records):,} records, and a skin of {corners:,} corners has {most:,} at most")
+        fault = LineFault(f"{shown(path)}, line 1: {len(records):,} records, and a skin of {corners:,} corners has {most:,} at most")
         return fault, "were two logs put into one file, or lines twice?"
-    return LineFault(f"{name}, line 1: {corners:,} corners and {rows:,} rows"), f"its first line was changed, or it is no log of ours; {AGAIN}"
+    return LineFault(f"{shown(path)}, line 1: {corners:,} corners and {rows:,} rows"), f"its first line was changed, or it is no log of ours; {AGAIN}"
 
 
-def _form(sheet: bytes, name: str) -> tuple[LineFault, str]:
+def _form(sheet: bytes, path) -> tuple[LineFault, str]:
     """The first line that is not in its form, and what to do about it."""
     if len(sheet) > LIMITS.MOST_LOG_BYTES:
-        return LineFault(f"{name} has over {LIMITS.MOST_LOG_BYTES:,} bytes"), "no log is so long: is it another file, or several in one?"
+        return LineFault(f"{shown(path)} has over {LIMITS.MOST_LOG_BYTES:,} bytes"), "no log is so long: is it another file, or several in one?"
     corners, _, records, place = held(sheet)
     if place is None:
         raise OurFault("the library refuses by 12, and no place of it is found")
-    at, word = (1, b"LOG") if corners is None else (2 + len(records), b"K")
+    at, kind = (1, FIRST) if corners is None else (2 + len(records), RECORD)
     line, newline, _ = sheet[place:].partition(b"\n")
-    what, hint = _damage(line, word, bool(newline), shlex.quote(name), len(records))
+    what, hint = _damage(line, kind, bool(newline), path, len(records))
     before = f"; {counted(len(records), 'whole record')} before it" if at > 1 else ""
-    return LineFault(f"{name}, line {at}, byte {place}: {what}{before}", line=at, byte=place), hint
+    return LineFault(f"{shown(path)}, line {at}, byte {place}: {what}{before}", line=at, byte=place), hint
 
 
-def _damage(line: bytes, word: bytes, ended: bool, name: str, records: int) -> tuple[str, str]:
-    """What is wrong with a line that should begin with this word, after so many records, and what to do about it."""
-    if told := done_to(line, FORMS[word], name, MENDED):
+def _damage(line: bytes, kind: Line, ended: bool, path, records: int) -> tuple[str, str]:
+    """What is wrong with a line that should be of this kind, after so many records, and what to do about it."""
+    if told := done_to(line, kind.form, path, MENDED):
         return told
     if not ended:
-        return _unended(line, word, name, records)
-    return is_empty(line, name, MENDED) or _fields(line, word)
+        return _unended(line, kind, path, records)
+    return is_empty(line, path, MENDED) or _fields(line, kind)
 
 
-def _unended(line: bytes, word: bytes, name: str, records: int) -> tuple[str, str]:
+def _unended(line: bytes, kind: Line, path, records: int) -> tuple[str, str]:
     """The end of a file that is no newline."""
-    if word == b"LOG" and not line:
+    if kind is FIRST and not line:
         return "the file is empty", AGAIN
-    if FORMS[word].fullmatch(line):
-        whole = "; replay then says whether its last number is whole" if word == b"K" else ""
-        return f"the last line has no newline: {quoted(line)}", f"it was cut, or mail took the newline off; with one: (cat <{name}; echo) >{MENDED}{whole}"
-    if CUT[word].fullmatch(line) or word.startswith(line):
-        shorter = f"; its whole records alone, a log of fewer steps: head -n {1 + records} <{name} >shorter.log" if records else ""
-        further = "; `flaxglimmer recover` thins on from its whole records" if word == b"K" else ""
+    if kind.form.fullmatch(line):
+        what, hint = no_newline(line, path, MENDED)
+        return what, hint + ("; replay then says whether its last number is whole" if kind is RECORD else "")
+    if kind.cut.fullmatch(line) or kind.word.startswith(line):
+        shorter = f"; its whole records alone, a log of fewer steps: {_first_lines(1 + records, path)}" if records else ""
+        further = "; `flaxglimmer recover` thins on from its whole records" if kind is RECORD else ""
         return f"the log was cut within this line: {quoted(line)}", AGAIN + shorter + further
-    return _fields(line, word)
+    return _fields(line, kind)
 
 
-def _fields(line: bytes, word: bytes) -> tuple[str, str]:
+def _fields(line: bytes, kind: Line) -> tuple[str, str]:
     """The first field that is wrong."""
-    first, *numbers = line.split(b"\t")
-    if word == b"LOG" and first in OTHERS:
+    first = line.split(b"\t")[0]
+    if kind is FIRST and first in OTHERS:
         return f"it is no log sheet but {OTHERS[first]}", "`flaxglimmer thin --log` writes a log sheet"
-    what = f"not {ORDERED[word]}"
-    if first == word and len(numbers) != LINES[word]:
-        what = f"{counted(len(numbers), 'number')} and not {LINES[word]}"
-    elif first == word:
-        at = next((at for at, number in enumerate(numbers) if not re.fullmatch(COUNT, number)), None)
-        if at is None:
-            raise OurFault("the library refuses by 12, and no place of it is found")
-        what = f"number {at + 1} is {quoted(numbers[at])}, and not one to six digits without a needless zero in front"
+    what = kind.wrong(line)
+    if what is None:
+        raise OurFault("the library refuses by 12, and no place of it is found")
     return f"{what}: {quoted(line)}", f"the line was changed, or does not belong there; {AGAIN}"
 
 
@@ -159,60 +152,56 @@ def of_another(name: str, counts: tuple[int, int], skin: str, here: tuple[int, i
     return f"{name} is the log of a skin of {told}, and {skin} has {found}"
 
 
-def in_cut(refused: Refused, sheet: bytes, name: str, skin: str, here: tuple[int, int]) -> tuple[LineFault, str]:
+def in_cut(refused: Refused, sheet: bytes, path, skin: str, here: tuple[int, int]) -> tuple[LineFault, str]:
     """The place in a cut sheet that makes a refusal true, and what to do about it; `here` are the corners and rows of the skin."""
     if refused.number == 12:
-        return _cut_form(sheet, name)
+        return _cut_form(sheet, path)
     if refused.number == 13:
-        return _cut_record(refused, sheet, name)
+        return _cut_record(refused, sheet, path)
     whole, _ = parted(sheet)
     corners, rows, _, _ = held(whole)
     if (corners, rows) == here:
-        return _counts(whole, name)
+        return _counts(whole, path)
     refused.meaning = "the log's counts are not the skin's"
-    return LineFault(of_another(name, (corners, rows), skin, here)), SAME
+    return LineFault(of_another(shown(path), (corners, rows), skin, here)), SAME
 
 
-def _cut_form(sheet: bytes, name: str) -> tuple[LineFault, str]:
+def _cut_form(sheet: bytes, path) -> tuple[LineFault, str]:
     """A cut within the first line, or the first whole line that is not in its form."""
     whole, tail = parted(sheet)
     if len(sheet) > LIMITS.MOST_LOG_BYTES and len(tail) > LONGEST and held(whole).place is None:  # filled up, as with zeros
         lines = whole.count(b"\n")
-        fault = LineFault(f"{name} has over {LIMITS.MOST_LOG_BYTES:,} bytes; what follows its line {lines:,} is no line of a log")
-        return fault, f"its whole lines can be recovered: {_first_lines(lines, name)}"
-    if not whole and (CUT[b"LOG"].fullmatch(tail) or b"LOG".startswith(tail)):
+        fault = LineFault(f"{shown(path)} has over {LIMITS.MOST_LOG_BYTES:,} bytes; what follows its line {lines:,} is no line of a log")
+        return fault, f"its whole lines can be recovered: {_first_lines(lines, path)}"
+    if not whole and (FIRST.cut.fullmatch(tail) or FIRST.word.startswith(tail)):
         what = f"the log was cut within its first line: {quoted(tail)}" if tail else "the file is empty"
-        return LineFault(f"{name}, line 1, byte 0: {what}"), f"it has no record; {ANEW}"
-    fault, hint = _form(sheet if len(sheet) > LIMITS.MOST_LOG_BYTES else whole or tail, name)
-    return fault, f"{hint}; {_before(fault.line - 2, name)}" if fault.line > 1 else hint
+        return LineFault(f"{shown(path)}, line 1, byte 0: {what}"), f"it has no record; {ANEW}"
+    fault, hint = _form(sheet if len(sheet) > LIMITS.MOST_LOG_BYTES else whole or tail, path)
+    return fault, f"{hint}; {_before(fault.line - 2, path)}" if fault.line > 1 else hint
 
 
-def _cut_record(refused: Refused, sheet: bytes, name: str) -> tuple[LineFault, str]:
+def _cut_record(refused: Refused, sheet: bytes, path) -> tuple[LineFault, str]:
     """The record that does not replay, and what stands before it."""
     done = refused.records
     at = sum(len(line) + 1 for line in sheet.split(b"\n")[: 1 + done])
     kept, removed = calls.next_record(sheet, at)[0][:2].tolist()
     text = f"record {done}, counted from 0, keeps corner {kept} and removes {removed}; {done} replayed before it, and {len(refused.rows):,} rows stand then"
-    return LineFault(f"{name}, line {done + 2}, byte {at}: {text}", corners=(kept, removed), line=done + 2, byte=at), f"{HINTS[13]}; {_before(done, name)}"
+    return LineFault(f"{shown(path)}, line {done + 2}, byte {at}: {text}", corners=(kept, removed), line=done + 2, byte=at), f"{HINTS[13]}; {_before(done, path)}"
 
 
-def _before(records: int, name: str) -> str:
+def _before(records: int, path) -> str:
     """What can be had of a log before its first bad line."""
     if records == 0:
         return f"no record stands before it; {ANEW}"
-    return f"what stands before it can be recovered: {_first_lines(1 + records, name)}"
+    return f"what stands before it can be recovered: {_first_lines(1 + records, path)}"
 
 
-def _first_lines(lines: int, name: str) -> str:
+def _first_lines(lines: int, path) -> str:
     """The command that keeps the first lines of a file alone."""
-    return f"head -n {lines} <{shlex.quote(name)} >shorter.log"
+    return f"head -n {lines} {read_from(path)} >shorter.log"
 
 
 # What a log sheet holds, in words
-
-
-def counted(count: int, what: str) -> str:
-    return f"{count:,} {what}{'' if count == 1 else 's'}"
 
 
 def parts(record) -> dict:

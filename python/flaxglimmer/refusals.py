@@ -67,13 +67,17 @@ def meaning(number: int) -> str:
         23: "kinds that do not alternate: a void in a void, or a solid in a solid",
         24: f"nesting too deep: over {most.MOST_DEPTH}, the first at 1",
         25: f"a sum out of range: beyond {MOST_SUM:,} either way",
+        30: "a listed edge that is missing: no row has it",
+        31: "a listed edge whose opposite corners are neighbours already: the flip would double the edge between them",
+        32: "a flip's record that is not undone",
     }.get(number, f"refusal {number}, which has no words here")
 
 
 class Refused(ValueError):
     """The library said no. `number` is the refusal; `records` and `rows` are, for 13, how many records were done and the stage that they led to, and
-    `log` those records, where a cut log sheet had them; `faults` are the places, where they were looked for, `hint` what to do about them and `meaning` what it
-    says, where these are not the number's own, and `notes` what was done to the file before."""
+    `log` those records, where a cut log sheet had them; for 30 and 31 how many flips were done, the rows and their log, and for 32 how many were undone
+    and the rows; `faults` are the places, where they were looked for, `hint` what to do about them and `meaning` what it says, where these are not the
+    number's own, and `notes` what was done to the file before."""
 
     def __init__(self, number: int, records: int = 0, rows=None, faults: tuple[Fault, ...] = ()):
         self.number, self.records, self.rows, self.faults, self.notes = int(number), int(records), rows, tuple(faults), []

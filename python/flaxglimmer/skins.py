@@ -6,7 +6,7 @@ from dataclasses import dataclass, field
 import numpy as np
 
 from . import calls, logs
-from .faults import Finder
+from .faults import Finder, counted, shown
 from .lent import Shift
 from .lengths import FEET, order, told
 from .refusals import OurFault, Refused
@@ -118,13 +118,13 @@ class Recovered(Thinned):
 
     def line(self) -> str:
         """What became of the cut sheet."""
-        return f"{self.name}: {logs.counted(self.kept, 'record')} kept, {self.added:,} added; {logs.dropped(self.dropped)}"
+        return f"{self.name}: {counted(self.kept, 'record')} kept, {self.added:,} added; {logs.dropped(self.dropped)}"
 
     def claimed(self) -> str:
         """What the order says of the whole log, or of the records added alone."""
         if self.unbroken:
             return "rows and log are those of an unbroken run under this order"
-        added = f"for the {logs.counted(self.added, 'record')} added alone" if self.added else "for none of its records"
+        added = f"for the {counted(self.added, 'record')} added alone" if self.added else "for none of its records"
         if self.limit is None:  # coordinates do not matter then
             return f"{self.name} was begun under another order: the least edge is claimed {added}"
         afresh = f", stand-ins and counts started afresh after the {self.kept:,} kept" if self.added else ""
@@ -146,17 +146,17 @@ def _limit(limit) -> tuple[int | None, str]:
     return calls.limit(limit) if order(limit)[0] else None, typed.strip()
 
 
-def recover(skin: Skin, sheet: bytes, limit, name: str = "the log sheet") -> Recovered:
+def recover(skin: Skin, sheet: bytes, limit, path="the log sheet") -> Recovered:
     """Takes the thinning of a skin up from its log sheet, cut after any byte, under a limit as for `thin`. Refused has the places, in skin or sheet."""
     try:
         rows, log, kept = calls.recover(skin.rows, skin.corners, sheet, limit)
     except Refused as refused:
         if refused.number in (12, 13) or refused.number == 2 and not any(skin.finder().counts()):
-            fault, refused.hint = logs.in_cut(refused, sheet, name, skin.name or "the skin", (len(skin.corners), len(skin.rows)))
+            fault, refused.hint = logs.in_cut(refused, sheet, path, skin.name or "the skin", (len(skin.corners), len(skin.rows)))
             refused.faults, refused.notes = (fault,), skin.told()
             raise
         raise skin.placed(refused, limit)
-    return Recovered(skin, rows, log, *_limit(limit), name, kept, logs.parted(sheet)[1], _unbroken(skin, log, kept, limit))
+    return Recovered(skin, rows, log, *_limit(limit), shown(path), kept, logs.parted(sheet)[1], _unbroken(skin, log, kept, limit))
 
 
 def _unbroken(skin: Skin, log, kept: int, limit) -> bool:

@@ -120,8 +120,8 @@ def test_3_is_told_as_the_others_are(capsys):
 
 
 def test_every_number_is_among_the_refusals():
-    jobs = set(range(20, 26))  # those of test_jobs.py
-    assert {number for number, *_ in REFUSALS} | {3} == set(range(1, 14)) == set(faults.HINTS) - jobs and jobs < set(faults.HINTS)
+    others = {*range(20, 26), 30, 31, 32}  # those of test_jobs.py and test_flips.py
+    assert {number for number, *_ in REFUSALS} | {3} == set(range(1, 14)) == set(faults.HINTS) - others and others < set(faults.HINTS)
     assert refusals.meaning(14) == "refusal 14, which has no words here"
 
 

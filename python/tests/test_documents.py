@@ -28,12 +28,12 @@ def commands(document):
 
 
 def test_readme_shows_what_the_command_prints(place):
-    assert [shown(place, *one) for one in commands(README)] == [0, 0, 1, 0]
+    assert [shown(place, *one) for one in commands(README)] == [0, 0, 1, 0, 0]
     assert (place / "report.html").exists()
 
 
-def test_the_page_shows_the_two_feet_what_becomes_of_a_mailed_log_and_a_job(place):
-    assert [shown(place, *one) for one in commands(FRONT_END)] == [0, 0, 0, 0, 1, 0, 1, 0, 0, 1]
+def test_the_page_shows_the_two_feet_what_becomes_of_a_mailed_log_a_job_and_flips(place):
+    assert [shown(place, *one) for one in commands(FRONT_END)] == [0, 0, 0, 0, 1, 0, 1, 0, 0, 1, 0, 0, 0, 0, 1]
 
 
 def shown(place, command, printed):
@@ -47,6 +47,7 @@ def test_the_python_of_the_document_runs(place):
     ran = subprocess.run([sys.executable, "-c", code], cwd=place, env={**os.environ, "PYTHONPATH": str(ROOT / "python")}, capture_output=True, text=True)
     assert ran.returncode == 0, ran.stderr
     assert ran.stdout.splitlines()[-1].split()[-1] == "29" and (place / "report.html").exists()
+    assert "True" in ran.stdout.splitlines()  # flips that were undone
 
 
 def test_every_command_option_and_exit_is_named():

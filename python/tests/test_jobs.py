@@ -3,7 +3,6 @@ from skins, whose sums are worked out here from their coordinates."""
 import json
 import random
 import re
-import subprocess
 from fractions import Fraction
 
 import numpy as np
@@ -13,6 +12,7 @@ from hypothesis import given
 from hypothesis import strategies as st
 from scans import off, shaft, stl
 from tables import O_CORNERS, O_ROWS, T_CORNERS, T_ROWS, damaged, exact_sum
+from texts import damaged_by, mended
 
 import flaxglimmer as fg
 from flaxglimmer import calls, faults, files, header, jobs, lent
@@ -132,15 +132,6 @@ def job_sheets(draw):
 
 
 DAMAGE = st.tuples(st.integers(0, 4), st.integers(0, 2**20), st.sampled_from([b"\t", b"\n", b"\r", b" ", b"0", b"7", b"-", b"J", b"v", b"VS", b"\0", b"\xff", b"JOB\t", b"J\tV\t0\t1\n"]))
-
-
-def damaged_by(data, damage):
-    for kind, place, put in damage:
-        at = place % (len(data) + 1)
-        lines = data.splitlines(keepends=True)
-        one = lines[place % len(lines)] if lines else b""
-        data = [data[:at] + put + data[at:], data[:at] + data[at + 1 :], data[:at] + put + data[at + 1 :], data[:at], data + one][kind]
-    return data
 
 
 @given(job_sheets(), st.lists(DAMAGE, max_size=2))
@@ -375,13 +366,6 @@ def test_the_lines_told_are_those_that_have_the_refusal(sheet, damage):
             assert [fault.line - 2 for fault in found] == bad_entries(data)[1]
 
 
-def mended(folder, hint):
-    """What a hint's own command makes of the file."""
-    command = re.search(r": ([^:]*(?::space:[^:]*)*>mended\.job)", hint)[1]
-    subprocess.run(command, shell=True, cwd=folder, check=True, env={"PATH": "/usr/bin:/bin", "LC_ALL": "C.UTF-8"})
-    return (folder / "mended.job").read_bytes()
-
-
 @pytest.mark.parametrize("data,line,words", [
     (STATION.replace(b"\n", b"\r\n"), 1, "the line ends in a carriage return"),
     (LINES[0] + LINES[1].replace(b"\n", b" \n") + b"".join(LINES[2:]), 2, "the line ends in blanks"),
@@ -397,7 +381,7 @@ def test_what_mail_and_editors_do_is_told_and_how_it_is_undone(data, line, words
     told = run("job", tmp_path / "job of shaft 3.job")
     lines = told.err.splitlines()
     assert told.exit == 1 and re.match(rf"  job of shaft 3\.job, line {line}, byte \d+: {re.escape(words)}", lines[1])
-    assert mended(tmp_path, lines[2]) == STATION
+    assert mended(lines[2], tmp_path) == STATION
 
 
 @given(st.binary(max_size=300))

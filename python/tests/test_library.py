@@ -23,7 +23,7 @@ O_LOG = [(0, 1, 0, 0, 1, 2, 3, 0, 4, 1), (0, 2, 0, 0, 2, 3, 2, 5, 2, 0)]
 
 
 def test_the_tables_of_limits_and_units_are_the_headers():
-    defined = dict(re.findall(r"^#define FLAXGLIMMER_((?:LEAST|MOST|WIDTH)\w*) (\d+)$", HEADER, re.M))
+    defined = dict(re.findall(r"^#define FLAXGLIMMER_((?:LEAST|MOST|WIDTH|FLIP_WIDTH)\w*) (\d+)$", HEADER, re.M))
     assert {name: str(value) for name, value in vars(LIMITS).items()} == defined
     units = re.search(r"Units of a limit.*?enum \{(.*?)\}", HEADER, re.S)[1]
     numbered = dict(re.findall(r"FLAXGLIMMER_(\w+) = (\d+)", units))
@@ -48,7 +48,7 @@ def test_every_function_of_the_header_is_called_with_its_types():
 
 def test_every_refusal_has_the_headers_words():
     told = re.findall(r"^    FLAXGLIMMER_\w+ = (\d+),? +/\* ([^,;:(]*?)(?:[,;:(].*)? \*/$", HEADER, re.M)
-    assert [int(number) for number, _ in told] == [*range(1, 14), *range(20, 26)]
+    assert [int(number) for number, _ in told] == [*range(1, 14), *range(20, 26), *range(30, 33)]
     for number, words in told:
         assert refusals.meaning(int(number)).startswith(words)
 
@@ -266,6 +266,31 @@ def test_jobs_and_exact_sums_are_the_pipes(pipe):
     assert min(statuses.count(number) for number in (0, 12, *range(20, 26))) >= 5
 
 
+def test_flips_are_the_pipes_in_every_number_of_every_buffer(pipe):
+    statuses = []
+    for seed in range(240):
+        chance, harm = random.Random(seed), ("table", "odd", "room", "edge", "record", "log", None, None)[seed % 8]
+        rows, corners = damaged(seed) if harm == "table" else SOUND[seed % len(SOUND)]
+        table, log = rows.astype(np.uint32).reshape(-1), np.full(seed % 3, 77, np.uint32)
+        edges = np.array([edge for _ in range(chance.randrange(6)) for edge in chance.choice(rows.tolist())[:2]], np.uint32)
+        if harm == "edge":
+            edges = np.append(edges, np.array([chance.choice([0, len(corners), 2**32 - 1]), chance.randrange(len(corners))], np.uint32))
+        log = np.append(np.full(8 * (len(edges) // 2), 77, np.uint32), log)
+        edges, log = edges[: len(edges) - (harm == "odd")], log[harm == "room" :]
+        over = pipe.ask(18, len(corners), table.tolist(), edges.tolist(), log.tolist(), lists=2)
+        done = lent_answer(fg.lent.flip_list, len(corners), table, edges, log)
+        assert over == [done, table.tolist(), log.tolist()]
+        log = log[: 8 * done[1]]
+        if harm == "record" and log.size:
+            log[chance.randrange(log.size)] = chance.choice([0, 1, len(rows), 2**32 - 1])
+        log = log[harm == "log" :]
+        over = pipe.ask(19, len(corners), table.tolist(), log.tolist(), lists=1)
+        undone = lent_answer(fg.lent.undo_flips, len(corners), table, log)
+        assert over == [undone, table.tolist()]
+        statuses += [done[0], undone[0]]
+    assert min(statuses.count(number) for number in (0, 2, 3, 30, 31, 32)) >= 5
+
+
 def job_sheet(chance, total):
     """A job with this sum on top: one that stands, or with a fault of a kind of its own."""
     count = chance.choice([1, 2, 5, 12, 32])
@@ -356,6 +381,10 @@ def test_lent_memory_is_looked_at_first():
         assert type(raised.value) is error  # and no refusal, which is a ValueError too
     for call in (
         lambda: fg.lent.replay(6, both[:24], both[14:24]),
+        lambda: fg.lent.undo_flips(6, both[:24], both[16:24]),
+        lambda: fg.lent.flip_list(6, both[:24], both[22:24], log),
+        lambda: fg.lent.flip_list(6, table, both[:2], both[:8]),
+        lambda: fg.lent.flip_list(6, both[:24], np.zeros(2, np.uint32), both[20:28]),
         lambda: fg.lent.grow_back(4, 6, both[:24], both[14:34]),
         lambda: fg.lent.read_sheet(both.view(np.uint8), both[:12], corners),
         lambda: fg.lent.reply(both.view(np.uint8), both.view(np.uint8)[4:]),

@@ -1,7 +1,6 @@
 """Log sheets: the calls against change request 1 in Python's own words, what the commands do with them, and what is told of damaged ones."""
 import json
 import re
-import subprocess
 
 import numpy as np
 import pytest
@@ -10,6 +9,7 @@ from hypothesis import given
 from hypothesis import strategies as st
 from scans import shaft
 from tables import O_CORNERS, O_ROWS, T_CORNERS, T_ROWS
+from texts import damaged_by, mended
 
 import flaxglimmer as fg
 from flaxglimmer import calls, files, lent, logs
@@ -205,15 +205,6 @@ def test_damage_of_every_kind_is_answered_as_the_request_has_it(seed, damage):
     corners, rows = (int(chance.choice(some)) for some in ([3, 4, 6, 9, 514, 515], [3, 4, 8, 1024, 1025]))
     log = chance.integers(0, int(chance.choice([10, 1000, 1_000_001])), (int(chance.integers(0, 6)), 10))
     agree(damaged_by(written(corners, rows, log.tolist()), damage))
-
-
-def damaged_by(data, damage):
-    for kind, place, put in damage:
-        at = place % (len(data) + 1)
-        lines = data.splitlines(keepends=True)
-        one = lines[place % len(lines)] if lines else b""
-        data = [data[:at] + put + data[at:], data[:at] + data[at + 1 :], data[:at] + put + data[at + 1 :], data[:at], data + one][kind]
-    return data
 
 
 @pytest.mark.parametrize("bad", [b"K\t0\t1\n", b"R\t0\t1\t2\n", b"\n", b"K\t0\t1\t0\t0\t1\t2\t3\t0\t4\t01\n", b"K\t0\t1\t0\t0\t1\t2\t3\t0\t4\t1"])
@@ -451,17 +442,6 @@ def test_a_cut_log_shows_its_whole_records_first(folder, run):
     assert run("log", folder / "a.log", "--quiet").err.splitlines() == lines[:2]
 
 
-def mended(folder, hint):
-    """What a hint's own command makes of the file, in a plain locale and in that of most terminals."""
-    command = re.search(r": ([^:]*(?::space:[^:]*)*>(?:mended|shorter)\.log)", hint)[1]
-    made = set()
-    for locale in ("C", "C.UTF-8"):
-        subprocess.run(command, shell=True, cwd=folder, check=True, env={"PATH": "/usr/bin:/bin", "LC_ALL": locale})
-        made.add((folder / re.search(r">(\w+\.log)$", command)[1]).read_bytes())
-    (one,) = made
-    return one
-
-
 LINES = O_SHEET.splitlines(keepends=True)
 MAIL = [
     (O_SHEET.replace(b"\n", b"\r\n"), 1, "the line ends in a carriage return"),
@@ -492,7 +472,7 @@ def test_what_mail_and_editors_do_is_told_and_how_it_is_undone(data, line, words
     told = run("log", log)
     assert told.exit == 1 and re.match(rf"  a\.log, line {line}, byte \d+: {words}", told.err.splitlines()[1])
     assert told.out.count("record ") - told.out.count("whole record ") == max(0, line - 2)
-    assert mended(folder, told.err.splitlines()[2]) == O_SHEET
+    assert mended(told.err.splitlines()[2], folder) == O_SHEET
     for command, more in EVERY:
         other = run(command, folder / "o.sheet", log, *more)
         assert other.exit == 1 and other.out == "" and other.err == told.err
@@ -500,7 +480,7 @@ def test_what_mail_and_editors_do_is_told_and_how_it_is_undone(data, line, words
 
 def test_a_name_with_blanks_is_quoted_in_the_hint(folder, run):
     put(folder, O_SHEET.replace(b"\n", b"\r\n"), "log of shaft 3.log")
-    assert mended(folder, run("log", folder / "log of shaft 3.log").err.splitlines()[2]) == O_SHEET
+    assert mended(run("log", folder / "log of shaft 3.log").err.splitlines()[2], folder) == O_SHEET
 
 
 def test_a_cut_in_the_last_number_shows_when_it_is_replayed(folder, run):
@@ -509,7 +489,7 @@ def test_a_cut_in_the_last_number_shows_when_it_is_replayed(folder, run):
     assert len(sheet) - last > 3  # a number of more than one digit: what is left of it is one too
     told = run("log", put(folder, sheet[:-2]))
     assert "the last line has no newline" in told.err and "replay then says whether its last number is whole" in told.err
-    again = put(folder, mended(folder, told.err.splitlines()[2]))
+    again = put(folder, mended(told.err.splitlines()[2], folder))
     assert run("log", again).exit == 0
     told = run("replay", *SCAN, again)
     assert told.exit == 1 and told.err.startswith("refused, 13")
@@ -519,7 +499,7 @@ def test_the_whole_records_of_a_cut_log_are_a_log_of_fewer_steps(folder, run):
     sheet = (folder / "s.log").read_bytes()
     told = run("log", put(folder, sheet[:1000]))
     lines = sheet[:1000].count(b"\n")
-    shorter = mended(folder, told.err.splitlines()[2])
+    shorter = mended(told.err.splitlines()[2], folder)
     assert shorter == b"".join(sheet.splitlines(keepends=True)[:lines])
     assert f"; {lines - 1} whole records before it" in told.err
     skin, log = fg.read(SPALLED, "m"), files.read_answer(folder / "s.answer").log

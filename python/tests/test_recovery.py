@@ -9,7 +9,8 @@ from hypothesis import given
 from hypothesis import strategies as st
 from scans import shaft
 from tables import O_CORNERS, O_ROWS, T_CORNERS, T_ROWS
-from test_logs import DAMAGE, LINES, MAIL, O_LOG, O_SHEET, SPALLED, damaged_by, folder, line_at, mended, put, written  # noqa: F401
+from test_logs import DAMAGE, LINES, MAIL, O_LOG, O_SHEET, SPALLED, folder, line_at, put, written  # noqa: F401
+from texts import damaged_by, mended
 
 import flaxglimmer as fg
 from flaxglimmer import calls, lent, mail
@@ -329,7 +330,7 @@ def test_each_refusal_by_its_place_and_nothing_is_written(data, number, place, h
     told = run(*asked)
     lines = told.err.splitlines()
     assert told.exit == 1 and told.out == "" and len(lines) == 3 and lines[0].startswith(f"refused, {number}: ")
-    assert lines[1].startswith(f"  {place}") and lines[2].startswith("  hint: ") and hint in lines[2] and "\x1b" not in told.err
+    assert lines[1].startswith(f"  {place}") and lines[2].startswith("  hint: ") and hint.replace("<", f"<{folder}/") in lines[2] and "\x1b" not in told.err
     assert not any(path.exists() for path in out) and log.read_bytes() == data
     told = run(*asked, "--json").told
     (fault,) = told["faults"]
@@ -345,7 +346,7 @@ def test_what_stands_before_a_bad_line_is_recovered_by_the_hints_own_command(fol
         spoilt = put(folder, b"".join(lines[:40]) + bad + b"".join(lines[41:60]))
         told = run("recover", *SCAN, spoilt, "--limit", "1 m")
         assert told.exit == 1 and ", line 41, byte " in told.err
-        shorter = put(folder, mended(folder, told.err.splitlines()[-1].partition("; what")[2]), "shorter.log")
+        shorter = put(folder, mended(told.err.splitlines()[-1].partition("; what")[2], folder), "shorter.log")
         assert shorter.read_bytes() == b"".join(lines[:40])
         told = run("recover", *SCAN, shorter, "--limit", "1 m", "--log", folder / "out.log")
         assert lines_of(told)[0] == f"shorter.log: 39 records kept, {len(lines) - 40} added; nothing was dropped" and (folder / "out.log").read_bytes() == sheet
@@ -357,7 +358,7 @@ def test_what_mail_did_to_whole_lines_is_told_and_how_it_is_undone(data, line, w
     tail = b"K\t0\t2"
     told = run("recover", folder / "o.sheet", put(folder, data + tail), "--limit", "none")
     assert told.exit == 1 and re.match(rf"  a\.log, line {line}, byte \d+: {words}", told.err.splitlines()[1])
-    undone = mended(folder, told.err.splitlines()[2])
+    undone = mended(told.err.splitlines()[2], folder)
     assert undone.startswith(O_SHEET) and b"\n" not in undone[len(O_SHEET) :]
     assert run("recover", folder / "o.sheet", put(folder, undone), "--limit", "none", "--json").told["kept"] == 2
 
@@ -366,7 +367,7 @@ def test_a_log_of_16_bits_a_letter_is_told(folder, run):
     for mark, kind in zip(mail.WIDE, ("utf-16-le", "utf-16-be")):
         told = run("recover", folder / "o.sheet", put(folder, mark + (O_SHEET + b"K\t0").decode().encode(kind)), "--limit", "none")
         assert told.exit == 1 and "a.log, line 1, byte 0: the file has 16 bits a letter" in told.err
-        assert mended(folder, told.err.splitlines()[2]) == O_SHEET + b"K\t0"
+        assert mended(told.err.splitlines()[2], folder) == O_SHEET + b"K\t0"
 
 
 def test_the_skins_own_refusals_come_first_with_their_places(folder, run):

@@ -62,6 +62,8 @@ mod proved {
         pub fn flaxglimmer_next_record(bytes: *const u8, bytes_length: usize, place: usize, found: *mut u64, after: *mut u64, numbers: *mut super::Record) -> u64;
         pub fn flaxglimmer_recover(unit: u32, figure: f64, table: *mut u32, table_length: usize, corners: *const i32, corners_length: usize, log: *mut u32, log_length: usize, bytes: *const u8, bytes_length: usize, kept: *mut u64, records: *mut u64) -> u64;
         pub fn flaxglimmer_job(bytes: *const u8, bytes_length: usize) -> Measure;
+        pub fn flaxglimmer_flip_list(corners: usize, table: *mut u32, table_length: usize, edges: *const u32, edges_length: usize, log: *mut u32, log_length: usize) -> Counted;
+        pub fn flaxglimmer_undo_flips(corners: usize, table: *mut u32, table_length: usize, log: *const u32, log_length: usize) -> Counted;
     }
 }
 
@@ -91,6 +93,14 @@ impl Length {
 #[derive(Clone, Copy, Debug, PartialEq, Eq)]
 pub enum Unfinished {
     Stopped(usize),
+    Refused(Refusal),
+}
+
+/// Why a list of edges was not flipped whole: the flips before an edge that is missing or blocked, or another refusal, which leaves all as it was.
+#[derive(Clone, Copy, Debug, PartialEq, Eq)]
+pub enum Unflipped {
+    Missing(usize),
+    Blocked(usize),
     Refused(Refusal),
 }
 
@@ -146,12 +156,12 @@ fn answered<T>(status: u64, value: T) -> Result<T, Refusal> {
 /// What a log came to that was followed, or stopped after so many records.
 fn followed<T>(status: u64, records: u64, value: T) -> Result<T, Unfinished> {
     answered(status, value).map_err(|refusal| match refusal {
-        Refusal::RecordFails => Unfinished::Stopped(records as usize),
+        Refusal::RecordFails | Refusal::FlipFails => Unfinished::Stopped(records as usize),
         other => Unfinished::Refused(other),
     })
 }
 
-fn regrown(a: proved::Counted) -> Result<usize, Unfinished> {
+fn counted(a: proved::Counted) -> Result<usize, Unfinished> {
     followed(a.status, a.records, a.records as usize)
 }
 
@@ -165,12 +175,12 @@ pub fn thin(table: &mut [u32], corners: &[i32], limit: Option<Length>, log: &mut
 
 /// Grows a log back on the rows that stand in front of a room, over so many corners.
 pub fn grow_back(room: &mut [u32], rows: usize, corners: usize, log: &[u32]) -> Result<usize, Unfinished> {
-    regrown(unsafe { proved::flaxglimmer_grow_back(rows, corners, room.as_mut_ptr(), room.len(), log.as_ptr(), log.len()) })
+    counted(unsafe { proved::flaxglimmer_grow_back(rows, corners, room.as_mut_ptr(), room.len(), log.as_ptr(), log.len()) })
 }
 
 /// Replays a log forward on a table over so many corners.
 pub fn replay(table: &mut [u32], corners: usize, log: &[u32]) -> Result<usize, Unfinished> {
-    regrown(unsafe { proved::flaxglimmer_replay(corners, table.as_mut_ptr(), table.len(), log.as_ptr(), log.len()) })
+    counted(unsafe { proved::flaxglimmer_replay(corners, table.as_mut_ptr(), table.len(), log.as_ptr(), log.len()) })
 }
 
 /// Takes a thinning up whose log sheet was cut after any byte: replays its whole lines on the first table and thins on under a limit or none. The last
@@ -181,6 +191,24 @@ pub fn recover(table: &mut [u32], corners: &[i32], limit: Option<Length>, log: &
     let (mut kept, mut records) = (0, 0);
     let status = unsafe { proved::flaxglimmer_recover(unit, figure, table.as_mut_ptr(), table.len(), corners.as_ptr(), corners.len(), log.as_mut_ptr(), log.len(), bytes.as_ptr(), bytes.len(), &mut kept, &mut records) };
     followed(status, records, Recovered { kept: kept as usize, records: records as usize })
+}
+
+/// Flips listed edges of a stage over so many corners, two corner numbers each, in order up to the first that is refused; answers how many flips were
+/// done, whose records, `FLIP_WIDTH` numbers each, stand in front of the log. It needs so many for each listed edge. Where it stops at an edge, table
+/// and log hold the flips before it and no others.
+pub fn flip_list(table: &mut [u32], corners: usize, edges: &[u32], log: &mut [u32]) -> Result<usize, Unflipped> {
+    let a = unsafe { proved::flaxglimmer_flip_list(corners, table.as_mut_ptr(), table.len(), edges.as_ptr(), edges.len(), log.as_mut_ptr(), log.len()) };
+    answered(a.status, a.records as usize).map_err(|refusal| match refusal {
+        Refusal::EdgeMissing => Unflipped::Missing(a.records as usize),
+        Refusal::EdgeBlocked => Unflipped::Blocked(a.records as usize),
+        other => Unflipped::Refused(other),
+    })
+}
+
+/// Undoes the flips of a flip log on a stage over so many corners, the last record first. Where it stops at a record, the table is left as those undone
+/// before it led to.
+pub fn undo_flips(table: &mut [u32], corners: usize, log: &[u32]) -> Result<usize, Unfinished> {
+    counted(unsafe { proved::flaxglimmer_undo_flips(corners, table.as_mut_ptr(), table.len(), log.as_ptr(), log.len()) })
 }
 
 /// The volume of a stage in cubic metres.

@@ -12,6 +12,8 @@ pub const MOST_CORNERS: usize = 514;
 pub const MOST_COORDINATE: i32 = 50000;
 /// How many numbers of a log a record is.
 pub const WIDTH: usize = 10;
+/// How many numbers of a flip log the record of a flip is.
+pub const FLIP_WIDTH: usize = 8;
 /// Most bytes of a sheet.
 pub const MOST_SHEET_BYTES: usize = 65536;
 /// Most rows of a sheet.
@@ -52,13 +54,16 @@ pub enum Refusal {
     JobAlternation,
     JobDepth,
     JobSum,
+    EdgeMissing,
+    EdgeBlocked,
+    FlipFails,
     /// A number that has no name here, as an archive later than this file may answer.
     Other(u64),
 }
 
 impl Refusal {
     /// Those that have a name.
-    pub const NAMED: [Refusal; 19] = [
+    pub const NAMED: [Refusal; 22] = [
         Refusal::LimitUnusable,
         Refusal::CountsOutside,
         Refusal::RoomShort,
@@ -78,6 +83,9 @@ impl Refusal {
         Refusal::JobAlternation,
         Refusal::JobDepth,
         Refusal::JobSum,
+        Refusal::EdgeMissing,
+        Refusal::EdgeBlocked,
+        Refusal::FlipFails,
     ];
 
     /// The refusal with a number. It is `Other` only where no name has the number, and 0, which is the status of what is done, has none.
@@ -107,6 +115,9 @@ impl Refusal {
             Refusal::JobAlternation => 23,
             Refusal::JobDepth => 24,
             Refusal::JobSum => 25,
+            Refusal::EdgeMissing => 30,
+            Refusal::EdgeBlocked => 31,
+            Refusal::FlipFails => 32,
             Refusal::Other(number) => number,
         }
     }

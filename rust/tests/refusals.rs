@@ -1,10 +1,10 @@
-// A refusal for every status: 01's thirteen and those of 02's jobs by name, any other, as 02's later numbers, as a number and without a panic.
+// A refusal for every status: 01's thirteen and those of 02's jobs and flips by name, any other, as 02's later numbers, as a number and without a panic.
 use flaxglimmer::*;
 
 #[test]
-fn a_name_for_each_of_01s_numbers_and_of_the_jobs() {
+fn a_name_for_each_of_01s_numbers_of_the_jobs_and_of_the_flips() {
     let numbers: Vec<u64> = Refusal::NAMED.into_iter().map(Refusal::number).collect();
-    assert_eq!(numbers, (1..=13).chain(20..=25).collect::<Vec<_>>());
+    assert_eq!(numbers, (1..=13).chain(20..=25).chain(30..=32).collect::<Vec<_>>());
     for named in Refusal::NAMED {
         assert_eq!(Refusal::of(named.number()), named);
     }
@@ -12,11 +12,13 @@ fn a_name_for_each_of_01s_numbers_and_of_the_jobs() {
     assert_eq!(Refusal::of(13), Refusal::RecordFails);
     assert_eq!(Refusal::of(20), Refusal::JobCount);
     assert_eq!(Refusal::of(25), Refusal::JobSum);
+    assert_eq!(Refusal::of(30), Refusal::EdgeMissing);
+    assert_eq!(Refusal::of(32), Refusal::FlipFails);
 }
 
 #[test]
 fn any_other_number_is_kept() {
-    for number in (14..=19).chain(26..=99).chain([1 << 32, (1 << 32) + 4, u64::MAX, 0]) {
+    for number in (14..=19).chain(26..=29).chain(33..=99).chain([1 << 32, (1 << 32) + 4, u64::MAX, 0]) {
         assert_eq!(Refusal::of(number), Refusal::Other(number));
         assert_eq!(Refusal::of(number).number(), number);
     }
