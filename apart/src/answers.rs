@@ -2,13 +2,14 @@
 
 use crate::desk;
 use crate::figures::{figure, shift, sixfold_volume, whole_and_rest};
+use crate::flip;
 use crate::grow::{grow_back, records_of, replay, Reached};
 use crate::job;
 use crate::limit::whole_centimetres;
 use crate::log_sheet::{self, counts_refused, most_records};
 use crate::parts::{catch_up, grid, shorter_ring};
 use crate::protocol::*;
-use crate::refusal::FAILS;
+use crate::refusal::{FAILS, NOT_UNDONE};
 use crate::sheet::{self, GREATEST};
 use crate::skin::*;
 use crate::step::{thin, WIDTH};
@@ -35,6 +36,8 @@ pub fn answer(request: &Request) -> Response {
         READ_RECORDS => records_read(request),
         RECOVER => recovered(request),
         JOB => job_answered(request),
+        FLIP => flipped(request),
+        UNDO => undone(request),
         OPEN_LOG_SHEET => log_sheet_opened(request),
         RECORD_AT => record_at(request),
         EXACT_SUM => exact_sum(request),
@@ -42,7 +45,7 @@ pub fn answer(request: &Request) -> Response {
     }
 }
 
-/// What the call asks before it works, in its order (13, and all that a sheet is asked, come in the work).
+/// What the call asks before it works, in its order (13, 30 to 32, and all that a sheet is asked, come in the work).
 pub fn questions(request: &Request) -> Vec<Question<'_>> {
     match request.call {
         // Recovery is given the first skin, the room and the order as thinning is, at the same places.
@@ -54,6 +57,8 @@ pub fn questions(request: &Request) -> Vec<Question<'_>> {
         SHIFT => shift_questions(request),
         LIMIT => vec![(1, Box::new(|| limit(request).is_none()))],
         WRITE_LOG_SHEET => writing_questions(request),
+        FLIP => flip_questions(request),
+        UNDO => undo_questions(request),
         _ => vec![],
     }
 }
@@ -154,9 +159,10 @@ fn grow_questions(request: &Request) -> Vec<Question<'_>> {
     questions
 }
 
-/// Done, or 13 with the records done; the stage reached is left either way.
+/// Done, or 13, of flips 32, with the records done; the stage reached is left either way.
 fn reached(request: &Request, stage: &Reached) -> Response {
-    Response::untouched(request, vec![if stage.whole { 0 } else { FAILS }, stage.done as Word])
+    let fails = if request.call == UNDO { NOT_UNDONE } else { FAILS };
+    Response::untouched(request, vec![if stage.whole { 0 } else { fails }, stage.done as Word])
 }
 
 fn grown_back(request: &Request) -> Response {
@@ -363,5 +369,45 @@ fn recovered(request: &Request) -> Response {
     response.answer.push(log.len() as Word);
     over_and_zeros(&mut response.lent[0], &left);
     over(&mut response.lent[1], &log.concat());
+    response
+}
+
+/// The questions of a table and a corner count that are told: 2, where another list has a wrong length as well, and 5 to
+/// 11 of a stage.
+fn told_stage_questions(request: &Request, other_length: bool) -> [Vec<Question<'_>>; 2] {
+    let (count, table) = (whole(request, 0), numbers(request, 1));
+    let rows = rows_of(&table);
+    let counts = table_length_refused(&table) || !CORNERS.contains(&count) || other_length;
+    [vec![(2, Box::new(move || counts))], table_questions(rows, count, Table::Stage)]
+}
+
+/// "Room for the flip log, eight numbers for each listed edge, is tested before any flip and gives 3."
+fn flip_questions(request: &Request) -> Vec<Question<'_>> {
+    let (listed, room) = (request.arguments[2].len(), request.arguments[3].len());
+    let [mut questions, of_rows] = told_stage_questions(request, !listed.is_multiple_of(2));
+    questions.push((3, Box::new(move || room < flip::WIDTH * (listed / 2))));
+    questions.extend(of_rows);
+    questions
+}
+
+/// Table and log hold the flips done and no others, whatever stopped the list.
+fn flipped(request: &Request) -> Response {
+    let done = flip::flip_all(rows_of(&numbers(request, 1)), &flip::edges_of(&numbers(request, 2)));
+    let mut response = handed(request, &[done.refused.unwrap_or(0), done.log.len() as Word]);
+    over(&mut response.lent[0], &done.rows.concat());
+    over(&mut response.lent[1], &done.log.concat());
+    response
+}
+
+fn undo_questions(request: &Request) -> Vec<Question<'_>> {
+    let log = request.arguments[2].len();
+    told_stage_questions(request, !log.is_multiple_of(flip::WIDTH)).into_iter().flatten().collect()
+}
+
+fn undone(request: &Request) -> Response {
+    let log = flip::records_of(&numbers(request, 2));
+    let stage = flip::undo_all(rows_of(&numbers(request, 1)), whole(request, 0), &log);
+    let mut response = reached(request, &stage);
+    over(&mut response.lent[0], &stage.rows.concat());
     response
 }

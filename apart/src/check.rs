@@ -79,12 +79,12 @@ fn is_honest(bench: &mut Bench, skin: &Skin, request: &Request) {
     }
 }
 
-fn numbers(words: &[Word]) -> Vec<u32> {
+pub fn numbers(words: &[Word]) -> Vec<u32> {
     words.iter().map(|&word| word as u32).collect()
 }
 
 /// Corners less edges plus rows; every edge lies in two rows.
-fn euler(rows: &[Row]) -> i64 {
+pub fn euler(rows: &[Row]) -> i64 {
     Edges::of(rows).used().len() as i64 - rows.len() as i64 / 2
 }
 
@@ -187,20 +187,20 @@ fn stages(bench: &mut Bench, run: &Run, chance: &mut Chance) {
         if cut == all {
             bench.property("run: replaying gives the last stage", stage == run.left, "it does not", &request);
         }
-        measured(bench, run, &earlier, &stage);
+        measured(bench, "run: measured", run.skin, [&earlier, &stage]);
         earlier = stage;
     }
 }
 
 /// Volume and change against the exact sums: no farther than half a cubic metre, a half away from zero.
-fn measured(bench: &mut Bench, run: &Run, earlier: &[Row], later: &[Row]) {
-    let coordinates: Vec<Word> = run.skin.coordinates().into_iter().map(Word::from).collect();
-    let tables = [earlier, later].map(|rows| words(&rows.concat()));
-    let sums = [earlier, later].map(|rows| sixfold_volume(rows, &run.skin.corners));
+pub fn measured(bench: &mut Bench, kind: &str, skin: &Skin, earlier_and_later: [&[Row]; 2]) {
+    let coordinates: Vec<Word> = skin.coordinates().into_iter().map(Word::from).collect();
+    let tables = earlier_and_later.map(|rows| words(&rows.concat()));
+    let sums = earlier_and_later.map(|rows| sixfold_volume(rows, &skin.corners));
     let volume = Request { call: VOLUME, arguments: vec![tables[1].clone(), coordinates.clone()] };
     let change = Request { call: CHANGE, arguments: vec![tables[0].clone(), tables[1].clone(), coordinates] };
     for (request, sum) in [(volume, sums[1]), (change, sums[1] - sums[0])] {
-        if let Some(found) = bench.try_call("run: measured", &request) {
+        if let Some(found) = bench.try_call(kind, &request) {
             nearest(bench, &request, sum, found.answer[1]);
         }
     }

@@ -2,6 +2,7 @@
 
 use crate::bench::Bench;
 use crate::chance::Chance;
+use crate::flip;
 use crate::harm::{scribble, words};
 use crate::mail::{text_of, text_words};
 use crate::make::{octahedron, tetrahedron};
@@ -51,11 +52,13 @@ fn corners(bench: &mut Bench, chance: &mut Chance) {
     }
 }
 
-/// Corner counts for growing back and replay.
+/// Corner counts for growing back, replay, flips and their undoing.
 fn counts(bench: &mut Bench) {
     for count in [0, 1, 3, 4, 5, CORNERS - 1, CORNERS, CORNERS + 1].into_iter().chain(PAST) {
         attempt(bench, GROW_BACK, [&[4], &[count], &t(), &[]]);
         attempt(bench, REPLAY, [&[count], &t(), &[]]);
+        attempt(bench, FLIP, [&[count], &t(), &[0, 1], &[7; flip::WIDTH]]);
+        attempt(bench, UNDO, [&[count], &t(), &[]]);
     }
 }
 
@@ -95,6 +98,8 @@ fn records_replayed(bench: &mut Bench) {
 fn log_lengths(bench: &mut Bench, chance: &mut Chance) {
     for length in 0..2 * WIDTH + 2 {
         let log = vec![0; length];
+        attempt(bench, UNDO, [&[6], &words(&octahedron().concat()), &log]);
+        attempt(bench, FLIP, [&[6], &words(&octahedron().concat()), &log, &[7; flip::WIDTH]]);
         attempt(bench, SHIFT, [&[0], &[0; 12], &log]);
         attempt(bench, REPLAY, [&[6], &words(&octahedron().concat()), &log]);
         let room = [t(), scribble(12, chance)].concat();
@@ -102,7 +107,7 @@ fn log_lengths(bench: &mut Bench, chance: &mut Chance) {
     }
 }
 
-/// Tables of every small length, and at the most rows, for thinning and for recovery.
+/// Tables of every small length, and at the most rows, for thinning, recovery, flips and their undoing.
 fn table_lengths(bench: &mut Bench, chance: &mut Chance) {
     let most = 3 * MOST_ROWS;
     for length in (0..=14).chain(most - 1..=most + 3) {
@@ -111,5 +116,7 @@ fn table_lengths(bench: &mut Bench, chance: &mut Chance) {
         let sheet = text_words(&text_of([FEWEST as Word, length as Word / 3], &[]));
         attempt(bench, THIN, [&[0], &[0], &table, &[7; 12], &room]);
         attempt(bench, RECOVER, [&[0], &[0], &table, &[7; 12], &room, &sheet]);
+        attempt(bench, FLIP, [&[4], &table, &[], &room]);
+        attempt(bench, UNDO, [&[4], &table, &[]]);
     }
 }

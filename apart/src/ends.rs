@@ -4,6 +4,7 @@
 use crate::bench::{Bench, END};
 use crate::chance::Chance;
 use crate::desk;
+use crate::flips;
 use crate::harm::{asked, Input};
 use crate::logs::steps;
 use crate::make;
@@ -35,6 +36,9 @@ fn small_request(call: usize, chance: &mut Chance) -> Request {
         let log = if on_sheet { steps(&skin.rows, 2, chance).1 } else { vec![] };
         let mut input = Input::new(&skin, &log);
         input.order = (3, 100f64.to_bits());
+        if [FLIP, UNDO].contains(&call) {
+            flips::give(&mut input, call, 2, chance);
+        }
         return input.request(call, chance);
     }
     let arguments = call_of(call).expect("one of the calls").arguments.iter().map(|_| vec![1, 2, 3]).collect();
@@ -57,7 +61,7 @@ fn must_end(bench: &mut Bench, kind: &str, bad: &[u8], behind: Behind, chance: &
     if bench.enough() {
         return;
     }
-    let calls = [THIN, VOLUME, LIMIT, CATCH_UP, READ_LOG_SHEET, RECOVER];
+    let calls = [THIN, VOLUME, LIMIT, CATCH_UP, READ_LOG_SHEET, RECOVER, FLIP];
     let honest = small_request(bench.some_call(&calls, chance), chance);
     let words = bytes_of(&honest.words());
     let more: &[u8] = if behind == Behind::More { &words } else { &[] };

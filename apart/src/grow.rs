@@ -9,7 +9,7 @@ pub fn records_of(log: &[u32]) -> Vec<Record> {
 }
 
 /// The third corner of a row that has the directed edge.
-fn third(row: Row, from: u32, to: u32) -> Option<u32> {
+pub fn third(row: Row, from: u32, to: u32) -> Option<u32> {
     let [a, b, c] = row;
     [[a, b, c], [b, c, a], [c, a, b]].into_iter().find(|t| t[0] == from && t[1] == to).map(|t| t[2])
 }
@@ -90,10 +90,11 @@ pub fn replay(rows: Vec<Row>, log: &[Record]) -> Reached {
     follow(rows, log.iter(), replay_one)
 }
 
-fn follow<'a>(
+/// Follows records in the order given, up to the first that is not accepted.
+pub fn follow<T>(
     mut rows: Vec<Row>,
-    log: impl Iterator<Item = &'a Record>,
-    one: impl Fn(&[Row], &Record) -> Option<Vec<Row>>,
+    log: impl Iterator<Item = T>,
+    one: impl Fn(&[Row], T) -> Option<Vec<Row>>,
 ) -> Reached {
     let mut done = 0;
     for record in log {

@@ -1,6 +1,8 @@
 //! Damage: one harm for each line of the refusal table, done to an honest input of any call.
 
 use crate::chance::Chance;
+use crate::flip;
+use crate::flips;
 use crate::job::{self, Entry};
 use crate::jobs;
 use crate::log_sheet::{self, most_records};
@@ -40,6 +42,10 @@ pub enum Harm {
     Alternation,
     Depth,
     Sum,
+    /// Those of a list of edges, and that of a flip log.
+    Missing,
+    Neighbours,
+    FlipLog,
 }
 
 use Harm::*;
@@ -67,6 +73,9 @@ impl Harm {
             Alternation => refusal::ALTERNATION,
             Depth => refusal::DEPTH,
             Sum => refusal::SUM,
+            Missing => refusal::MISSING,
+            Neighbours => refusal::NEIGHBOURS,
+            FlipLog => refusal::NOT_UNDONE,
         }
     }
 }
@@ -98,6 +107,9 @@ pub fn asked(call: usize) -> Vec<Harm> {
             let form = [SheetSize, SheetFirstLine, SheetLines];
             [&form[..], &[Entries, Letter, Naming, Alternation, Depth, Sum]].concat()
         }
+        // The last two are asked edge by edge.
+        FLIP => [&[Counts, Room], &rows[..], &rings, &[Missing, Neighbours]].concat(),
+        UNDO => [&[Counts], &rows[..], &rings, &[FlipLog]].concat(),
         OPEN_LOG_SHEET => vec![SheetSize, SheetFirstLine, Counts],
         RECORD_AT => vec![SheetLines],
         _ => vec![],
@@ -114,6 +126,8 @@ pub struct Input {
     pub log: Vec<u32>,
     pub corner: u32,
     pub job: Vec<Entry>,
+    pub edges: Vec<u32>,
+    pub flip_log: Vec<u32>,
     /// Rows told and corner count, where they are other than the lists say.
     pub told: Option<u64>,
     pub count: Option<u64>,
@@ -133,6 +147,8 @@ impl Input {
             log: log.concat(),
             corner: 0,
             job: jobs::station(),
+            edges: Vec::new(),
+            flip_log: Vec::new(),
             told: None,
             count: None,
             spare: 0,
@@ -184,6 +200,11 @@ impl Input {
                 vec![sheet, vec![place]]
             }
             JOB => vec![self.harmed(job::write(&self.job), &OF_JOB_SHEETS, chance)],
+            FLIP => {
+                let need = (flip::WIDTH * (self.edges.len() / 2)) as i64;
+                vec![vec![count], table, words(&self.edges), scribble(need + self.spare, chance)]
+            }
+            UNDO => vec![vec![count], table, words(&self.flip_log)],
             _ => unreachable!("no input has another call"),
         };
         Request { call, arguments }
@@ -311,6 +332,16 @@ pub fn harm(input: &mut Input, call: usize, harm: Harm, chance: &mut Chance) {
             let place = 1 + chance.below(input.job.len());
             jobs::fault(&mut input.job, harm.number(), place, chance);
         }
+        Missing | Neighbours => {
+            let rows = rows_of(&input.table);
+            let edge = match harm {
+                Missing => Some(flips::missing(&rows, count, chance)),
+                _ => flips::of_neighbours(&rows, chance),
+            };
+            // In front of the list, so that what is done to it last is what refuses it.
+            drop(input.edges.splice(0..0, edge.into_iter().flatten()));
+        }
+        FlipLog => flips::harm_record(&mut input.flip_log, chance),
     }
 }
 
@@ -323,7 +354,7 @@ fn coordinate_outside(on_sheet: bool, chance: &mut Chance) -> i32 {
     }
 }
 
-fn number_outside(count: u32, on_sheet: bool, chance: &mut Chance) -> u32 {
+pub fn number_outside(count: u32, on_sheet: bool, chance: &mut Chance) -> u32 {
     match on_sheet {
         true => chance.pick(&[count, count + 1, 256 + count, 1 << 16, sheet::GREATEST as u32]),
         false => chance.pick(&[count, count + 1, 1 << 16, 1 << 31, u32::MAX, u32::MAX - 1]),
@@ -397,9 +428,9 @@ fn harm_counts(input: &mut Input, call: usize, chance: &mut Chance) {
     let lists = matches!(call, THIN | VOLUME | EXACT_SUM | CHANGE | SHIFT | RECOVER);
     let logs = matches!(call, GROW_BACK | REPLAY | SHIFT | WRITE_LOG_SHEET);
     let told = matches!(call, GROW_BACK | WRITE_LOG_SHEET);
-    let tables = matches!(call, THIN | REPLAY | VOLUME | EXACT_SUM | CHANGE | RECOVER);
+    let tables = matches!(call, THIN | REPLAY | VOLUME | EXACT_SUM | CHANGE | RECOVER | FLIP | UNDO);
     loop {
-        match chance.below(10) {
+        match chance.below(11) {
             0 if tables => drop(input.table.split_off(input.table.len() - 1 - chance.below(2))),
             1 if tables => input.table.extend(vec![0; 1 + chance.below(2)]),
             2 if tables => input.table = input.table.iter().copied().cycle().take(3 * (MOST_ROWS + 1)).collect(),
@@ -417,6 +448,8 @@ fn harm_counts(input: &mut Input, call: usize, chance: &mut Chance) {
                 let at = chance.below(input.log.len());
                 input.log[at] = chance.pick(&[sheet::GREATEST as u32 + 1, 1 << 24, 1 << 31, u32::MAX]);
             }
+            10 if call == FLIP => input.edges.push(chance.pick(&input.table)),
+            10 if call == UNDO => input.flip_log.extend(vec![0; 1 + chance.below(flip::WIDTH - 1)]),
             _ => continue,
         }
         return;

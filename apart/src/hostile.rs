@@ -2,6 +2,7 @@
 
 use crate::bench::Bench;
 use crate::chance::Chance;
+use crate::flip;
 use crate::harm::Input;
 use crate::make::Skin;
 use crate::protocol::*;
@@ -9,7 +10,7 @@ use crate::skin::{Row, FARTHEST, MOST_CORNERS, MOST_ROWS};
 use crate::step::WIDTH;
 
 /// The calls that are given tables of any rows; the exact sum is asked for with the volume.
-pub const TABLES: [usize; 5] = [THIN, VOLUME, EXACT_SUM, REPLAY, RECOVER];
+pub const TABLES: [usize; 7] = [THIN, VOLUME, EXACT_SUM, REPLAY, RECOVER, FLIP, UNDO];
 
 /// Small tables of any numbers, closed now and then by chance.
 pub fn tables(bench: &mut Bench, chance: &mut Chance) {
@@ -26,17 +27,19 @@ pub fn tables(bench: &mut Bench, chance: &mut Chance) {
     chance.shuffle(&mut all);
     let corners = (0..count as i32).map(|n| [n, n * n, -n]).collect();
     let skin = Skin { rows: all[..rows.min(all.len())].to_vec(), corners, genus: 0, name: "any rows" };
-    let input = Input::new(&skin, &[]);
-    for call in [THIN, VOLUME, REPLAY, RECOVER] {
+    let mut input = Input::new(&skin, &[]);
+    input.edges = (0..2 * chance.below(4)).map(|_| chance.below(count + 1) as u32).collect();
+    input.flip_log = (0..flip::WIDTH * chance.below(3)).map(|_| chance.below(rows.max(count)) as u32).collect();
+    for call in [THIN, VOLUME, REPLAY, RECOVER, FLIP, UNDO] {
         bench.try_call("chance: tables of any rows", &input.request(call, chance));
     }
 }
 
 /// The calls that are given any words.
 #[rustfmt::skip]
-pub const WORDS: [usize; 17] = [
+pub const WORDS: [usize; 19] = [
     THIN, GROW_BACK, REPLAY, VOLUME, CHANGE, SHIFT, LIMIT, READ_SHEET, DESK_ANSWER, WRITE_LOG_SHEET, READ_LOG_SHEET,
-    READ_RECORDS, RECOVER, JOB, OPEN_LOG_SHEET, RECORD_AT, EXACT_SUM,
+    READ_RECORDS, RECOVER, JOB, FLIP, UNDO, OPEN_LOG_SHEET, RECORD_AT, EXACT_SUM,
 ];
 
 /// Any words of the right type, up to the type's ends.
@@ -49,7 +52,7 @@ pub fn words(bench: &mut Bench, chance: &mut Chance) {
 
 fn any_words(kind: Kind, chance: &mut Chance) -> Vec<Word> {
     // Whole records, whole rows and whole corners are among them.
-    let few = [0, 1, 9, WIDTH, 12, 12, 15, 2 * WIDTH, 24, 3 * WIDTH, 10 * WIDTH];
+    let few = [0, 1, flip::WIDTH, 9, WIDTH, 12, 12, 15, 2 * WIDTH, 24, 3 * WIDTH, 10 * WIDTH];
     let most = [3 * MOST_CORNERS, 3 * MOST_CORNERS + 3, 3 * MOST_ROWS, 3 * MOST_ROWS + 3];
     let length = chance.pick(&[&few[..], &most].concat());
     let mut one = |ends: &[Word], most: usize| match chance.one_in(4) {

@@ -4,6 +4,7 @@
 use crate::bench::Bench;
 use crate::chance::Chance;
 use crate::figures::HALF;
+use crate::harm::spoiled_at;
 use crate::job::{self, Entry, DEEPEST, LARGEST_SUM, MOST_BYTES, MOST_ENTRIES, SOLID, SUM_DIGITS, VOID};
 use crate::jobs::*;
 use crate::make;
@@ -401,13 +402,9 @@ fn bytes(bench: &mut Bench, chance: &mut Chance) {
                     attempt("sweep: job sheets with a byte replaced", &spoiled);
                 }
             }
-            let mut spoiled = text.clone();
-            spoiled.insert(at, text[at]);
-            attempt("sweep: job sheets with a byte doubled", &spoiled);
-            let mut spoiled = text.clone();
-            spoiled.remove(at);
-            attempt("sweep: job sheets with a byte less", &spoiled);
-            attempt("sweep: job sheets cut off", &text[..at]);
+            for (manner, kind) in [(2, "with a byte doubled"), (1, "with a byte less"), (3, "cut off")] {
+                attempt(&format!("sweep: job sheets {kind}"), &spoiled_at(&text, at, manner, chance));
+            }
         }
     }
 }

@@ -6,7 +6,7 @@ use apart::chance::Chance;
 use apart::protocol::{bytes_of, call_of, Request, CALLS};
 use apart::spoil::Spoiler;
 use apart::tally::{difference, words_of};
-use apart::{answers, counts, cuts, desk, ends, job_sheets, lines, log_sheets, order, recovery, round};
+use apart::{answers, counts, cuts, desk, ends, flip_sweeps, job_sheets, lines, log_sheets, order, recovery, round};
 use apart::{serve, sheets, sums, sweep, trial};
 use std::io::Read;
 use std::process::ExitCode;
@@ -94,7 +94,7 @@ type Part = fn(&mut Bench, u64);
 /// The parts after the lines of `trials`: 01's cases, the order of refusals, the sweeps, the ends, then rounds of
 /// chance up to the count. Those behind them come to so many calls that few would be left to the rounds: a whole run
 /// makes them beside its count.
-const PARTS: [(&str, Part); 15] = [
+const PARTS: [(&str, Part); 16] = [
     ("trial", |bench, seed| trial::run(bench, &mut own(seed, 0))),
     ("alone", |bench, seed| order::alone(bench, &mut own(seed, 1))),
     ("order", |bench, seed| order::run(bench, 3, &mut own(seed, 2))),
@@ -107,6 +107,7 @@ const PARTS: [(&str, Part); 15] = [
     ("returning", |bench, seed| round::returning(bench, &mut own(seed, 8))),
     ("greatest", |bench, seed| round::greatest(bench, &mut own(seed, 9))),
     ("rounds", rounds),
+    ("flips", |bench, seed| flip_sweeps::run(bench, &mut own(seed, 14))),
     ("jobs", |bench, seed| job_sheets::run(bench, &mut own(seed, 13))),
     ("recovery", |bench, seed| recovery::run(bench, &mut own(seed, 11))),
     ("cuts", |bench, seed| cuts::run(bench, &mut own(seed, 12))),

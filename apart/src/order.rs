@@ -3,12 +3,14 @@
 use crate::answers::{answer, questions};
 use crate::bench::Bench;
 use crate::chance::Chance;
+use crate::flips;
 use crate::harm::{asked, harm, Harm, Input};
 use crate::job;
 use crate::logs::steps;
 use crate::make;
 use crate::protocol::*;
 use crate::refusal::BAD_FORM;
+use crate::skin::rows_of;
 
 pub fn run(bench: &mut Bench, rounds: usize, chance: &mut Chance) {
     for _ in 0..rounds {
@@ -31,11 +33,22 @@ fn honest(call: usize, chance: &mut Chance) -> Input {
         if log.is_empty() {
             continue;
         }
-        if call == GROW_BACK {
+        let flips = [FLIP, UNDO].contains(&call);
+        if call == GROW_BACK || flips && chance.one_in(2) {
             skin.rows = left;
         }
-        return Input::new(&skin, &log);
+        let mut input = Input::new(&skin, &log);
+        if !flips || given_flips(&mut input, call, chance) {
+            return input;
+        }
     }
+}
+
+/// Gives an input flips; true where some are allowed and others would be refused by 31.
+fn given_flips(input: &mut Input, call: usize, chance: &mut Chance) -> bool {
+    let refused = flips::of_neighbours(&rows_of(&input.table), chance).is_some();
+    flips::give(input, call, 3, chance);
+    refused && !input.edges.is_empty()
 }
 
 fn singles(bench: &mut Bench, &Call { number: call, name, .. }: &Call, chance: &mut Chance) {
@@ -92,10 +105,11 @@ fn holding(request: &Request) -> Vec<i64> {
 fn compare(bench: &mut Bench, kind: &str, request: &Request, harms: &[Harm]) {
     let holding = holding(request);
     let seen = |harm: &Harm| holding.contains(&harm.number());
-    // 13 and what a sheet is asked are seen in the work alone; recovery is given its skin beside its sheet.
+    // 13, 30 to 32 and what a sheet is asked are seen in the work alone; recovery is given its skin beside its sheet.
     let in_work = |harm: &Harm| match request.call {
         RECOVER => !asked(THIN).contains(harm),
         JOB => holding == [BAD_FORM],
+        FLIP | UNDO => [Harm::Missing, Harm::Neighbours, Harm::FlipLog].contains(harm),
         _ => *harm == Harm::Log || request.shape().reads_sheet(),
     };
     // A length outside its limits may cut another harm off.
@@ -124,7 +138,7 @@ fn refusal_told(response: &Response) -> i64 {
 /// Honest skins with one thing that alone calls for 5, 6, 7 or 8, and nothing else wrong.
 pub fn alone(bench: &mut Bench, chance: &mut Chance) {
     for number in [5, 6, 7, 8] {
-        for call in [THIN, GROW_BACK, REPLAY, VOLUME, CHANGE, READ_SHEET, RECOVER] {
+        for call in [THIN, GROW_BACK, REPLAY, VOLUME, CHANGE, READ_SHEET, RECOVER, FLIP, UNDO] {
             let mut input = Input::new(&make::skin_of_genus(0, 16, chance), &[]);
             lone_harm(&mut input, number);
             let request = input.request(call, chance);

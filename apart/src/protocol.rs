@@ -105,6 +105,8 @@ pub const READ_LOG_SHEET: usize = 14;
 pub const READ_RECORDS: usize = 15;
 pub const RECOVER: usize = 16;
 pub const JOB: usize = 17;
+pub const FLIP: usize = 18;
+pub const UNDO: usize = 19;
 pub const OPEN_LOG_SHEET: usize = 24;
 pub const RECORD_AT: usize = 25;
 pub const EXACT_SUM: usize = 26;
@@ -113,7 +115,7 @@ pub const LOG_SHEET_CALLS: [usize; 5] = [WRITE_LOG_SHEET, READ_LOG_SHEET, READ_R
 use Kind::*;
 
 /// The calls in the order of their numbers; the numbers between are kept for later requests.
-pub static CALLS: [Call; 20] = [
+pub static CALLS: [Call; 22] = [
     call(
         THIN,
         "thin",
@@ -169,6 +171,13 @@ pub static CALLS: [Call; 20] = [
         ],
     ),
     call(JOB, "job sheet", 2, &[read("bytes", Bytes)]),
+    call(
+        FLIP,
+        "flip a list",
+        2,
+        &[read("corner count", Whole), lent("table", Numbers), read("edges", Numbers), lent("flip log", Numbers)],
+    ),
+    call(UNDO, "undo flips", 2, &[read("corner count", Whole), lent("table", Numbers), read("flip log", Numbers)]),
     call(OPEN_LOG_SHEET, "open a log sheet", 4, &[read("bytes", Bytes)]),
     call(RECORD_AT, "the record at a place", 3 + WIDTH, &[read("bytes", Bytes), read("place", Whole)]),
     call(EXACT_SUM, "exact sum of a stage", 3, &[read("table", Numbers), read("corners", Coordinates)]),

@@ -11,10 +11,15 @@ pub const NAME: i64 = 22;
 pub const ALTERNATION: i64 = 23;
 pub const DEPTH: i64 = 24;
 pub const SUM: i64 = 25;
+/// A flip of an edge that is missing, one whose c and d are neighbours, and a record that is not undone.
+pub const MISSING: i64 = 30;
+pub const NEIGHBOURS: i64 = 31;
+pub const NOT_UNDONE: i64 = 32;
 /// Those that come before the rows are looked at, but for recovery's 12, and 2 after it.
 pub const BEFORE_ROWS: [i64; 4] = [1, 2, 3, BAD_FORM];
 /// All that there are: a whole run must meet each.
 #[rustfmt::skip]
-pub const ALL: [i64; 19] = [
+pub const ALL: [i64; 22] = [
     1, 2, 3, 4, 5, 6, 7, 8, 9, 10, 11, BAD_FORM, FAILS, ENTRIES, KIND, NAME, ALTERNATION, DEPTH, SUM,
+    MISSING, NEIGHBOURS, NOT_UNDONE,
 ];

@@ -3,6 +3,7 @@
 use crate::bench::Bench;
 use crate::chance::Chance;
 use crate::check;
+use crate::flips;
 use crate::harm::{asked, harm, harm_log, scribble, Input};
 use crate::hostile;
 use crate::jobs;
@@ -35,7 +36,7 @@ struct Round {
     run: fn(&mut Bench, &Skin, &mut Chance),
 }
 
-static ROUNDS: [Round; 28] = [
+static ROUNDS: [Round; 31] = [
     Round { share: 12, calls: &[THIN], run: whole_run },
     Round { share: 20, calls: &[THIN], run: thinned },
     Round { share: 12, calls: &DAMAGED, run: damaged },
@@ -64,6 +65,9 @@ static ROUNDS: [Round; 28] = [
     Round { share: 1, calls: &[JOB], run: |bench, _, chance| jobs::byte_by_byte(bench, chance) },
     Round { share: 2, calls: &[JOB], run: |bench, _, chance| jobs::of_pieces(bench, chance) },
     Round { share: 4, calls: &[JOB, EXACT_SUM], run: jobs::of_stages },
+    Round { share: 16, calls: &[FLIP, UNDO], run: flips::honest },
+    Round { share: 12, calls: &[UNDO], run: flips::spoiled },
+    Round { share: 4, calls: &[FLIP, UNDO], run: flips::thinned },
 ];
 
 /// The calls that ask for a first table.
@@ -93,7 +97,7 @@ fn large_call(bench: &mut Bench, skin: &Skin, chance: &mut Chance) {
     let mut input = Input::new(skin, &log);
     input.order = order;
     let kind = "chance: large skins";
-    match chance.below(8) {
+    match chance.below(10) {
         0 | 1 => bench.try_call(kind, &input.request(THIN, chance)),
         2 => bench.try_call(kind, &input.request(READ_SHEET, chance)),
         3 => bench.try_call(kind, &input.request(REPLAY, chance)),
@@ -106,6 +110,12 @@ fn large_call(bench: &mut Bench, skin: &Skin, chance: &mut Chance) {
             bench.try_call(kind, &input.request(CHANGE, chance))
         }
         6 => bench.try_call(kind, &input.request(RECOVER, chance)),
+        at @ (7 | 8) => {
+            let call = [FLIP, UNDO][at - 7];
+            input.table = left.concat();
+            flips::give(&mut input, call, 40, chance);
+            bench.try_call(kind, &input.request(call, chance))
+        }
         _ => bench.try_call(kind, &input.request(DESK_ANSWER, chance)),
     };
 }
@@ -130,9 +140,9 @@ fn stage_for_first(bench: &mut Bench, skin: &Skin, chance: &mut Chance) {
 
 /// The calls that are harmed, thinning and recovery twice as often.
 #[rustfmt::skip]
-const DAMAGED: [usize; 18] = [
+const DAMAGED: [usize; 20] = [
     THIN, THIN, GROW_BACK, REPLAY, VOLUME, CHANGE, SHIFT, READ_SHEET, DESK_ANSWER, WRITE_LOG_SHEET, READ_LOG_SHEET,
-    READ_RECORDS, RECOVER, RECOVER, JOB, JOB, OPEN_LOG_SHEET, RECORD_AT,
+    READ_RECORDS, RECOVER, RECOVER, JOB, JOB, FLIP, UNDO, OPEN_LOG_SHEET, RECORD_AT,
 ];
 
 /// One to three harms at once on any call that can refuse.
@@ -145,6 +155,9 @@ fn damaged(bench: &mut Bench, skin: &Skin, chance: &mut Chance) {
     let mut input = Input::new(skin, &log);
     if call == GROW_BACK {
         input.table = left.concat();
+    }
+    if [FLIP, UNDO].contains(&call) {
+        flips::give(&mut input, call, 4, chance);
     }
     for _ in 0..1 + chance.below(3) {
         let one = chance.pick(&asked(call));

@@ -1,6 +1,7 @@
 //! What was tried and what came of it: counts for the summary, failures printed with the call that shows them again.
 
 use crate::figures::{HALF, SIX_CUBIC_METRES};
+use crate::flip_kinds;
 use crate::harm::asked;
 use crate::job::{self, Entry, DEEPEST, LARGEST_SUM, MOST_ENTRIES, SOLID, VOID};
 use crate::jobs::{PAST_63, PAST_64};
@@ -31,8 +32,8 @@ pub struct Tally {
     many_rows: usize,
 }
 
-/// What a whole run must have met at least once, besides every refusal.
-const MUST_MEET: [&str; 50] = [
+/// What a whole run must have met at least once, besides every refusal and the kinds of flips.
+const MUST_MEET: [&str; 61] = [
     "a sphere",
     "a torus",
     "genus 2",
@@ -83,6 +84,17 @@ const MUST_MEET: [&str; 50] = [
     "a net past 64 bits below zero",
     "a net past 63 bits that 64 hold",
     "a job sheet of the most bytes in form",
+    "a table flipped both ways round",
+    "a record with a row turned, undone",
+    "a row of the table turned, not undone",
+    "records exchanged, not undone",
+    "records exchanged, undone all the same",
+    "a flip log of another skin, not undone",
+    "a record that no flip wrote, undone",
+    "a flipped skin measured",
+    "a flipped skin thinned",
+    "a thinned skin flipped",
+    "a flipped skin run down to its end",
 ];
 
 impl Tally {
@@ -129,6 +141,7 @@ impl Tally {
         if status == 0 {
             self.note_log_sheet(request, expected);
         }
+        flip_kinds::of(request, expected).into_iter().for_each(|kind| self.meet(kind));
         match request.call {
             JOB => self.note_job(&request.arguments[0], status),
             EXACT_SUM => {
@@ -259,7 +272,7 @@ impl Tally {
             let never = self.refusals(number) == 0;
             self.verdict("every refusal met", never.then(|| format!("refusal {number} never occurred")), String::new);
         }
-        for kind in MUST_MEET {
+        for kind in MUST_MEET.into_iter().chain(flip_kinds::all()) {
             let never = !self.met.contains_key(kind);
             self.verdict("every kind of input met", never.then(|| format!("{kind} never occurred")), String::new);
         }
@@ -300,7 +313,7 @@ fn rows_worked(request: &Request) -> usize {
     match request.call {
         THIN | RECOVER => length(2),
         GROW_BACK => (request.arguments[0][0] as usize).saturating_add(2 * (request.arguments[3].len() / WIDTH)),
-        REPLAY => length(1),
+        REPLAY | FLIP | UNDO => length(1),
         VOLUME | EXACT_SUM => length(0),
         CHANGE => length(0).max(length(1)),
         READ_SHEET | DESK_ANSWER => {

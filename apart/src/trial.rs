@@ -1,11 +1,13 @@
 //! 01's own cases: its trial skins, its slips, its limits and its sheet; its O as the log sheet of 02, cut and
-//! recovered; the feet and the jobs of 02. What is expected here is copied from them, or worked by hand, and both the
+//! recovered; the feet, the jobs and the flips of 02. What is expected here is copied from them, or worked by hand, and both the
 //! driven programs and this program's own rules are held to it.
 
 use crate::answers::answer;
 use crate::bench::Bench;
 use crate::chance::Chance;
 use crate::figures::sixfold_volume;
+use crate::flip;
+use crate::flips::{flip_request, undo_request};
 use crate::grow::records_of;
 use crate::harm::{scribble, words};
 use crate::jobs::job_request;
@@ -28,6 +30,7 @@ const REQUEST_1: &str = "02, request 1";
 const REQUEST_3: &str = "02, request 3";
 const REQUEST_4: &str = "02, request 4";
 const REQUEST_5: &str = "02, request 5";
+const REQUEST_6: &str = "02, request 6";
 /// `LOG`, corners, rows; then O's two `K` lines, as 01 has them.
 const O_LOG_SHEET: &str = "LOG\t6\t8\nK\t0\t1\t0\t0\t1\t2\t3\t0\t4\t1\nK\t0\t2\t0\t0\t2\t3\t2\t5\t2\t0\n";
 const O_TEXT: &str = "OK\t4\t2\t1\t0\nR\t0\t3\t4\nR\t5\t3\t0\nR\t5\t4\t3\nR\t5\t0\t4\n\
@@ -46,6 +49,11 @@ pub fn run(bench: &mut Bench, chance: &mut Chance) {
     jobs(bench);
     jobs_in_bad_form(bench);
     jobs_refused(bench);
+    flips(bench, chance);
+    flips_refused(bench, chance);
+    flips_undone(bench);
+    flips_not_undone(bench);
+    flips_measured(bench);
 }
 
 pub fn coordinates(corners: &[Corner]) -> Vec<Word> {
@@ -510,4 +518,228 @@ fn jobs_refused(bench: &mut Bench) {
     }
     // A net of 5 less 31 times 5.
     hold_job(bench, "32 entries", &many(32, PILLAR), [0, 0]);
+}
+
+/// O with an edge turned, worked by hand. From 0 to 1: row 0 is (0,1,2), so c is 2; row 3 is (0,4,1), turned (1,0,4), so d
+/// is 4. 2 and 4 lie opposite in O. Row 0 becomes (c,a,d) and row 3 (c,d,b).
+const O_BY_01: [Row; 8] = [[2, 0, 4], [0, 2, 3], [0, 3, 4], [2, 4, 1], [5, 2, 1], [5, 3, 2], [5, 4, 3], [5, 1, 4]];
+const LOG_01: flip::Record = [0, 0, 1, 2, 3, 0, 4, 1];
+/// From 1 to 0 row 3 is the first: c is 4 and d is 2. It becomes (4,1,2), and row 0 becomes (4,2,0).
+const O_BY_10: [Row; 8] = [[4, 2, 0], [0, 2, 3], [0, 3, 4], [4, 1, 2], [5, 2, 1], [5, 3, 2], [5, 4, 3], [5, 1, 4]];
+const LOG_10: flip::Record = [3, 0, 4, 1, 0, 0, 1, 2];
+/// From 0 to 1, then from 2 to 3: row 1 is (0,2,3), so c is 0; row 5 is (5,3,2), turned (3,2,5), so d is 5.
+const O_BY_01_23: [Row; 8] = [[2, 0, 4], [0, 2, 5], [0, 3, 4], [2, 4, 1], [5, 2, 1], [0, 5, 3], [5, 4, 3], [5, 1, 4]];
+const LOG_23: flip::Record = [1, 0, 2, 3, 5, 5, 3, 2];
+/// From 0 to 1, then along the new diagonal from 2 to 4: row 3 is (2,4,1), so c is 1; row 0 is (2,0,4), turned (4,2,0), so
+/// d is 0. Row 3 becomes (1,2,0) and row 0 (1,0,4): O's two rows again, each in the other's place.
+const O_BY_01_24: [Row; 8] = [[1, 0, 4], [0, 2, 3], [0, 3, 4], [1, 2, 0], [5, 2, 1], [5, 3, 2], [5, 4, 3], [5, 1, 4]];
+const LOG_24: flip::Record = [3, 2, 4, 1, 0, 2, 0, 4];
+/// O after its first step has no corner 1. From 0 to 3: row 1 is (0,3,4), so c is 4; row 0 is (0,2,3), turned (3,0,2), so d
+/// is 2.
+const O_AFTER_ONE_BY_03: [Row; 6] = [[4, 2, 3], [4, 0, 2], [5, 2, 0], [5, 3, 2], [5, 4, 3], [5, 0, 4]];
+const LOG_03: flip::Record = [1, 0, 3, 4, 0, 0, 2, 3];
+
+/// Rows, corner count and list of a flip; and its answer, the rows left and the records at the front of its log.
+type Asked<'a> = (&'a [Row], usize, &'a [u32]);
+type Left<'a> = ([Word; 2], &'a [Row], &'a [flip::Record]);
+
+/// Holds a list to what it leaves, in a log of this room.
+fn hold_flips(bench: &mut Bench, name: &str, (rows, count, edges): Asked, room: Vec<Word>, left: Left) {
+    let request = flip_request(count, rows, edges, room.clone());
+    let (answer, left, log) = left;
+    let written = words(&log.concat());
+    let log = [&written, &room[written.len()..]].concat();
+    let expected = Response { answer: answer.to_vec(), lent: vec![words(&left.concat()), log] };
+    hold_to(bench, REQUEST_6, name, &request, &expected);
+}
+
+/// O's flips, in rooms just enough and longer: what lies past the log stays.
+fn flips(bench: &mut Bench, chance: &mut Chance) {
+    let o = octahedron();
+    let cases: [(Asked, Left); 8] = [
+        ((&o, 6, &[]), ([0, 0], &o, &[])),
+        ((&o, 6, &[0, 1]), ([0, 1], &O_BY_01, &[LOG_01])),
+        ((&o, 6, &[1, 0]), ([0, 1], &O_BY_10, &[LOG_10])),
+        ((&o, 6, &[0, 1, 2, 3]), ([0, 2], &O_BY_01_23, &[LOG_01, LOG_23])),
+        ((&o, 6, &[2, 3, 0, 1]), ([0, 2], &O_BY_01_23, &[LOG_23, LOG_01])),
+        ((&o, 6, &[0, 1, 2, 4]), ([0, 2], &O_BY_01_24, &[LOG_01, LOG_24])),
+        ((&O_AFTER_ONE, 6, &[0, 3]), ([0, 1], &O_AFTER_ONE_BY_03, &[LOG_03])),
+        ((&O_AFTER_ONE, 6, &[]), ([0, 0], &O_AFTER_ONE, &[])),
+    ];
+    for (asked, left) in cases {
+        let need = 4 * asked.2.len() as i64;
+        for more in [0, 1, 9] {
+            hold_flips(bench, "O flipped", asked, scribble(need + more, chance), left);
+        }
+        // Corners that no row uses change nothing.
+        let over_more = (asked.0, 514, asked.2);
+        hold_flips(bench, "O flipped over more corners", over_more, scribble(need, chance), left);
+    }
+}
+
+/// "A flip is refused with 30 if the edge is missing and with 31 if c and d are already neighbours."
+fn flips_refused(bench: &mut Bench, chance: &mut Chance) {
+    let o = octahedron();
+    // Any two corners of T and of M are neighbours.
+    for (rows, count) in [(tetrahedron(), 4), (seven_corner_torus(), 7)] {
+        for (a, b) in (0..count).flat_map(|a| (0..count).map(move |b| (a, b))) {
+            let number = if a == b { 30 } else { 31 };
+            let asked = (&rows[..], count as usize, &[a, b][..]);
+            hold_flips(bench, "T and M, 31 for every edge", asked, scribble(9, chance), ([number, 0], &rows, &[]));
+        }
+    }
+    // 0 and 5, 1 and 3, 2 and 4 lie opposite; 6 is not used, whatever the count.
+    let alone = [[0, 5], [5, 0], [1, 3], [4, 2], [3, 3], [0, 6], [6, 0], [6, 6]];
+    let far = [[256, 1], [0, 65_537], [u32::MAX, 0], [1, u32::MAX]];
+    for (edge, count) in alone.into_iter().chain(far).flat_map(|edge| [(edge, 6), (edge, 7)]) {
+        hold_flips(bench, "missing, 30", (&o, count, &edge), scribble(8, chance), ([30, 0], &o, &[]));
+    }
+    // Once 0 to 1 is turned, 0 has three neighbours, 2, 3 and 4, any two of which are joined; 0 and 1 are missing; and 5 to
+    // 3 and 1 to 5 would join 2 and 4 once more.
+    let turned = [(31, [0, 2]), (31, [3, 0]), (31, [0, 4]), (31, [5, 3]), (31, [1, 5]), (30, [0, 1]), (30, [1, 0])];
+    let still = [[0, 5], [1, 3], [3, 3], [0, 6], [u32::MAX, 0], [2, u32::MAX]].map(|edge| (30, edge));
+    for (number, edge) in turned.into_iter().chain(still) {
+        let list = [&[0, 1], &edge[..], &[2, 3]].concat();
+        let left: Left = ([number, 1], &O_BY_01, &[LOG_01]);
+        hold_flips(bench, "one flip, then 30 or 31", (&o, 6, &list), scribble(24, chance), left);
+    }
+    let left: Left = ([30, 1], &O_AFTER_ONE_BY_03, &[LOG_03]);
+    let asked: Asked = (&O_AFTER_ONE, 6, &[0, 3, 0, 1]);
+    hold_flips(bench, "an unused corner, 30", asked, scribble(16, chance), left);
+    flips_not_begun(bench, chance);
+}
+
+/// What refuses a list before any flip, in its order: 2, 3, then the stage's.
+fn flips_not_begun(bench: &mut Bench, chance: &mut Chance) {
+    let o = octahedron();
+    let mut twice = o.clone();
+    twice[7] = [5, 5, 4];
+    // A second T that shares corner 3 with the first, and one that shares none.
+    let two = |first: u32| [tetrahedron(), tetrahedron().iter().map(|row| row.map(|n| n + first)).collect()].concat();
+    let cases: [(Word, Asked, i64); 18] = [
+        (2, (&o, 6, &[0]), 8),
+        (2, (&o, 6, &[0, 1, 2]), 8),
+        (2, (&o, 6, &[0, 1, 2]), 0),
+        (2, (&twice, 6, &[0, 1, 2]), 0),
+        (2, (&o, 3, &[0, 1]), 8),
+        (2, (&o, 515, &[0, 1]), 0),
+        (2, (&o[..3], 6, &[0, 1]), 0),
+        (2, (&o[..7], 600, &[0, 0]), 8),
+        (3, (&o, 6, &[0, 1]), 7),
+        (3, (&o, 6, &[0, 1, 2, 3]), 15),
+        // Room is asked for each edge that is listed, though none is done.
+        (3, (&o, 6, &[0, 5, 2, 3]), 15),
+        (3, (&twice, 6, &[0, 1]), 0),
+        (5, (&o, 5, &[0, 5]), 8),
+        (6, (&twice, 6, &[0, 5]), 8),
+        (7, (&[&o[..], &o].concat(), 6, &[]), 0),
+        (8, (&o[..7], 6, &[0, 0]), 8),
+        (10, (&two(3), 7, &[0, 0]), 8),
+        (11, (&two(4), 8, &[0, 0]), 8),
+    ];
+    for (number, asked, room) in cases {
+        hold_flips(bench, "no flip begun", asked, scribble(room, chance), ([number, 0], asked.0, &[]));
+    }
+}
+
+fn hold_undone(bench: &mut Bench, name: &str, rows: &[Row], log: &[flip::Record], answer: [Word; 2], left: &[Row]) {
+    let request = undo_request(6, rows, &log.concat());
+    let expected = Response { answer: answer.to_vec(), lent: vec![words(&left.concat())] };
+    hold_to(bench, REQUEST_6, name, &request, &expected);
+}
+
+/// "Undoing the whole log, last record first, restores the table."
+fn flips_undone(bench: &mut Bench) {
+    let o = octahedron();
+    let cases: [(&[Row], &[flip::Record], &[Row]); 9] = [
+        (&o, &[], &o),
+        (&O_BY_01, &[LOG_01], &o),
+        (&O_BY_10, &[LOG_10], &o),
+        (&O_BY_01_23, &[LOG_01, LOG_23], &o),
+        (&O_BY_01_23, &[LOG_23], &O_BY_01),
+        // The two flips share no row, so either may have been the last.
+        (&O_BY_01_23, &[LOG_23, LOG_01], &o),
+        (&O_BY_01_24, &[LOG_01, LOG_24], &o),
+        (&O_BY_01_24, &[LOG_24], &O_BY_01),
+        (&O_AFTER_ONE_BY_03, &[LOG_03], &O_AFTER_ONE),
+    ];
+    for (rows, log, left) in cases {
+        hold_undone(bench, "O undone", rows, log, [0, log.len() as Word], left);
+    }
+    // A row turned in its record stands turned in the table, and a flip of 0 to 1 writes that record.
+    let turned = |first: Row, second: Row| [&[first], &o[1..3], &[second], &o[4..]].concat();
+    let [p, a, b, c, q, d, e, f] = LOG_01;
+    hold_undone(bench, "a row turned", &O_BY_01, &[[p, b, c, a, q, d, e, f]], [0, 1], &turned([1, 2, 0], [0, 4, 1]));
+    hold_undone(bench, "a row turned", &O_BY_01, &[[p, a, b, c, q, f, d, e]], [0, 1], &turned([0, 1, 2], [1, 0, 4]));
+    hold_undone(bench, "both turned", &O_BY_01, &[[p, c, a, b, q, e, f, d]], [0, 1], &turned([2, 0, 1], [4, 1, 0]));
+    // No flip led to O: but rows 0 and 1, (0,1,2) and (0,2,3), are what the edge from 1 to 3 would leave, c being 0, d 2.
+    let before = [&[[1, 3, 0], [3, 1, 2]], &o[2..]].concat();
+    hold_undone(bench, "what no flip wrote", &o, &[[0, 1, 3, 0, 1, 3, 1, 2]], [0, 1], &before);
+}
+
+/// "Otherwise 32, with the table as reached and the undone counted."
+fn flips_not_undone(bench: &mut Bench) {
+    let o = octahedron();
+    let [p, a, b, c, q, d, e, f] = LOG_01;
+    let records = [
+        // The rows exchanged, places and all, and the places alone: the flip would write other rows.
+        [q, d, e, f, p, a, b, c],
+        [q, a, b, c, p, d, e, f],
+        // A row turned over, one twice, one of another edge, numbers past the corners and past the rows.
+        [p, a, c, b, q, d, e, f],
+        [p, a, b, c, q, a, b, c],
+        [p, 0, 2, 3, q, d, e, f],
+        [p, a, b, 6, q, d, e, f],
+        [p, a, b, c, q, d, u32::MAX, f],
+        [8, a, b, c, q, d, e, f],
+        [p, a, b, c, 8, d, e, f],
+        [u32::MAX, a, b, c, u32::MAX, d, e, f],
+        // Other places, and one place for both.
+        [1, a, b, c, q, d, e, f],
+        [p, a, b, c, p, d, e, f],
+        [q, a, b, c, q, d, e, f],
+        [0; 8],
+    ];
+    for record in records {
+        hold_undone(bench, "not undone, 32", &O_BY_01, &[record], [32, 0], &O_BY_01);
+        hold_undone(bench, "one undone, then 32", &O_BY_01_23, &[record, LOG_23], [32, 1], &O_BY_01);
+        hold_undone(bench, "not undone, 32", &O_BY_01_23, &[LOG_01, LOG_23, record], [32, 0], &O_BY_01_23);
+    }
+    // The present table must be the one that the flip writes, no row turned.
+    let mut turned = O_BY_01;
+    turned[0] = [0, 4, 2];
+    hold_undone(bench, "a row of the table turned, 32", &turned, &[LOG_01], [32, 0], &turned);
+    hold_undone(bench, "the other way round, 32", &O_BY_10, &[LOG_01], [32, 0], &O_BY_10);
+    hold_undone(bench, "records exchanged, 32", &O_BY_01_24, &[LOG_24, LOG_01], [32, 0], &O_BY_01_24);
+    hold_undone(bench, "a record twice, 32", &O_BY_01, &[LOG_01, LOG_01], [32, 1], &o);
+    hold_undone(bench, "not flipped, 32", &o, &[LOG_01], [32, 0], &o);
+    // Rows 0 and 1 of T stand as an edge from 1 to 3 would leave them, but put back it would be there twice.
+    let t = tetrahedron();
+    hold_undone(bench, "no stage, 32", &t, &[[0, 1, 3, 0, 1, 3, 1, 2]], [32, 0], &t);
+    for (number, count, rows, log) in [
+        (2, 6, &O_BY_01[..], vec![0; 7]),
+        (2, 6, &O_BY_01, vec![0; 9]),
+        (2, 3, &O_BY_01, LOG_01.to_vec()),
+        (2, 515, &O_BY_01, LOG_01.to_vec()),
+        (2, 6, &O_BY_01[..3], LOG_01.to_vec()),
+        (5, 5, &O_BY_01, vec![u32::MAX; 8]),
+        (8, 6, &O_BY_01[..7], LOG_01.to_vec()),
+    ] {
+        let request = undo_request(count, rows, &log);
+        hold_to(bench, REQUEST_6, "no undoing begun", &request, &Response::untouched(&request, vec![number, 0]));
+    }
+}
+
+/// Each of O's eight rows adds 1,000,000. Those that a flip of 0 to 1 or of 2 to 3 puts in their place lie in planes through
+/// the middle and add nothing: 6,000,000 and 4,000,000 are left, both 1. The change is -2,000,000, 0, then -4,000,000, -1.
+fn flips_measured(bench: &mut Bench) {
+    let o = octahedron();
+    for (rows, figure, changed) in [(&o[..], 1, 0), (&O_BY_01, 1, 0), (&O_BY_10, 1, 0), (&O_BY_01_23, 1, -1)] {
+        let table = words(&rows.concat());
+        let volume = Request { call: VOLUME, arguments: vec![table.clone(), coordinates(&O_CORNERS)] };
+        hold_to(bench, REQUEST_6, "volumes", &volume, &Response::untouched(&volume, vec![0, figure]));
+        let arguments = vec![words(&o.concat()), table, coordinates(&O_CORNERS)];
+        let change = Request { call: CHANGE, arguments };
+        hold_to(bench, REQUEST_6, "changes", &change, &Response::untouched(&change, vec![0, changed]));
+    }
 }
