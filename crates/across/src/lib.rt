@@ -1,7 +1,8 @@
 // Orders and answers in plain numbers, as they go across the C boundary.
-// The status is 0 for done, else the refusal's number; a refused call has 0 for every value, but 13 carries the records done.
+// The status is 0 for done, else the refusal's number; a refused call has 0 for every value, but 13 carries the records done, and 30, 31 and 32 the flips.
 // Two numbers cross as a struct. Of more, the first is the result and the rest go into lent numbers: a larger struct is handed back through a
 // pointer that each processor keeps in another register.
+use flipped::Flipped;
 use job::Job;
 use length::Length;
 use length::Order;
@@ -32,6 +33,7 @@ ghost use Rattle.regrow.specs.Answer as regrow-answer;
 ghost use Rattle.volume.specs.Answer as volume-answer;
 ghost use Rattle.shift.specs.Answer as shift-answer;
 ghost use Rattle.sheet.specs.Answer as sheet-answer;
+ghost use Rattle.flipped.specs.Answer as flip-answer;
 ghost use Rattle.job.specs.Answer as job-answer;
 ghost use Rattle.tell.specs.Answer as reply-answer;
 ghost use Rattle.logsheet.specs.Answer as log-answer;
@@ -41,7 +43,7 @@ ghost use Rattle.across.specs.Units.{length-of, order-of};
 ghost use Rattle.across.specs.Says.{Says};
 ghost use Rattle.across.specs.Fields.{of-counted, of-measure, of-exact, of-stand-in, of-centimetres, of-counts, of-written, of-log-read, of-recovery, of-log-opened, of-asked, Stores};
 
-// What thinning, growing back and replay answer: the status, and how many records were done.
+// What thinning, growing back, replay, flipping and undoing answer: the status, and how many records or flips were done.
 #[repr(C)]
 pub struct Counted {
     pub status: u64,
@@ -200,6 +202,26 @@ pub fn counted_regrown(a: Regrown) -> Counted
             records: k as u64,
         },
         Regrown::Refused(e) => Counted {
+            status: refusal::number_of(e) as u64,
+            records: 0,
+        },
+    }
+}
+
+// Inner: what flipping a list or undoing a log answers.
+pub fn counted_flipped(a: Flipped) -> Counted
+    ensures { λ r. ⌜ Says (flip-answer.told a) (of-counted r) ⌝ }
+{
+    match a {
+        Flipped::Done(k) => Counted {
+            status: 0,
+            records: k as u64,
+        },
+        Flipped::Stopped(r, k) => Counted {
+            status: flipped::number_of(r) as u64,
+            records: k as u64,
+        },
+        Flipped::Refused(e) => Counted {
             status: refusal::number_of(e) as u64,
             records: 0,
         },

@@ -17,6 +17,9 @@ use Rattle.length.specs.Answer as length-answer
 use Rattle.sheet.specs.Answer as sheet-answer
 use Rattle.sheet.proofs.Promises.{one-outcome}
 use Rattle.job.specs.Answer as job-answer
+use Rattle.flipped.specs.Answer as flip-answer
+use Rattle.fliplist.proofs.Main.{flipped-one}
+use Rattle.undoflips.proofs.Main.{undid-one}
 use Rattle.job.proofs.Answering.{one-answer}
 use Rattle.tell.specs.Answer as reply-answer
 use Rattle.reply.proofs.Main.{replied-one}
@@ -34,7 +37,7 @@ use Rattle.bridge.specs.declared.Part.{Part}
 use Rattle.bridge.specs.Lent.{Places, nothing, of-second, of-first}
 use Rattle.bridge.specs.Crossing.{Crossing}
 use Rattle.across.proofs.Saying.{said}
-use Rattle.bridge.proofs.Main.{thin-crosses, grow-crosses, replay-crosses, volume-crosses, change-crosses, exact-crosses, shift-crosses, limit-crosses, sheet-crosses, reply-crosses, trial-crosses, ring-crosses, part-crosses, write-log-crosses, read-log-crosses, each-crosses, recover-crosses, job-crosses, open-log-crosses, next-crosses}
+use Rattle.bridge.proofs.Main.{thin-crosses, grow-crosses, replay-crosses, volume-crosses, change-crosses, exact-crosses, shift-crosses, limit-crosses, sheet-crosses, reply-crosses, trial-crosses, ring-crosses, part-crosses, write-log-crosses, read-log-crosses, each-crosses, recover-crosses, job-crosses, flip-crosses, undo-crosses, open-log-crosses, next-crosses}
 
 -- the places tell of the same memory, by whatever name
 places-same : {first second x y : RefT (List ℕ)} {r : Part} → SamePart x y → Places first second x r → Places first second y r
@@ -78,6 +81,10 @@ crossing = record {
   recover-one = λ u v p q. recover-crosses u v p q;
   job = λ p w. said job-answer.told (one-answer w (p .gives)) (p .says);
   job-one = λ p q. job-crosses p q;
+  flip-list = λ p w. let e = flipped-one w (p .gives) in (said flip-answer.told (e .0) (p .says), sym (e .1), sym (e .2));
+  flip-list-one = λ p q. flip-crosses p q;
+  undo-flips = λ p w. let e = undid-one w (p .gives) in (said flip-answer.told (e .0) (p .says), sym (e .1));
+  undo-flips-one = λ p q. undo-crosses p q;
   open-log = λ p w. said told-opened (opened-one w (p .gives)) (p .says);
   open-log-one = λ p q. open-log-crosses p q;
   next-record = λ p w. said told-next (next-one w (p .shown .gives)) (p .shown .says);

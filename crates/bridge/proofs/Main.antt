@@ -24,6 +24,9 @@ use Rattle.sheet.proofs.Promises.{one-outcome}
 use Rattle.sheet.specs.Answer as sheet-answer
 use Rattle.job.proofs.Answering.{one-answer}
 use Rattle.job.specs.Answer as job-answer
+use Rattle.flipped.specs.Answer as flip-answer
+use Rattle.fliplist.proofs.Main.{flipped-one}
+use Rattle.undoflips.proofs.Main.{undid-one}
 use Rattle.reply.proofs.Main.{replied-one}
 use Rattle.tell.specs.Answer as reply-answer
 use Rattle.logsheet.proofs.Main.{read-log-one, wrote-log-one}
@@ -54,7 +57,7 @@ use Rattle.across.specs.declared.Stored.{Stored}
 use Rattle.bridge.specs.declared.Part.{Part}
 use Rattle.across.specs.Says.{Says}
 use Rattle.across.specs.Fields.{of-counted, of-measure, of-exact, of-stand-in, of-centimetres, of-counts, of-written, of-log-read, of-recovery, of-log-opened, of-asked}
-use Rattle.bridge.specs.Calls.{ThinShown, GrowShown, ReplayShown, VolumeShown, ChangeShown, ExactShown, ShiftShown, LimitShown, SheetShown, JobShown, ReplyShown, WriteLogShown, ReadLogShown, EachShown, RecoverShown, OpenShown, NextShown}
+use Rattle.bridge.specs.Calls.{ThinShown, GrowShown, ReplayShown, VolumeShown, ChangeShown, ExactShown, ShiftShown, LimitShown, SheetShown, JobShown, FlipShown, UndoShown, ReplyShown, WriteLogShown, ReadLogShown, EachShown, RecoverShown, OpenShown, NextShown}
 use Rattle.across.specs.Fields.{Stores}
 use Rattle.bridge.specs.Lent.{TrialShown, Which, the-first, the-second, RingShown, Places, nothing, of-second, of-first, PartShown}
 use Rattle.across.proofs.Saying.{said}
@@ -196,6 +199,14 @@ recover-crosses u v p q = let e = recovered-one (p .gives) (q .gives) in (recove
 
 pub job-crosses : {b : List ℕ} {r q : Measure} → JobShown b r → JobShown b q → r ≡ q
 job-crosses p q = measure-once (p .says) (said job-answer.told (one-answer (p .gives) (q .gives)) (q .says))
+
+pub flip-crosses : {n : ℕ} {t edges l : List ℕ} {r q : Counted} {t₁ t₂ l₁ l₂ : List ℕ} →
+    FlipShown n t edges l r t₁ l₁ → FlipShown n t edges l q t₂ l₂ → (r ≡ q) × (t₁ ≡ t₂) × (l₁ ≡ l₂)
+flip-crosses p q = let e = flipped-one (p .gives) (q .gives) in (counted-once (p .says) (said flip-answer.told (e .0) (q .says)), e .1, e .2)
+
+pub undo-crosses : {n : ℕ} {t log : List ℕ} {r q : Counted} {t₁ t₂ : List ℕ} →
+    UndoShown n t log r t₁ → UndoShown n t log q t₂ → (r ≡ q) × (t₁ ≡ t₂)
+undo-crosses p q = let e = undid-one (p .gives) (q .gives) in (counted-once (p .says) (said flip-answer.told (e .0) (q .says)), e .1)
 
 pub open-log-crosses : {b : List ℕ} {r q : LogOpened} → OpenShown b r → OpenShown b q → r ≡ q
 open-log-crosses p q = log-opened-once (p .says) (said told-opened (opened-one (p .gives) (q .gives)) (q .says))

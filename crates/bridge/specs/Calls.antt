@@ -21,6 +21,9 @@ use Rattle.sheet.specs.Outcome.{ReadSheet}
 use Rattle.sheet.specs.Answer as sheet-answer
 use Rattle.job.specs.Outcome.{JobAnswered}
 use Rattle.job.specs.Answer as job-answer
+use Rattle.flipped.specs.Answer as flip-answer
+use Rattle.fliplist.specs.Outcome.{FlippedAs}
+use Rattle.undoflips.specs.Outcome.{UndoneAs}
 use Rattle.reply.specs.Outcome.{Replied}
 use Rattle.tell.specs.Answer as reply-answer
 use Rattle.logsheet.specs.Outcome.{ReadLogSheet, WroteLogSheet}
@@ -84,6 +87,14 @@ SheetShown b t t′ xs xs′ r = Shown (λ a. ReadSheet b t t′ xs xs′ a) she
 -- a job
 abbrev pub JobShown : List ℕ → Measure → Type 0
 JobShown b r = Shown (λ a. JobAnswered b a) job-answer.told (of-measure r)
+
+-- flipping a list
+abbrev pub FlipShown : ℕ → List ℕ → List ℕ → List ℕ → Counted → List ℕ → List ℕ → Type 0
+FlipShown n t edges l r t′ l′ = Shown (λ a. FlippedAs n t edges l a t′ l′) flip-answer.told (of-counted r)
+
+-- undoing a flip log
+abbrev pub UndoShown : ℕ → List ℕ → List ℕ → Counted → List ℕ → Type 0
+UndoShown n t log r t′ = Shown (λ a. UndoneAs n t log a t′) flip-answer.told (of-counted r)
 
 -- the desk's answer
 abbrev pub ReplyShown : List ℕ → List ℕ → Written → List ℕ → Type 0

@@ -29,6 +29,10 @@ use Rattle.sheet.specs.Answer as sheet-answer
 use Rattle.job.specs.declared.Job.{Job}
 use Rattle.job.specs.Outcome.{JobAnswered}
 use Rattle.job.specs.Answer as job-answer
+use Rattle.flipped.specs.declared.Flipped.{Flipped}
+use Rattle.flipped.specs.Answer as flip-answer
+use Rattle.fliplist.specs.Outcome.{FlippedAs}
+use Rattle.undoflips.specs.Outcome.{UndoneAs}
 use Rattle.tell.specs.declared.Answer.{Answer}
 use Rattle.reply.specs.Outcome.{Replied}
 use Rattle.tell.specs.Answer as reply-answer
@@ -63,10 +67,10 @@ use Rattle.bridge.specs.declared.Part.{Part}
 use Rattle.across.specs.Units.{length-of, order-of}
 use Rattle.across.specs.Says.{Says}
 use Rattle.across.specs.Fields.{of-counted, of-measure, of-exact, of-stand-in, of-centimetres, of-counts, of-written, of-log-read, of-recovery, of-log-opened, of-asked, Stores}
-use Rattle.bridge.specs.Calls.{ThinShown, GrowShown, ReplayShown, VolumeShown, ChangeShown, ExactShown, ShiftShown, LimitShown, SheetShown, JobShown, ReplyShown, WriteLogShown, ReadLogShown, EachShown, RecoverShown, OpenShown, NextShown}
+use Rattle.bridge.specs.Calls.{ThinShown, GrowShown, ReplayShown, VolumeShown, ChangeShown, ExactShown, ShiftShown, LimitShown, SheetShown, JobShown, FlipShown, UndoShown, ReplyShown, WriteLogShown, ReadLogShown, EachShown, RecoverShown, OpenShown, NextShown}
 use Rattle.bridge.specs.Lent.{TrialShown, Which, RingShown, Places, PartShown}
 
--- the calls in the order of their numbers over a pipe: 1 to 17, 24 to 26
+-- the calls in the order of their numbers over a pipe: 1 to 19, 24 to 26
 pub record Crossing : Type 0 where
   -- what is said is what the call answers, and what is left is what the call leaves
   pub thin : (u : ℕ) (v : Float) {xs : List ℤ} {t l : List ℕ} {r : Counted} {t₁ t₂ l₁ l₂ : List ℕ} {a : Thinning} → ThinShown u v xs t l r t₁ l₁ → Thinned (order-of u v) xs t l a t₂ l₂ →
@@ -108,6 +112,11 @@ pub record Crossing : Type 0 where
       (r ≡ q) × (t₁ ≡ t₂) × (l₁ ≡ l₂)
   pub job : {b : List ℕ} {r : Measure} {a : Job} → JobShown b r → JobAnswered b a → Says (job-answer.told a) (of-measure r)
   pub job-one : {b : List ℕ} {r q : Measure} → JobShown b r → JobShown b q → r ≡ q
+  pub flip-list : {n : ℕ} {t edges l : List ℕ} {r : Counted} {t₁ t₂ l₁ l₂ : List ℕ} {a : Flipped} → FlipShown n t edges l r t₁ l₁ → FlippedAs n t edges l a t₂ l₂ →
+      Says (flip-answer.told a) (of-counted r) × (t₁ ≡ t₂) × (l₁ ≡ l₂)
+  pub flip-list-one : {n : ℕ} {t edges l : List ℕ} {r q : Counted} {t₁ t₂ l₁ l₂ : List ℕ} → FlipShown n t edges l r t₁ l₁ → FlipShown n t edges l q t₂ l₂ → (r ≡ q) × (t₁ ≡ t₂) × (l₁ ≡ l₂)
+  pub undo-flips : {n : ℕ} {t log : List ℕ} {r : Counted} {t₁ t₂ : List ℕ} {a : Flipped} → UndoShown n t log r t₁ → UndoneAs n t log a t₂ → Says (flip-answer.told a) (of-counted r) × (t₁ ≡ t₂)
+  pub undo-flips-one : {n : ℕ} {t log : List ℕ} {r q : Counted} {t₁ t₂ : List ℕ} → UndoShown n t log r t₁ → UndoShown n t log q t₂ → (r ≡ q) × (t₁ ≡ t₂)
   pub open-log : {b : List ℕ} {r : LogOpened} {a : Opened} → OpenShown b r → OpenedLog b a → Says (told-opened a) (of-log-opened r)
   pub open-log-one : {b : List ℕ} {r q : LogOpened} → OpenShown b r → OpenShown b q → r ≡ q
   pub next-record : {b : List ℕ} {at : ℕ} {r : Asked} {a : Next} → NextShown b at r → NextRecord b at a → Says (told-next a) (of-asked r)

@@ -5,7 +5,7 @@ use across::Measure;
 use across::Stored;
 use across::Written;
 use text::Cursor;
-ghost use Rattle.bridge.specs.Calls.{ThinShown, GrowShown, ReplayShown, VolumeShown, ChangeShown, ExactShown, ShiftShown, LimitShown, SheetShown, JobShown, ReplyShown, WriteLogShown, ReadLogShown, EachShown, RecoverShown, OpenShown, NextShown};
+ghost use Rattle.bridge.specs.Calls.{ThinShown, GrowShown, ReplayShown, VolumeShown, ChangeShown, ExactShown, ShiftShown, LimitShown, SheetShown, JobShown, FlipShown, UndoShown, ReplyShown, WriteLogShown, ReadLogShown, EachShown, RecoverShown, OpenShown, NextShown};
 ghost use Rattle.bridge.specs.Lent.{TrialShown, RingShown, PartShown};
 
 // A part of one of two lent logs, the first (0) or the second (1): its numbers at the places from `from` up to, not with, `to`.
@@ -190,6 +190,27 @@ pub extern "C" fn flaxglimmer_job(bytes: &[u8]) -> Measure
     ensures { λ r. ⌜ JobShown (now (bytes .entry)) r ⌝ }
 {
     across::measure_of_job(job::job_net(bytes))
+}
+
+// Flips a list of edges on a table, and logs the flips done.
+#[no_mangle]
+pub extern "C" fn flaxglimmer_flip_list(
+    corners: usize,
+    table: &mut [u32],
+    edges: &[u32],
+    log: &mut [u32],
+) -> Counted
+    ensures { λ r. ⌜ FlipShown corners (now (table .entry)) (now (edges .entry)) (now (log .entry)) r (now (table .exit)) (now (log .exit)) ⌝ }
+{
+    across::counted_flipped(fliplist::flip_list(table, corners, edges, log))
+}
+
+// Undoes a flip log on a table.
+#[no_mangle]
+pub extern "C" fn flaxglimmer_undo_flips(corners: usize, table: &mut [u32], log: &[u32]) -> Counted
+    ensures { λ r. ⌜ UndoShown corners (now (table .entry)) (now (log .entry)) r (now (table .exit)) ⌝ }
+{
+    across::counted_flipped(undoflips::undo_flips(table, corners, log))
 }
 
 // The trial ring's number at a place of its table.

@@ -128,8 +128,8 @@ fn grow_lent(rows: usize, corners: usize, room: &mut [u32], log: &[u32]) -> bool
     words::write_numbers(room)
 }
 
-// Replay: corner count; table; log.
-fn call_replay() -> bool {
+// A replay, or the undoing of a flip log: corner count; table; log.
+fn call_log(undo: bool) -> bool {
     let mut ok = true;
     let corners = words::take_word(&mut ok);
     let mut table = words::numbers_room();
@@ -138,6 +138,9 @@ fn call_replay() -> bool {
     let l = words::take_numbers(&mut log, &mut ok);
     if !ok {
         return false;
+    }
+    if undo {
+        return undo_lent(corners as usize, &mut table[..t], &log[..l]);
     }
     replay_lent(corners as usize, &mut table[..t], &log[..l])
 }
@@ -148,6 +151,41 @@ fn replay_lent(corners: usize, table: &mut [u32], log: &[u32]) -> bool {
         return false;
     }
     words::write_numbers(table)
+}
+
+fn undo_lent(corners: usize, table: &mut [u32], log: &[u32]) -> bool {
+    let a = bridge::flaxglimmer_undo_flips(corners, table, log);
+    if !words::answer_two(a.status, a.records) {
+        return false;
+    }
+    words::write_numbers(table)
+}
+
+// Flipping a list: corner count; table; edges; log.
+fn call_flips() -> bool {
+    let mut ok = true;
+    let corners = words::take_word(&mut ok);
+    let mut table = words::numbers_room();
+    let t = words::take_numbers(&mut table, &mut ok);
+    let mut edges = words::numbers_room();
+    let e = words::take_numbers(&mut edges, &mut ok);
+    let mut log = words::numbers_room();
+    let l = words::take_numbers(&mut log, &mut ok);
+    if !ok {
+        return false;
+    }
+    flip_lent(corners as usize, &mut table[..t], &edges[..e], &mut log[..l])
+}
+
+fn flip_lent(corners: usize, table: &mut [u32], edges: &[u32], log: &mut [u32]) -> bool {
+    let a = bridge::flaxglimmer_flip_list(corners, table, edges, log);
+    if !words::answer_two(a.status, a.records) {
+        return false;
+    }
+    if !words::write_numbers(table) {
+        return false;
+    }
+    words::write_numbers(log)
 }
 
 // A volume, or an exact sum: table; corners.
@@ -345,7 +383,7 @@ fn call(number: u64) -> bool {
         return call_grow();
     }
     if number == 3 {
-        return call_replay();
+        return call_log(false);
     }
     if number == 4 {
         return call_stage(false);
@@ -411,6 +449,17 @@ fn call_of_sums(number: u64) -> bool {
     }
     if number == 26 {
         return call_stage(true);
+    }
+    call_of_flips(number)
+}
+
+// Those of flips.
+fn call_of_flips(number: u64) -> bool {
+    if number == 18 {
+        return call_flips();
+    }
+    if number == 19 {
+        return call_log(true);
     }
     false
 }
