@@ -60,13 +60,14 @@ tells : {k : ℕ} {a : Flipped} → following.Did flipped k a → FlipsTold k (t
 tells (following.all-done e) = all-done (ap told e)
 tells (following.some-done {r} e) = some-done r (ap told e)
 
-counts : {n : ℕ} {t : List ℕ} → length t % 3 ≡ 0 → Stage n (rows t) → CountsFit n t
-counts threes s = record { table = record { threes = threes; count = stage-rows s }; count = stage-corners s }
+-- a stage of whole rows is within the limits
+pub counts-fit : {n : ℕ} {t : List ℕ} → length t % 3 ≡ 0 → Stage n (rows t) → CountsFit n t
+counts-fit threes s = record { table = record { threes = threes; count = stage-rows s }; count = stage-corners s }
 
 module _ {n : ℕ} {t edges l : List ℕ} {a : Flipped} {t′ l′ : List ℕ} (w : FlippedAs n t edges l a t′ l′)
     (threes : length t % 3 ≡ 0) (s : Stage n (rows t)) (whole : WholeItems edge-list edges) (room : flip-room edges ≤ length l) where
   passes : First (flip-refusals n t edges l) Passes
-  passes = flip-passes n t edges l (record { counts = counts threes s; whole = whole }) room s
+  passes = flip-passes n t edges l (record { counts = counts-fit threes s; whole = whole }) room s
 
   list-accepted : (k : ℕ) × FlipsTold k (told a)
   list-accepted = elim (outcome-did (listed n t edges l) (w .outcome)) [
@@ -88,7 +89,7 @@ all-told c x (followed h (some done i rest q w f e) eb) p = absurd (x .finished-
 
 undo-accepted : {n : ℕ} {t log : List ℕ} {a : Flipped} {t′ : List ℕ} → length t % 3 ≡ 0 → Stage n (rows t) → WholeItems flip-log log → UndoneAs n t log a t′ → (k : ℕ) × FlipsTold k (told a)
 undo-accepted {n} {t} {log} threes s whole w = elim (outcome-did (undoing n t log) (w .outcome)) [
-  | inl x ↦ refused-passes (first-one verdicts _ (x .1) (undo-passes n t log (record { counts = counts threes s; whole = whole }) s))
+  | inl x ↦ refused-passes (first-one verdicts _ (x .1) (undo-passes n t log (record { counts = counts-fit threes s; whole = whole }) s))
   | inr x ↦ (x .1, tells (x .2))
 ]
 
