@@ -2,12 +2,12 @@
 use mathlib.Core.Path.{_≡_, refl, sym, _∙_, ap, subst}
 use mathlib.Core.Logic.{_⊎_, inl, inr}
 use mathlib.Core.Bool.{false}
-use mathlib.Core.List.{List, _++_}
+use mathlib.Core.List.{List, [], _∷_, _++_}
 use Prim.Native.Nat.{ℕ, _<_}
 use native.Mathlib.Omega.{arith}
-use lib.IntN.{ℤ}
+use lib.IntN.{ℤ, pos}
 use lib.ListN.{length, take, drop}
-use Rattle.follow.specs.Follow.{Call, Followed, all, some, Outcome, followed}
+use Rattle.follow.specs.Follow.{Answering, Call, Followed, all, some, Outcome, followed}
 use Rattle.follow.proofs.Following.{Apart, Did, all-done, some-done, outcome-did, outcome-passes, outcome-stopped}
 use Rattle.surface.specs.Rows.{Row, rows, flat}
 use Rattle.surface.specs.Table.{_⇒_}
@@ -17,7 +17,7 @@ use Rattle.refusal.specs.declared.Refusal.the-variants.{RecordFails}
 use Rattle.refusal.specs.declared.Verdict.the-variants.{Passes}
 use Rattle.refusal.specs.declared.Verdict.the-variants as verdict
 use Rattle.refusal.specs.First.{Refusals, First}
-use Rattle.refusal.specs.Told.{Told, refused-as, refused, stopped-as}
+use Rattle.refusal.specs.Told.{Told, done, refused-as, refused, stopped-as}
 use Rattle.refusal.proofs.Laws.{verdicts, first-one, refused-one, refused-passes}
 use Rattle.refusal.proofs.Refuses.{exactly-of, exactly, not-refused, by-verdict}
 use Rattle.refusal.specs.Refuses.{Refuses}
@@ -123,18 +123,13 @@ stops-exactly c {l} given passing apart o one tells r says is = record {
   only = λ k p. (let z = outcome-stopped c apart {r = r} (rw (is k p) at o) in (passing (z .0), z .1, z .2, z .3));
 }
 
--- a call that follows records refuses by its list alone: 13 carries its count
-records-refuse : {l : Refusals} {P : Type 0} (a : Regrown) → ((e : Refusal) × First l (verdict.Refused e) × (a ≡ regrown.Refused e)) ⊎ ((First l Passes × P) × (k : ℕ) × Did regrown-answers k a) →
-    Refuses l (regrowths.told a)
-records-refuse a (inl x) = exactly (inl (x .0, x .1, ap regrowths.told (x .2)))
-records-refuse a (inr (x, k, all-done e)) = exactly (inr (x .0, not-refused (ap regrowths.told e)))
-records-refuse a (inr (x, k, some-done e)) = exactly (inr (x .0, λ r p. failing-other k r (sym (ap regrowths.told e) ∙ p)))
-
--- and so does one that follows edges or a flip log: 30, 31 and 32 carry theirs
-flips-refuse : {l : Refusals} {P : Type 0} (a : Flipped) → ((e : Refusal) × First l (verdict.Refused e) × (a ≡ flipped.Refused e)) ⊎ ((First l Passes × P) × (k : ℕ) × Did flips.flipped k a) → Refuses l (flips.told a)
-flips-refuse a (inl x) = exactly (inl (x .0, x .1, ap flips.told (x .2)))
-flips-refuse a (inr (x, k, all-done e)) = exactly (inr (x .0, not-refused (ap flips.told e)))
-flips-refuse a (inr (x, k, some-done {r} e)) = exactly (inr (x .0, λ q p. stopping-other r k q (sym (ap flips.told e) ∙ p)))
+-- and it refuses by its list alone: 13, 30, 31 and 32 carry their count
+follows-refuse : {R A : Type 0} (w : Answering R Refusal A) (tells : A → Told) → ((e : Refusal) → tells (w .refused e) ≡ refused e) → ((k : ℕ) → tells (w .finished k) ≡ done (pos k ∷ [])) →
+    ((r : R) (k : ℕ) (e : Refusal) → ¬ (tells (w .stopped r k) ≡ refused e)) → {l : Refusals} {P : Type 0} (a : A) →
+    ((e : Refusal) × First l (verdict.Refused e) × (a ≡ w .refused e)) ⊎ ((First l Passes × P) × (k : ℕ) × Did w k a) → Refuses l (tells a)
+follows-refuse w tells refuses finishes counts a (inl x) = exactly (inl (x .0, x .1, ap tells (x .2) ∙ refuses (x .0)))
+follows-refuse w tells refuses finishes counts a (inr (x, k, all-done e)) = exactly (inr (x .0, not-refused (ap tells e ∙ finishes k)))
+follows-refuse w tells refuses finishes counts a (inr (x, k, some-done {r} e)) = exactly (inr (x .0, λ q p. counts r k q (sym (ap tells e) ∙ p)))
 
 -- an edge stops a list by 30 or 31, a record by 32
 refused-by : {T : List Row} {x y : ℕ} {r : FlipRefusal} → FlipRefused T x y r → (r ≡ EdgeMissing) ⊎ (r ≡ EdgeBlocked)
@@ -260,11 +255,11 @@ pub demand-one : DemandOne
 demand-one = record {
   thin = λ o w. elim (thins.thin-told w) [ inl x ↦ exactly (inl x) | inr x ↦ exactly (inr (x .0, not-refused (x .3))) ];
   thin-same = λ o w r p. thin-same o w r p;
-  grow-back = λ {n} {m} {room} {log} {a} w. records-refuse a (outcome-did (growing n m room log) (w .outcome));
+  grow-back = λ {n} {m} {room} {log} {a} w. follows-refuse regrown-answers regrowths.told (λ e. refl) (λ k. refl) (λ r k e. failing-other k e) a (outcome-did (growing n m room log) (w .outcome));
   grow-same = λ w r p. grow-same w r p;
   grow-fails = λ {n} {m} {room} {log} {a} w.
       stops-exactly (growing n m room log) (λ e g. g) (λ h. h .0) regrown-apart (w .outcome) (λ a₂ b x. grows.grown-one w (record { outcome = x }) .0) regrowths.told RecordFails (λ k. refl) (stops a);
-  replay = λ {n} {t} {log} {a} w. records-refuse a (outcome-did (replaying n t log) (w .outcome));
+  replay = λ {n} {t} {log} {a} w. follows-refuse regrown-answers regrowths.told (λ e. refl) (λ k. refl) (λ r k e. failing-other k e) a (outcome-did (replaying n t log) (w .outcome));
   replay-same = λ w r p. replay-same w r p;
   replay-fails = λ {n} {t} {log} {a} w.
       stops-exactly (replaying n t log) (λ e g. g) (λ h. h .0) regrown-apart (w .outcome) (λ a₂ b x. replays.replay-one w (record { outcome = x }) .0) regrowths.told RecordFails (λ k. refl) (stops a);
@@ -297,11 +292,11 @@ demand-one = record {
     λ k p. recover-stopped k (rw (recovers.told-stopped a p) at w) cut,
   );
   job = λ w. job-refuses w;
-  flip-list = λ {n} {t} {edges} {l} {a} w. flips-refuse a (outcome-did (flipping n t edges l) (w .outcome));
+  flip-list = λ {n} {t} {edges} {l} {a} w. follows-refuse flips.flipped flips.told (λ e. refl) (λ k. refl) stopping-other a (outcome-did (flipping n t edges l) (w .outcome));
   flip-same = λ w r p. flip-same w r p;
   flip-fails = λ w r. flip-fails w r;
   flip-only = λ {n} {t} {edges} {l} w r k p. flip-by n t edges l (flip-fails w r .only k p .2);
-  undo-flips = λ {n} {t} {log} {a} w. flips-refuse a (outcome-did (undoing n t log) (w .outcome));
+  undo-flips = λ {n} {t} {log} {a} w. follows-refuse flips.flipped flips.told (λ e. refl) (λ k. refl) stopping-other a (outcome-did (undoing n t log) (w .outcome));
   undo-same = λ w r p. undo-same w r p;
   undo-fails = λ w. undo-fails w FlipFails;
   undo-only = λ {n} {t} {log} w r k p. undo-by n t log (undo-fails w r .only k p .2);
