@@ -174,7 +174,12 @@ fn call_flips() -> bool {
     if !ok {
         return false;
     }
-    flip_lent(corners as usize, &mut table[..t], &edges[..e], &mut log[..l])
+    flip_lent(
+        corners as usize,
+        &mut table[..t],
+        &edges[..e],
+        &mut log[..l],
+    )
 }
 
 fn flip_lent(corners: usize, table: &mut [u32], edges: &[u32], log: &mut [u32]) -> bool {

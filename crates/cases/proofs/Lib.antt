@@ -5,3 +5,4 @@ pub mod Returns
 pub mod Backward
 pub mod Mailed
 pub mod Recovered
+pub mod Flipped

@@ -1,6 +1,6 @@
 // The flip of one edge on a stage's table and its chains.
-use flipped::FlipRefusal;
 use fliplog::FlipRecord;
+use flipped::FlipRefusal;
 use record::Corner;
 use record::Leaving;
 use record::Place;

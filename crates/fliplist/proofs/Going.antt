@@ -109,11 +109,13 @@ module _ (t edges l : List ℕ) (g : FlipReady t edges l) where
 
       pub next-stops : {r : FlipRefusal} (t″ : List ℕ) → Tries t′ (getD edges (2 * done) 0) (getD edges (2 * done + 1) 0) (Refused r) t″ → FlippedOn t edges l (Stopped r done) t″ l′
       unfolding Tries
-      next-stops {r} t″ f = record { followed = λ m. record {
-        state = w .state;
-        reached = any-count n m t edges l (upto-fails (flipping n t edges l) (w .upto) more-items next is-next {r = r} (rw stands at (f .0)));
-        left = λ i. record { table = (f .1 ∙ w .table) i; log = w .log i };
-      } }
+      next-stops {r} t″ f = record {
+        followed = λ m. record {
+          state = w .state;
+          reached = any-count n m t edges l (upto-fails (flipping n t edges l) (w .upto) more-items next is-next {r = r} (rw stands at (f .0)));
+          left = λ i. record { table = (f .1 ∙ w .table) i; log = w .log i };
+        };
+      }
 
       module _ (k : FlipRecord) (t″ l″ : List ℕ) (f : Tries t′ (getD edges (2 * done) 0) (getD edges (2 * done + 1) 0) (Logs k) t″) (wrote : l″ ≡ sets l′ (width * done) (numbers (meant k))) where
         flips : Flips (w .state .table) (getD edges (2 * done) 0) (getD edges (2 * done + 1) 0) (meant k) (rows t″)

@@ -47,6 +47,10 @@ module _ (n : ℕ) where
   keeps : (s s′ : Reached) (i : Arrow) → OnStage s → FlipsOn s i s′ → SkinKept n (s .table) (s′ .table)
   keeps s s′ (a ⇒ b) z f = flip-keeps z (f .1)
 
+  -- flips keep a skin
+  pub flips-keep : {s s′ : Reached} {es : List Arrow} → OnStage s → Leads FlipsOn s es s′ → SkinKept n (s .table) (s′ .table)
+  flips-keep {s} z w = leads-keep (λ (x : Reached). SkinKept n (s .table) (x .table)) (λ x y i m f. kept-on m (keeps x y i (m .after) f)) (kept-none z) w
+
   step : (s s₁ s₂ : Reached) (i : Arrow) → OnStage s → FlipsOn s i s₁ → FlipsOn s i s₂ → s₁ ≡ s₂
   step s s₁ s₂ (a ⇒ b) z f g =
       let e = flip-one z (f .1) (g .1) in
@@ -157,7 +161,7 @@ module _ {n : ℕ} {t edges l : List ℕ} {a : Flipped} {t′ l′ : List ℕ} (
       ∙ ap (λ (m : ℕ). drop (width * m) l) many
 
   kept : SkinKept n (rows t) (s .table)
-  kept = leads-keep (λ (z : Reached). SkinKept n (rows t) (z .table)) (λ x y i m f. kept-on m (keeps n x y i (m .after) f)) (kept-none (led .0 .1)) (led .2 .led)
+  kept = flips-keep n (led .0 .1) (led .2 .led)
 
   -- the table is whole rows
   pub flipped-table : flat (rows t) ≡ t

@@ -6,3 +6,4 @@ pub mod Whole
 pub mod Mailing
 pub mod Recovering
 pub mod Stations
+pub mod Flipping

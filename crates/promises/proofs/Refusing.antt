@@ -2,21 +2,22 @@
 use mathlib.Core.Path.{_≡_, refl, sym, _∙_, ap, subst}
 use mathlib.Core.Logic.{_⊎_, inl, inr}
 use mathlib.Core.Bool.{false}
-use mathlib.Core.List.{List, _++_}
+use mathlib.Core.List.{List, [], _∷_, _++_}
 use Prim.Native.Nat.{ℕ, _<_}
 use native.Mathlib.Omega.{arith}
-use lib.IntN.{ℤ}
+use lib.IntN.{ℤ, pos}
 use lib.ListN.{length, take, drop}
-use Rattle.follow.specs.Follow.{Followed, followed}
-use Rattle.follow.proofs.Following.{Did, all-done, some-done, outcome-did, outcome-passes, outcome-stopped}
-use Rattle.surface.specs.Rows.{Row, rows}
+use Rattle.follow.specs.Follow.{Answering, Call, Followed, all, some, Outcome, followed}
+use Rattle.follow.proofs.Following.{Apart, Did, all-done, some-done, outcome-did, outcome-passes, outcome-stopped}
+use Rattle.surface.specs.Rows.{Row, rows, flat}
+use Rattle.surface.specs.Table.{_⇒_}
 use Rattle.corners.specs.Skin.{Skin}
 use Rattle.refusal.specs.declared.Refusal.{Refusal}
 use Rattle.refusal.specs.declared.Refusal.the-variants.{RecordFails}
 use Rattle.refusal.specs.declared.Verdict.the-variants.{Passes}
 use Rattle.refusal.specs.declared.Verdict.the-variants as verdict
 use Rattle.refusal.specs.First.{Refusals, First}
-use Rattle.refusal.specs.Told.{Told, refused-as, refused}
+use Rattle.refusal.specs.Told.{Told, done, refused-as, refused, stopped-as}
 use Rattle.refusal.proofs.Laws.{verdicts, first-one, refused-one, refused-passes}
 use Rattle.refusal.proofs.Refuses.{exactly-of, exactly, not-refused, by-verdict}
 use Rattle.refusal.specs.Refuses.{Refuses}
@@ -36,12 +37,11 @@ use Rattle.regrow.specs.declared.Regrown.{Regrown}
 use Rattle.regrow.specs.declared.Regrown.the-variants as regrown
 use Rattle.regrow.specs.Answer as regrowths
 use Rattle.record.specs.Layout.{room-for}
-use Rattle.record.specs.Front.{filled, zeroed}
-use Rattle.growable.specs.Refusals.{grow-refusals}
+use Rattle.record.specs.Front.{zeroed}
 use Rattle.regrow.specs.Outcome.{growing, GrownAs, regrown as regrown-answers}
 use Rattle.regrow.proofs.Main as grows
 use Rattle.regrow.proofs.Counted.{regrown-apart, failing-other, stops}
-use Rattle.replay.specs.Outcome.{replay-refusals, replaying, ReplayedAs}
+use Rattle.replay.specs.Outcome.{replaying, ReplayedAs}
 use Rattle.replay.proofs.Main as replays
 use Rattle.volume.specs.Report.{ExactReport, unsummed, summed}
 use Rattle.sheet.specs.declared.Sheet.{Sheet}
@@ -73,7 +73,21 @@ use Rattle.job.specs.Answer as jobs
 use Rattle.job.specs.Outcome as jobbed
 use Rattle.job.proofs.Judging as judging
 use Rattle.job.proofs.Numbers as job-numbers
-use Rattle.promises.specs.Refusing.{RefusesJob, DemandOne}
+use Rattle.laid.specs.Laid.{in-front}
+use Rattle.flipped.specs.declared.FlipRefusal.{FlipRefusal}
+use Rattle.flipped.specs.declared.FlipRefusal.the-variants.{EdgeMissing, EdgeBlocked, FlipFails}
+use Rattle.flipped.specs.declared.Flipped.{Flipped}
+use Rattle.flipped.specs.declared.Flipped.the-variants as flipped
+use Rattle.flipped.specs.Number.{number}
+use Rattle.flipped.specs.Answer as flips
+use Rattle.flipped.proofs.Telling.{flipped-apart, stopping-other, stops as flip-stops}
+use Rattle.fliplog.specs.Layout.{flip-log}
+use Rattle.flip.specs.Refused.{FlipRefused, missing, blocked}
+use Rattle.fliplist.specs.Outcome.{flip-refusals, Reached, Lent, flipping, FlippedAs}
+use Rattle.fliplist.proofs.Main as lists
+use Rattle.undoflips.specs.Outcome.{undo-refusals, undoing, UndoneAs}
+use Rattle.undoflips.proofs.Main as undoes
+use Rattle.promises.specs.Refusing.{FailsOf, RefusesJob, DemandOne}
 
 thin-same : (o : Order) {xs : List ℤ} {t l : List ℕ} {a : Thinning} {t′ l′ : List ℕ} → Thinned o xs t l a t′ l′ → (r : Refusal) → thinnings.told a ≡ refused r → (t′ ≡ t) × (l′ ≡ l)
 thin-same o {a = thinning.Done k} w r p = absurd (refused-done r (sym p))
@@ -89,30 +103,60 @@ replay-same {a = regrown.Done k} w r p = absurd (refused-done r (sym p))
 replay-same {a = regrown.Stopped k} w r p = absurd (failing-other k r p)
 replay-same {a = regrown.Refused e} w r p = replays.refused-same w
 
--- where nothing refuses, what the records lead to is an outcome
-grow-on : {n m : ℕ} {room log : List ℕ} {a b : Regrown} {room′ : List ℕ} {T : List Row} → GrownAs n m room log a room′ → First (grow-refusals n m room log) Passes → Followed (growing n m room log) b T →
-    GrownAs n m room log b (filled T room)
-grow-on {n} {m} {room} {log} w f x = record { outcome = followed (outcome-passes (growing n m room log) (w .outcome) (λ e g. refused-passes (first-one verdicts _ g f))) x refl }
+flip-same : {n : ℕ} {t edges l : List ℕ} {a : Flipped} {t′ l′ : List ℕ} → FlippedAs n t edges l a t′ l′ → (r : Refusal) → flips.told a ≡ refused r → (t′ ≡ t) × (l′ ≡ l)
+flip-same {a = flipped.Done k} w r p = absurd (refused-done r (sym p))
+flip-same {a = flipped.Stopped q k} w r p = absurd (stopping-other q k r p)
+flip-same {a = flipped.Refused e} w r p = lists.refused-same w
 
-replay-on : {n : ℕ} {t log : List ℕ} {a b : Regrown} {t′ : List ℕ} {T : List Row} → ReplayedAs n t log a t′ → First (replay-refusals n t log) Passes → Followed (replaying n t log) b T →
-    ReplayedAs n t log b (zeroed T t)
-replay-on {n} {t} {log} w f x = record { outcome = followed (outcome-passes (replaying n t log) (w .outcome) (λ e g. refused-passes (first-one verdicts _ g f))) x refl }
+undo-same : {n : ℕ} {t log : List ℕ} {a : Flipped} {t′ : List ℕ} → UndoneAs n t log a t′ → (r : Refusal) → flips.told a ≡ refused r → t′ ≡ t
+undo-same {a = flipped.Done k} w r p = absurd (refused-done r (sym p))
+undo-same {a = flipped.Stopped q k} w r p = absurd (stopping-other q k r p)
+undo-same {a = flipped.Refused e} w r p = undoes.refused-same w
 
--- where the records stop: nothing refuses, and the rows reached are left
-grow-stopped : {n m : ℕ} {room log : List ℕ} {a : Regrown} {room′ : List ℕ} (k : ℕ) → GrownAs n m room log a room′ → a ≡ regrown.Stopped k →
-    First (grow-refusals n m room log) Passes × (T : List Row) × Followed (growing n m room log) (regrown.Stopped k) T × (room′ ≡ filled T room)
-grow-stopped {n} {m} {room} {log} k w q = let o = outcome-stopped (growing n m room log) regrown-apart {r = RecordFails} (rw q at (w .outcome)) in (o .0 .0, o .1, o .2, o .3)
+-- a call that follows items tells a number with how many were done exactly when they stop there for its reason r: where nothing refuses, what they lead to is an
+-- outcome, and it is the only one
+stops-exactly : {S I R A B : Type 0} (c : Call S I R Refusal A B) {l : Refusals} → ((e : Refusal) → c .Given e → First l (verdict.Refused e)) → (c .Else → First l Passes) → Apart (c .answers) →
+    {a : A} {b : B} → Outcome c a b → ((a₂ : A) (b₂ : B) → Outcome c a₂ b₂ → a ≡ a₂) → (tells : A → Told) (r : R) {i : ℕ} → ((k : ℕ) → tells (c .answers .stopped r k) ≡ stopped-as i k) →
+    ((k : ℕ) → tells a ≡ stopped-as i k → a ≡ c .answers .stopped r k) → FailsOf i l (λ k s. Followed c (c .answers .stopped r k) s) (λ s. b ≡ c .left s) (tells a)
+stops-exactly c {l} given passing apart o one tells r says is = record {
+  when = λ k s f x. ap tells (one _ _ (followed (outcome-passes c o (λ e g. refused-passes (first-one verdicts l (given e g) f))) x refl)) ∙ says k;
+  only = λ k p. (let z = outcome-stopped c apart {r = r} (rw (is k p) at o) in (passing (z .0), z .1, z .2, z .3));
+}
 
-replay-stopped : {n : ℕ} {t log : List ℕ} {a : Regrown} {t′ : List ℕ} (k : ℕ) → ReplayedAs n t log a t′ → a ≡ regrown.Stopped k →
-    First (replay-refusals n t log) Passes × (T : List Row) × Followed (replaying n t log) (regrown.Stopped k) T × (t′ ≡ zeroed T t)
-replay-stopped {n} {t} {log} k w q = let o = outcome-stopped (replaying n t log) regrown-apart {r = RecordFails} (rw q at (w .outcome)) in (o .0 .0, o .1, o .2, o .3)
+-- and it refuses by its list alone: 13, 30, 31 and 32 carry their count
+follows-refuse : {R A : Type 0} (w : Answering R Refusal A) (tells : A → Told) → ((e : Refusal) → tells (w .refused e) ≡ refused e) → ((k : ℕ) → tells (w .finished k) ≡ done (pos k ∷ [])) →
+    ((r : R) (k : ℕ) (e : Refusal) → ¬ (tells (w .stopped r k) ≡ refused e)) → {l : Refusals} {P : Type 0} (a : A) →
+    ((e : Refusal) × First l (verdict.Refused e) × (a ≡ w .refused e)) ⊎ ((First l Passes × P) × (k : ℕ) × Did w k a) → Refuses l (tells a)
+follows-refuse w tells refuses finishes counts a (inl x) = exactly (inl (x .0, x .1, ap tells (x .2) ∙ refuses (x .0)))
+follows-refuse w tells refuses finishes counts a (inr (x, k, all-done e)) = exactly (inr (x .0, not-refused (ap tells e ∙ finishes k)))
+follows-refuse w tells refuses finishes counts a (inr (x, k, some-done {r} e)) = exactly (inr (x .0, λ q p. counts r k q (sym (ap tells e) ∙ p)))
 
--- a call that follows records refuses by its list alone: 13 carries its count
-records-refuse : {l : Refusals} {P : Type 0} (a : Regrown) → ((e : Refusal) × First l (verdict.Refused e) × (a ≡ regrown.Refused e)) ⊎ ((First l Passes × P) × (k : ℕ) × Did regrown-answers k a) →
-    Refuses l (regrowths.told a)
-records-refuse a (inl x) = exactly (inl (x .0, x .1, ap regrowths.told (x .2)))
-records-refuse a (inr (x, k, all-done e)) = exactly (inr (x .0, not-refused (ap regrowths.told e)))
-records-refuse a (inr (x, k, some-done e)) = exactly (inr (x .0, λ r p. failing-other k r (sym (ap regrowths.told e) ∙ p)))
+-- an edge stops a list by 30 or 31, a record by 32
+refused-by : {T : List Row} {x y : ℕ} {r : FlipRefusal} → FlipRefused T x y r → (r ≡ EdgeMissing) ⊎ (r ≡ EdgeBlocked)
+refused-by (missing m e) = inl e
+refused-by (blocked j e) = inr e
+
+stopped-at : {r q : FlipRefusal} {j k : ℕ} → flipped.Stopped r j ≡ flipped.Stopped q k → q ≡ r
+stopped-at e = cc
+
+flip-by : (n : ℕ) (t edges l : List ℕ) {r : FlipRefusal} {k : ℕ} {s : Reached} → Followed (flipping n t edges l) (flipped.Stopped r k) s → (r ≡ EdgeMissing) ⊎ (r ≡ EdgeBlocked)
+flip-by n t edges l (all w e) = absurd (flipped-apart .finished-stopped (sym e))
+flip-by n t edges l {s = s} (some done (x ⇒ y) rest q w f e) = refused-by (subst (λ k. FlipRefused (s .table) x y k) (stopped-at e) f)
+
+undo-by : (n : ℕ) (t log : List ℕ) {r : FlipRefusal} {k : ℕ} {T : List Row} → Followed (undoing n t log) (flipped.Stopped r k) T → r ≡ FlipFails
+undo-by n t log (all w e) = absurd (flipped-apart .finished-stopped (sym e))
+undo-by n t log (some done i rest q w f e) = sym (stopped-at e) ∙ f .1
+
+flip-fails : {n : ℕ} {t edges l : List ℕ} {a : Flipped} {t′ l′ : List ℕ} → FlippedAs n t edges l a t′ l′ → (r : FlipRefusal) →
+    FailsOf (number r) (flip-refusals n t edges l) (λ k s. Followed (flipping n t edges l) (flipped.Stopped r k) s) (λ s. (t′ ≡ flat (s .table)) × (l′ ≡ in-front flip-log (s .log) l)) (flips.told a)
+flip-fails {n} {t} {edges} {l} {a} w r =
+    let f = stops-exactly (flipping n t edges l) (λ e g. g) (λ h. h .0) flipped-apart (w .outcome) (λ a₂ b x. lists.flipped-one w (record { outcome = x }) .0) flips.told r (λ k. refl) (flip-stops a r) in
+    record { when = f .when; only = λ k p. (let z = f .only k p in (z .0, z .1, z .2, (ap (λ (b : Lent). b .table) (z .3), ap (λ (b : Lent). b .log) (z .3)))) }
+
+undo-fails : {n : ℕ} {t log : List ℕ} {a : Flipped} {t′ : List ℕ} → UndoneAs n t log a t′ → (r : FlipRefusal) →
+    FailsOf (number r) (undo-refusals n t log) (λ k T. Followed (undoing n t log) (flipped.Stopped r k) T) (λ T. t′ ≡ flat T) (flips.told a)
+undo-fails {n} {t} {log} {a} w r =
+    stops-exactly (undoing n t log) (λ e g. g) (λ h. h .0) flipped-apart (w .outcome) (λ a₂ b x. undoes.undid-one w (record { outcome = x }) .0) flips.told r (λ k. refl) (flip-stops a r)
 
 -- an exact sum
 exact-refuses : {xs : List ℤ} {t : List ℕ} {a : Told} → ExactReport xs t a → Refuses (refusals-at false xs t) a
@@ -211,12 +255,14 @@ pub demand-one : DemandOne
 demand-one = record {
   thin = λ o w. elim (thins.thin-told w) [ inl x ↦ exactly (inl x) | inr x ↦ exactly (inr (x .0, not-refused (x .3))) ];
   thin-same = λ o w r p. thin-same o w r p;
-  grow-back = λ {n} {m} {room} {log} {a} w. records-refuse a (outcome-did (growing n m room log) (w .outcome));
+  grow-back = λ {n} {m} {room} {log} {a} w. follows-refuse regrown-answers regrowths.told (λ e. refl) (λ k. refl) (λ r k e. failing-other k e) a (outcome-did (growing n m room log) (w .outcome));
   grow-same = λ w r p. grow-same w r p;
-  grow-fails = λ {n} {m} {room} {log} {a} w. record { when = λ k T f x. ap regrowths.told (grows.grown-one w (grow-on w f x) .0); only = λ k p. grow-stopped k w (stops a k p) };
-  replay = λ {n} {t} {log} {a} w. records-refuse a (outcome-did (replaying n t log) (w .outcome));
+  grow-fails = λ {n} {m} {room} {log} {a} w.
+      stops-exactly (growing n m room log) (λ e g. g) (λ h. h .0) regrown-apart (w .outcome) (λ a₂ b x. grows.grown-one w (record { outcome = x }) .0) regrowths.told RecordFails (λ k. refl) (stops a);
+  replay = λ {n} {t} {log} {a} w. follows-refuse regrown-answers regrowths.told (λ e. refl) (λ k. refl) (λ r k e. failing-other k e) a (outcome-did (replaying n t log) (w .outcome));
   replay-same = λ w r p. replay-same w r p;
-  replay-fails = λ {n} {t} {log} {a} w. record { when = λ k T f x. ap regrowths.told (replays.replay-one w (replay-on w f x) .0); only = λ k p. replay-stopped k w (stops a k p) };
+  replay-fails = λ {n} {t} {log} {a} w.
+      stops-exactly (replaying n t log) (λ e g. g) (λ h. h .0) regrown-apart (w .outcome) (λ a₂ b x. replays.replay-one w (record { outcome = x }) .0) regrowths.told RecordFails (λ k. refl) (stops a);
   volume = λ a w. by-verdict _ (w .verdict) (w .checked .holds) (w .tells);
   change = λ a w. by-verdict _ (w .verdict) (w .first) (w .tells);
   exact-sum = λ a w. exact-refuses w;
@@ -246,6 +292,14 @@ demand-one = record {
     λ k p. recover-stopped k (rw (recovers.told-stopped a p) at w) cut,
   );
   job = λ w. job-refuses w;
+  flip-list = λ {n} {t} {edges} {l} {a} w. follows-refuse flips.flipped flips.told (λ e. refl) (λ k. refl) stopping-other a (outcome-did (flipping n t edges l) (w .outcome));
+  flip-same = λ w r p. flip-same w r p;
+  flip-fails = λ w r. flip-fails w r;
+  flip-only = λ {n} {t} {edges} {l} w r k p. flip-by n t edges l (flip-fails w r .only k p .2);
+  undo-flips = λ {n} {t} {log} {a} w. follows-refuse flips.flipped flips.told (λ e. refl) (λ k. refl) stopping-other a (outcome-did (undoing n t log) (w .outcome));
+  undo-same = λ w r p. undo-same w r p;
+  undo-fails = λ w. undo-fails w FlipFails;
+  undo-only = λ {n} {t} {log} w r k p. undo-by n t log (undo-fails w r .only k p .2);
   open-log = λ w. open-refuses w;
   next-record = λ w. next-refuses w;
   reader = λ w. next-refuses (w .answer);

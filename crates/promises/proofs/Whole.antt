@@ -16,6 +16,8 @@ use Rattle.reply.proofs.Main.{replied-one}
 use Rattle.logsheet.proofs.Main.{read-log-one, wrote-log-one}
 use Rattle.recover.proofs.Main.{recovered-one}
 use Rattle.job.proofs.Answering.{one-answer}
+use Rattle.fliplist.proofs.Main.{flipped-one}
+use Rattle.undoflips.proofs.Main.{undid-one}
 use Rattle.logrecords.proofs.Main.{opened-one, next-one}
 use Rattle.logreader.proofs.Main.{each-one}
 use Rattle.logreader.proofs.Again.{asked-one, answered-one}
@@ -45,6 +47,8 @@ nothing-left = record {
   each-record = λ p q. each-one p q;
   recover = λ o p q. recovered-one p q;
   job = λ p q. one-answer p q;
+  flip-list = λ p q. flipped-one p q;
+  undo-flips = λ p q. undid-one p q;
   open-log = λ p q. opened-one p q;
   next-record = λ p q. next-one p q;
   exact-sum = λ a b p q. exact-sum-one a b p q;

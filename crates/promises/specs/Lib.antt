@@ -5,3 +5,4 @@ pub mod Stages
 pub mod Mailing
 pub mod Recovery
 pub mod Stations
+pub mod Flipping

@@ -133,14 +133,16 @@ put-rows-requires c κs =
     let t = args .t .now in
     let k = stage-chains (pre .0) (pre .1) in
     let some : 0 < slot-of .result = omega (arith, if1 .left) in
-    let more = reverse-found (pre .0) (slot-of .ensures) some (slot-of2 .ensures) in
-    (k, crossed-fits _ _ _ (record { first = row-at .result; second = row-at2 .result }) (args .a) (args .b) (third-of .result) (third-of2 .result) (crossed .ensures)
-    (rw (row-at .ensures .place) (place-inside t (k .whole) (slot-of .ensures) some))
-    (rw (row-at2 .ensures .place) (place-inside t (k .whole) (slot-of2 .ensures) more))
-    (first-small t (k .whole) (slot-of .ensures) some (k .under))
-    (first-small t (k .whole) (slot-of2 .ensures) more (k .under))
-    (rw (third-of .ensures) (third-small t (k .whole) (slot-of .ensures) some (k .under)))
-    (rw (third-of2 .ensures) (third-small t (k .whole) (slot-of2 .ensures) more (k .under))))
+    let more = reverse-found (pre .0) (slot-of .ensures) some (slot-of2 .ensures) in (
+      k,
+      crossed-fits _ _ _ (record { first = row-at .result; second = row-at2 .result }) (args .a) (args .b) (third-of .result) (third-of2 .result) (crossed .ensures)
+          (rw (row-at .ensures .place) (place-inside t (k .whole) (slot-of .ensures) some))
+          (rw (row-at2 .ensures .place) (place-inside t (k .whole) (slot-of2 .ensures) more))
+          (first-small t (k .whole) (slot-of .ensures) some (k .under))
+          (first-small t (k .whole) (slot-of2 .ensures) more (k .under))
+          (rw (third-of .ensures) (third-small t (k .whole) (slot-of .ensures) some (k .under)))
+          (rw (third-of2 .ensures) (third-small t (k .whole) (slot-of2 .ensures) more (k .under))),
+    )
 
 same-length-7 : tie.Need-same-length-7
 same-length-7 c = search needs
