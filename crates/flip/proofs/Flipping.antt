@@ -67,6 +67,10 @@ pub crossed-fits : (m n : ℕ) (r old : FlipRecord) (A B C D : Corner) → r ≡
     ((r .first .place .0 < m) × Numbered (r .first) n) × ((r .second .place .0 < m) × Numbered (r .second) n)
 crossed-fits m n r old A B C D e p q ha hb hc hd = rw e ((p, record { a = hc; b = ha; c = hd }), (q, record { a = hc; b = hd; c = hb }))
 
+-- what was found, by equal corners
+pub found-as : {t : List ℕ} {a b a′ b′ x : ℕ} → a ≡ a′ → b ≡ b′ → Found t a b x → Found t a′ b′ x
+found-as e g f = rw (sym e, sym g) f
+
 module _ {t last prev : List ℕ} (c : Charted t last prev) {a b x : ℕ} (f : Found t a b x) where
   abbrev w : Whole t
   w = table-whole (c .table)

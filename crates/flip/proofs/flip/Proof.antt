@@ -1,7 +1,7 @@
 -- `flip` meets its contract.
 use Prim.Native.Nat.{_<_}
 use mathlib.Core.Path.{refl, _∙_, ap}
-use Rattle.flip.proofs.Flipping.{stage-chains, edge-missing, reverse-found, edge-blocked, flip-logs, slot-inside, place-inside, first-small, third-small, crossed-fits}
+use Rattle.flip.proofs.Flipping.{stage-chains, edge-missing, reverse-found, edge-blocked, flip-logs, slot-inside, place-inside, found-as, first-small, third-small, crossed-fits}
 use native.Mathlib.Omega.{arith}
 use borrow.Author.Needs.{needs}
 use Rattle.flip.proofs.flip.Statement.{statement}
@@ -85,7 +85,7 @@ returns-2 c =
     let third-of2 = c .before .before .before .before .before .third-of2 in
     let slot-of3 = c .before .slot-of3 in
     let if2 = c .if2 in
-    (edge-blocked (pre .0) (slot-of .ensures) (omega (arith, if1 .left)) (slot-of2 .ensures) (rw (third-of .ensures, third-of2 .ensures) at (slot-of3 .ensures)) (omega (arith, if2 .taken)), stage-chains (pre .0) (pre .1))
+    (edge-blocked (pre .0) (slot-of .ensures) (omega (arith, if1 .left)) (slot-of2 .ensures) (found-as (third-of .ensures) (third-of2 .ensures) (slot-of3 .ensures)) (omega (arith, if2 .taken)), stage-chains (pre .0) (pre .1))
 
 sub-row-at : tie.Need-sub-row-at
 sub-row-at c = search needs
@@ -168,7 +168,7 @@ returns-3 c =
     let crossed = c .before .before .before .before .before .before .before .before .before .before .crossed in
     let put-rows = c .before .before .before .before .before .before .put-rows in
     let some : 0 < slot-of .result = omega (arith, if1 .left) in
-    (flip-logs (pre .0) (slot-of .ensures) some (slot-of2 .ensures) (rw (third-of .ensures, third-of2 .ensures) at (slot-of3 .ensures)) (row-at .result) (row-at2 .result) (row-at .ensures) (row-at2 .ensures) _ refl refl (third-of .ensures) (third-of2 .ensures) (if2 .left) (rw (crossed .ensures) at (put-rows .ensures .0)), put-rows .ensures .1)
+    (flip-logs (pre .0) (slot-of .ensures) some (slot-of2 .ensures) (found-as (third-of .ensures) (third-of2 .ensures) (slot-of3 .ensures)) (row-at .result) (row-at2 .result) (row-at .ensures) (row-at2 .ensures) _ refl refl (third-of .ensures) (third-of2 .ensures) (if2 .left) (rw (crossed .ensures) at (put-rows .ensures .0)), put-rows .ensures .1)
 
 pub flip-spec : {M : Type 1} → statement M
 flip-spec =
