@@ -12,11 +12,6 @@ use Rattle.slots.specs.Chain.{Last, Chained}
 use Rattle.chart.specs.Links.{Link, top, after, hung-last, hung-prev}
 use Rattle.chart.specs.Chart.{InChains, Above}
 
-pub top-upto : (t : List ℕ) (u x : ℕ) → Link t u x → top t x ≤ length t
-unfolding top Link
-top-upto t u zero k = omega arith
-top-upto t u (suc e) k = let h = k .0 in omega arith
-
 pub link-upto : (t : List ℕ) (u x : ℕ) → Link t u x → x ≤ length t
 unfolding Link
 link-upto t u zero k = omega arith
@@ -45,12 +40,12 @@ module _ (last prev : List ℕ) (u x z : ℕ) where
 
 -- what a chain has on each of its links, the head and the slots alike
 module _ (t last prev : List ℕ) where
-  pub on-link : Chained t last prev → (u x : ℕ) → u < length last → Link t u x → Last t u (top t x) (after last prev u x)
+  on-link : Chained t last prev → (u x : ℕ) → u < length last → Link t u x → Last t u (top t x) (after last prev u x)
   unfolding top Link after
   on-link c u zero h k = c .heads .lasts u h
   on-link c u (suc e) h k = rw (k .1) at (c .links e (k .0))
 
-  pub by-links : Under t (length last) → length t ≤ length prev → ((u x : ℕ) → u < length last → Link t u x → Last t u (top t x) (after last prev u x)) → Chained t last prev
+  by-links : Under t (length last) → length t ≤ length prev → ((u x : ℕ) → u < length last → Link t u x → Last t u (top t x) (after last prev u x)) → Chained t last prev
   unfolding top Link after
   by-links n r f = record { room = r; heads = record { lasts = λ v h. f v zero h _ }; links = λ e h. f (getD t e 0) (suc e) (n .under e h) (h, refl) }
 

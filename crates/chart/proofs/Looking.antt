@@ -1,5 +1,5 @@
 -- Along a chain: one step of looking for an edge, and for the link above a slot.
-use mathlib.Core.Path.{_≡_, refl, sym, _∙_, ap}
+use mathlib.Core.Path.{_≡_}
 use mathlib.Core.Logic.{_≢_}
 use mathlib.Core.List.{List}
 use Prim.Native.Nat.{ℕ, zero, suc, _+_, _-_, _≤_, _<_, _%_}
@@ -9,11 +9,11 @@ use lib.ListN.{length, getD}
 use Rattle.surface.specs.Rows.{rows}
 use Rattle.surface.specs.Table.{Edge}
 use Rattle.slots.specs.Slot.{next-slot, Under}
-use Rattle.slots.specs.Chain.{Last, Chained}
+use Rattle.slots.specs.Chain.{Last}
 use Rattle.slots.proofs.Slots.{follows-at, at-follows}
 use Rattle.edges.specs.Sweep.{Found}
 use Rattle.chart.specs.Links.{Link, top}
-use Rattle.chart.specs.Chart.{InChains, Above}
+use Rattle.chart.specs.Chart.{Above}
 
 -- the slots of a from x on do not have the edge to b; x is one more than a slot of a, or 0
 pub record Looked (t : List ℕ) (a b x : ℕ) : Type 0 where

@@ -1,14 +1,13 @@
 -- What the slots found say of the flip: it is refused as 02 says, or its two rows stand where the slots are, and the new ones come in their places.
-use mathlib.Core.Path.{_≡_, refl, sym, _∙_, ap}
+use mathlib.Core.Path.{_≡_, refl, sym, _∙_}
 use mathlib.Core.List.{List}
-use Prim.Native.Nat.{ℕ, zero, suc, _+_, _-_, _*_, _/_, _≤_, _<_, _%_}
+use Prim.Native.Nat.{ℕ, zero, suc, _-_, _*_, _/_, _≤_, _<_}
 use native.Mathlib.Omega.{arith}
 use lib.ListN.{length, getD}
 use Rattle.surface.specs.Limits.{most-corners}
 use Rattle.surface.specs.Rows.{row, rows, Turned, turn-0, turn-1, turn-2}
-use Rattle.surface.specs.Table.{Follows, Edge}
+use Rattle.surface.specs.Table.{Follows}
 use Rattle.surface.proofs.Flat.{row-from}
-use Rattle.flips.specs.Flip.{Flips}
 use Rattle.flips.specs.Undo.{put-rows}
 use Rattle.flips.proofs.Places.{stands-row}
 use Rattle.record.specs.declared.Corner.{Corner}

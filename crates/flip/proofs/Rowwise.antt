@@ -1,14 +1,13 @@
 -- A table's rows by place, read and written.
-use mathlib.Core.Path.{_≡_, refl, sym, _∙_, ap}
+use mathlib.Core.Path.{_≡_, _∙_, ap}
 use mathlib.Core.List.{List}
-use Prim.Native.Nat.{ℕ, _+_, _*_, _≤_, _<_}
+use Prim.Native.Nat.{ℕ, _+_, _*_, _<_}
 use native.Mathlib.Omega.{arith}
-use lib.ListN.{length, set, getD, length-set}
+use lib.ListN.{length, set, length-set}
 use Rattle.surface.specs.Limits.{most-rows}
-use Rattle.surface.specs.Rows.{row, rows}
-use Rattle.flips.specs.Flip.{Stands}
+use Rattle.surface.specs.Rows.{rows}
 use Rattle.flips.specs.Undo.{put-rows}
-use Rattle.flips.proofs.Places.{rows-stands, rows-set}
+use Rattle.flips.proofs.Places.{rows-set}
 use Rattle.record.specs.declared.Leaving.{Leaving}
 use Rattle.slots.specs.Slot.{next-slot, Whole}
 use Rattle.slots.proofs.Slots.{whole-rows, next-inside}

@@ -7,14 +7,12 @@ use lib.ListN.{length, length-append, getD}
 use lib.Seq.{sets}
 use Rattle.follow.specs.Follow.{Followed, all, some}
 use Rattle.follow.proofs.Upto.{Upto, upto-none, upto-all, upto-fails, upto-more}
-use Rattle.surface.specs.Limits.{most-corners}
 use Rattle.surface.specs.Rows.{rows, flat}
 use Rattle.surface.specs.Table.{Arrow, _⇒_}
 use Rattle.surface.specs.Stage.{Stage}
-use Rattle.surface.specs.InnerStageTable.{StageTable}
 use Rattle.surface.proofs.Flat.{rows-flat, flat-rows}
-use Rattle.flips.specs.Flip.{Flip, Flips}
-use Rattle.flips.proofs.Flips.{flip-stage, flip-length}
+use Rattle.flips.specs.Flip.{Flips}
+use Rattle.flips.proofs.Flips.{flip-stage}
 use Rattle.slots.proofs.Slots.{whole-rows}
 use Rattle.neighbours.specs.Around.{Charted}
 use Rattle.laid.specs.Laid.{count, items, in-front}
@@ -29,7 +27,7 @@ use Rattle.fliplog.specs.Layout.{edge-list, width, numbers, flip-log}
 use Rattle.fliplog.proofs.Logging.{flip-log-sound, edge-there}
 use Rattle.flip.specs.declared.Tried.the-variants.{Logs, Refused}
 use Rattle.flip.specs.Inner.{Tries}
-use Rattle.fliplist.specs.Outcome.{flip-room, Reached, flipping}
+use Rattle.fliplist.specs.Outcome.{Reached, flipping}
 use Rattle.fliplist.specs.Inner.{FlipReady, FlippedOn}
 
 -- after so many flips

@@ -1,28 +1,19 @@
--- The layouts of a list of edges and of a flip log are sound, and what is read by place is the item that stands there.
+-- The layout of a flip log is sound, and what is read by place, of a list of edges and of a log, is the item that stands there.
 use mathlib.Core.Path.{_≡_, refl, sym, _∙_, ap}
-use mathlib.Core.List.{List, [], _∷_, _++_}
-use Prim.Native.Nat.{ℕ, zero, _+_}
+use mathlib.Core.List.{List, _∷_, _++_}
+use Prim.Native.Nat.{ℕ, _+_}
 use native.Mathlib.Omega.{arith}
 use lib.ListN.{length, drop, getD}
 use lib.Seq.{getD-drop}
 use Rattle.surface.specs.Rows.{Row, row}
-use Rattle.surface.specs.Table.{Arrow, _⇒_}
+use Rattle.surface.specs.Table.{_⇒_}
 use Rattle.flips.specs.Flip.{Flip}
 use Rattle.record.specs.Layout.{three}
 use Rattle.record.specs.declared.Leaving.{Leaving}
 use Rattle.laid.proofs.Laws.{Sound}
-use Rattle.fliplog.specs.Layout.{edge-list, two, numbers, flip-in, flip-log}
+use Rattle.fliplog.specs.Layout.{edge-list, numbers, flip-in, flip-log}
 use Rattle.fliplog.specs.Meant.{meant}
 use Rattle.fliplog.specs.Inner.{ReadRow}
-
-pub edge-list-sound : Sound edge-list
-edge-list-sound = record { some = omega arith; size = size; back = back }
-  where
-    size : (i : Arrow) → length (two i) ≡ 2
-    size (a ⇒ b) = refl
-
-    back : (i : Arrow) (l : List ℕ) → (getD (two i ++ l) 0 0 ⇒ getD (two i ++ l) 1 0) ≡ i
-    back (a ⇒ b) l = refl
 
 pub flip-log-sound : Sound flip-log
 flip-log-sound = record { some = omega arith; size = λ k. size k (k .row-1) (k .row-2); back = λ k l. back k l (k .row-1) (k .row-2) refl refl }

@@ -2,7 +2,7 @@
 use mathlib.Core.List.{List, [], _∷_, _++_}
 use Prim.Native.Nat.{ℕ}
 use lib.ListN.{getD}
-use Rattle.surface.specs.Rows.{Row, row}
+use Rattle.surface.specs.Rows.{row}
 use Rattle.surface.specs.Table.{Arrow, _⇒_}
 use Rattle.flips.specs.Flip.{Flip}
 use Rattle.record.specs.Layout.{three}

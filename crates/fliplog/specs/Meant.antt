@@ -1,5 +1,4 @@
 -- A flip's record as the code holds it: which number is which.
-use Rattle.surface.specs.Rows.{row}
 use Rattle.flips.specs.Flip.{Flip}
 use Rattle.ends.specs.Rows.{row-of}
 use Rattle.fliplog.specs.declared.FlipRecord.{FlipRecord}

@@ -312,10 +312,3 @@ undone-iff n T′ k s = (λ g. flip-undoable (g .1 .stage) (g .1 .flips), λ l. 
 -- a record is undone to one table
 pub undone-one : {n : ℕ} {T′ T₁ T₂ : List Row} {k : Flip} → Undone n T′ k T₁ → Undone n T′ k T₂ → T₁ ≡ T₂
 undone-one g h = g .is ∙ sym (h .is)
-
--- and by one edge, which the rows that came tell
-pub undone-edge : {n : ℕ} {T′ T₁ T₂ : List Row} {k : Flip} (g : Undone n T′ k T₁) (h : Undone n T′ k T₂) → (g .a ≡ h .a) × (g .b ≡ h .b)
-undone-edge g h =
-    let e₁ = stands-one (new-1 (g .stage) (g .flips)) (new-1 (h .stage) (h .flips)) in
-    let e₂ = stands-one (new-2 (g .stage) (g .flips)) (new-2 (h .stage) (h .flips)) in
-    (cc, cc)

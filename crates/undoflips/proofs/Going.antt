@@ -1,19 +1,17 @@
 -- The records of a flip log undone one by one, the last first: after so many, the table is that reached, and the chains are its own.
-use mathlib.Core.Path.{_≡_, refl, sym, _∙_, ap}
+use mathlib.Core.Path.{_≡_, refl, sym, _∙_}
 use mathlib.Core.Bool.{true, false}
 use mathlib.Core.List.{List, reverse}
 use Prim.Native.Nat.{ℕ, _+_, _-_, _*_, _≤_, _<_}
 use native.Mathlib.Omega.{arith}
 use lib.ListN.{length, drop, length-reverse}
-use Rattle.follow.specs.Leads.{Leads}
 use Rattle.follow.proofs.Leading.{leads-keep}
 use Rattle.follow.proofs.Upto.{Upto, upto-none, upto-all, upto-fails, upto-more}
-use Rattle.surface.specs.Rows.{Row, rows, flat}
+use Rattle.surface.specs.Rows.{rows, flat}
 use Rattle.surface.specs.Stage.{Stage}
 use Rattle.surface.specs.InnerStageTable.{StageTable}
-use Rattle.surface.proofs.Flat.{rows-flat, flat-rows}
+use Rattle.surface.proofs.Flat.{flat-rows}
 use Rattle.flips.specs.Flip.{Flip}
-use Rattle.flips.specs.Undo.{Undone, put-rows}
 use Rattle.flips.proofs.Flips.{undone, not-undone}
 use Rattle.slots.proofs.Slots.{whole-rows}
 use Rattle.neighbours.specs.Around.{Charted}

@@ -2,7 +2,6 @@
 use mathlib.Core.Path.{refl}
 use Rattle.flipped.specs.Answer.{told}
 use Rattle.across.proofs.Saying.{said}
-use native.Mathlib.Omega.{arith}
 use borrow.Author.Needs.{needs}
 use Rattle.across.proofs.counted_flipped.Statement.{statement}
 use Rattle.across.proofs.counted_flipped.Tie as tie

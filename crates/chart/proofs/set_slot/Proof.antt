@@ -4,7 +4,7 @@ use mathlib.Core.List.{List}
 use Prim.Native.Nat.{ℕ, _+_}
 use mathlib.Core.Path.{refl, ap}
 use Rattle.chart.specs.Links.{hung-last, hung-prev}
-use mathlib.Core.Path.{sym, _∙_}
+use mathlib.Core.Path.{_∙_}
 use Rattle.chart.proofs.Linking.{link-upto, number-set, number-same}
 use native.Mathlib.Omega.{arith}
 use borrow.Author.Needs.{needs}

@@ -1,6 +1,6 @@
 -- `flip` meets its contract.
 use Prim.Native.Nat.{_<_}
-use mathlib.Core.Path.{refl, _∙_, ap}
+use mathlib.Core.Path.{refl}
 use Rattle.flip.proofs.Flipping.{stage-chains, edge-missing, reverse-found, edge-blocked, flip-logs, slot-inside, place-inside, found-as, first-small, third-small, crossed-fits}
 use native.Mathlib.Omega.{arith}
 use borrow.Author.Needs.{needs}

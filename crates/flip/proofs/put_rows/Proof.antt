@@ -1,10 +1,5 @@
 -- `put_rows` meets its contract.
-use Rattle.flip.proofs.Rowwise.{inside, put-many, put-two}
-use mathlib.Core.Path.{_∙_, ap}
-use lib.ListN.{length}
-use mathlib.Core.List.{List}
-use Prim.Native.Nat.{ℕ}
-use Rattle.surface.specs.Rows.{rows}
+use Rattle.flip.proofs.Rowwise.{inside, put-two}
 use native.Mathlib.Omega.{arith}
 use borrow.Author.Needs.{needs}
 use Rattle.flip.proofs.put_rows.Statement.{statement}

@@ -3,7 +3,6 @@ use mathlib.Core.Path.{refl}
 use Rattle.flips.proofs.Places.{rows-stands}
 use Rattle.flip.proofs.Rowwise.{inside, few}
 use native.Mathlib.Omega.{arith}
-use borrow.Author.Needs.{needs}
 use Rattle.flip.proofs.row_at.Statement.{statement}
 use Rattle.flip.proofs.row_at.Tie as tie
 

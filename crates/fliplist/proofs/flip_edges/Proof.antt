@@ -1,6 +1,6 @@
 -- `flip_edges` meets its contract.
-use mathlib.Core.Path.{_≡_, refl, sym, _∙_}
-use Prim.Native.Nat.{_-_, _/_, _*_, _<_, _≤_}
+use mathlib.Core.Path.{_≡_}
+use Prim.Native.Nat.{_-_, _/_}
 use lib.ListN.{length}
 use Rattle.surface.specs.Limits.{most-corners}
 use Rattle.slots.specs.Slot.{most-slots}

@@ -1,7 +1,6 @@
 -- `flip_list` meets its contract.
 use mathlib.Core.Path.{refl}
 use Rattle.follow.specs.Follow.{refused, followed}
-use native.Mathlib.Omega.{arith}
 use borrow.Author.Needs.{needs}
 use Rattle.fliplist.proofs.flip_list.Statement.{statement}
 use Rattle.fliplist.proofs.flip_list.Tie as tie

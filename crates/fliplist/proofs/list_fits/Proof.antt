@@ -1,7 +1,6 @@
 -- `list_fits` meets its contract.
 use borrow.Author.Tests.{not-true, not-false}
 use Rattle.refusal.proofs.Tells.{tells-true, tells-false}
-use native.Mathlib.Omega.{arith}
 use borrow.Author.Needs.{needs}
 use Rattle.fliplist.proofs.list_fits.Statement.{statement}
 use Rattle.fliplist.proofs.list_fits.Tie as tie

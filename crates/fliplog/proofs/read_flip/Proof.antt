@@ -1,6 +1,5 @@
 -- `read_flip` meets its contract.
 use Rattle.fliplog.proofs.Logging.{flip-there}
-use native.Mathlib.Omega.{arith}
 use borrow.Author.Needs.{needs}
 use Rattle.fliplog.proofs.read_flip.Statement.{statement}
 use Rattle.fliplog.proofs.read_flip.Tie as tie

@@ -4,7 +4,6 @@ use mathlib.Core.List.{List, [], _∷_}
 use Prim.Native.Nat.{ℕ, _+_}
 use native.Mathlib.Numerals.{towards-suc}
 use lib.Seq.{sets}
-use native.Mathlib.Omega.{arith}
 use borrow.Author.Needs.{needs}
 use Rattle.fliplog.proofs.write_flip.Statement.{statement}
 use Rattle.fliplog.proofs.write_flip.Tie as tie

@@ -1,7 +1,6 @@
 -- `judge` meets its contract.
 use borrow.Author.Tests.{not-true, not-false}
 use Rattle.undoflips.proofs.Judging.{judge-2, judge-on}
-use native.Mathlib.Omega.{arith}
 use borrow.Author.Needs.{needs}
 use Rattle.undoflips.proofs.judge.Statement.{statement}
 use Rattle.undoflips.proofs.judge.Tie as tie

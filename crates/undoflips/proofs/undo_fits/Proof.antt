@@ -1,7 +1,6 @@
 -- `undo_fits` meets its contract.
 use borrow.Author.Tests.{not-true, not-false}
 use Rattle.refusal.proofs.Tells.{tells-true, tells-false}
-use native.Mathlib.Omega.{arith}
 use borrow.Author.Needs.{needs}
 use Rattle.undoflips.proofs.undo_fits.Statement.{statement}
 use Rattle.undoflips.proofs.undo_fits.Tie as tie

@@ -1,7 +1,6 @@
 -- `undo_flips` meets its contract.
 use mathlib.Core.Path.{refl}
 use Rattle.follow.specs.Follow.{refused, followed}
-use native.Mathlib.Omega.{arith}
 use borrow.Author.Needs.{needs}
 use Rattle.undoflips.proofs.undo_flips.Statement.{statement}
 use Rattle.undoflips.proofs.undo_flips.Tie as tie

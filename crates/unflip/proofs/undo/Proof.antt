@@ -1,9 +1,7 @@
 -- `undo` meets its contract.
 use borrow.Author.Tests.{not-true, not-false}
-use mathlib.Core.Path.{refl}
 use Rattle.flip.proofs.Flipping.{stage-chains}
 use Rattle.unflip.proofs.Undoing.{rule-fits, undo-stays, undo-done}
-use native.Mathlib.Omega.{arith}
 use borrow.Author.Needs.{needs}
 use Rattle.unflip.proofs.undo.Statement.{statement}
 use Rattle.unflip.proofs.undo.Tie as tie

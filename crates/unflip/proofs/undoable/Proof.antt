@@ -1,7 +1,4 @@
 -- `undoable` meets its contract.
-use Prim.Native.Nat.{_<_, _≤_}
-use lib.ListN.{length}
-use Rattle.surface.specs.Rows.{rows}
 use borrow.Author.Tests.{not-true, not-false}
 use Rattle.refusal.proofs.Tells.{tells-true, tells-false}
 use Rattle.slots.proofs.Slots.{whole-rows}

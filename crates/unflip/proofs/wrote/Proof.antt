@@ -1,9 +1,7 @@
 -- `wrote` meets its contract.
-use mathlib.Core.Path.{sym, _∙_}
+use mathlib.Core.Path.{sym}
 use Rattle.refusal.proofs.Tells.{tells-true, tells-false}
-use Rattle.ends.specs.Rows.{PairIs}
 use Rattle.unflip.proofs.Undoing.{turned-one, paired, unpaired}
-use native.Mathlib.Omega.{arith}
 use borrow.Author.Needs.{needs}
 use Rattle.unflip.proofs.wrote.Statement.{statement}
 use Rattle.unflip.proofs.wrote.Tie as tie
