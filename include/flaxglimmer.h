@@ -5,11 +5,11 @@
  * flip FLAXGLIMMER_FLIP_WIDTH numbers of a flip log.
  *
  * status: 0 done, else the number of the first refusal that holds, FLAXGLIMMER_LIMIT_UNUSABLE to FLAXGLIMMER_RECORD_FAILS below, of a job
- * FLAXGLIMMER_JOB_COUNT to FLAXGLIMMER_JOB_SUM, and of flips FLAXGLIMMER_EDGE_MISSING to FLAXGLIMMER_FLIP_FAILS; a later archive may answer further
+ * FLAXGLIMMER_JOB_COUNT to FLAXGLIMMER_JOB_SUM, and of flips FLAXGLIMMER_EDGE_MISSING to FLAXGLIMMER_UNDO_FAILS; a later archive may answer further
  * numbers. A refused call leaves every list that it was lent as it was, and each of its values is 0, those in lent numbers and in a lent record too.
  * But FLAXGLIMMER_RECORD_FAILS tells how many records were done before it, and leaves the stage that they led to; flaxglimmer_recover also leaves
  * those records in front of its log. FLAXGLIMMER_EDGE_MISSING and FLAXGLIMMER_EDGE_BLOCKED tell how many flips were done before, and leave those in
- * the table and in the log and no others; FLAXGLIMMER_FLIP_FAILS tells how many were undone before, and leaves the table that they led to.
+ * the table and in the log and no others; FLAXGLIMMER_UNDO_FAILS tells how many were undone before, and leaves the table that they led to.
  *
  * What is lent. A list is a pointer and how many numbers (of a sheet or a text: bytes) stand there, its length. It is lent for the call alone:
  * nothing is kept, and nothing is freed.
@@ -116,7 +116,7 @@ enum {
     FLAXGLIMMER_JOB_SUM = 25,                /* a sum out of range: beyond 768,000,000,000,000,000 either way */
     FLAXGLIMMER_EDGE_MISSING = 30,           /* a listed edge that is missing */
     FLAXGLIMMER_EDGE_BLOCKED = 31,           /* a listed edge whose opposite corners are neighbours already */
-    FLAXGLIMMER_FLIP_FAILS = 32              /* a flip's record that is not undone */
+    FLAXGLIMMER_UNDO_FAILS = 32              /* a flip's record that is not undone */
 };
 
 /* Units of a limit. Feet are survey feet, 1200/3937 of a metre; international feet have 30.48 centimetres. Any other number stands for a limit that
@@ -296,7 +296,7 @@ struct flaxglimmer_counted flaxglimmer_flip_list(size_t corners, uint32_t *table
  * undone where that gives a stage whose flip is allowed and writes the present table and this record.
  * FLAXGLIMMER_COUNTS_OUTSIDE for a table that is no whole rows, counts outside their limits, or a log that is no whole records; then
  * FLAXGLIMMER_NUMBER_NOT_BELOW to FLAXGLIMMER_NOT_CONNECTED of the table, but not FLAXGLIMMER_CORNER_UNUSED; then record by record
- * FLAXGLIMMER_FLIP_FAILS.
+ * FLAXGLIMMER_UNDO_FAILS.
  * table: its rows; written. log: whole records of flips; read. */
 struct flaxglimmer_counted flaxglimmer_undo_flips(size_t corners, uint32_t *table, size_t table_length, const uint32_t *log, size_t log_length);
 

@@ -156,7 +156,7 @@ fn answered<T>(status: u64, value: T) -> Result<T, Refusal> {
 /// What a log came to that was followed, or stopped after so many records.
 fn followed<T>(status: u64, records: u64, value: T) -> Result<T, Unfinished> {
     answered(status, value).map_err(|refusal| match refusal {
-        Refusal::RecordFails | Refusal::FlipFails => Unfinished::Stopped(records as usize),
+        Refusal::RecordFails | Refusal::UndoFails => Unfinished::Stopped(records as usize),
         other => Unfinished::Refused(other),
     })
 }

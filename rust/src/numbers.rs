@@ -56,7 +56,7 @@ pub enum Refusal {
     JobSum,
     EdgeMissing,
     EdgeBlocked,
-    FlipFails,
+    UndoFails,
     /// A number that has no name here, as an archive later than this file may answer.
     Other(u64),
 }
@@ -85,7 +85,7 @@ impl Refusal {
         Refusal::JobSum,
         Refusal::EdgeMissing,
         Refusal::EdgeBlocked,
-        Refusal::FlipFails,
+        Refusal::UndoFails,
     ];
 
     /// The refusal with a number. It is `Other` only where no name has the number, and 0, which is the status of what is done, has none.
@@ -117,7 +117,7 @@ impl Refusal {
             Refusal::JobSum => 25,
             Refusal::EdgeMissing => 30,
             Refusal::EdgeBlocked => 31,
-            Refusal::FlipFails => 32,
+            Refusal::UndoFails => 32,
             Refusal::Other(number) => number,
         }
     }

@@ -13,7 +13,7 @@ fn a_name_for_each_of_01s_numbers_of_the_jobs_and_of_the_flips() {
     assert_eq!(Refusal::of(20), Refusal::JobCount);
     assert_eq!(Refusal::of(25), Refusal::JobSum);
     assert_eq!(Refusal::of(30), Refusal::EdgeMissing);
-    assert_eq!(Refusal::of(32), Refusal::FlipFails);
+    assert_eq!(Refusal::of(32), Refusal::UndoFails);
 }
 
 #[test]

@@ -16,11 +16,11 @@ use Rattle.surface.proofs.Testing.{every, every-at, or-in, among, among-sound, 
 use Rattle.surface.proofs.Once.{turn, edge-in, in-edge}
 use Rattle.surface.proofs.Linked.{not-same}
 use Rattle.surface.proofs.Round.{upto, every-upto}
-use Rattle.flips.specs.Flip.{stands-here, stands-later, Flip, Flips, Joined}
+use Rattle.flips.specs.Flip.{stands-here, stands-later, Flip, Flips, Blocked}
 use Rattle.flips.specs.Undo.{Undone}
 use Rattle.flips.proofs.Flips.{flip-stage, flip-undone}
 use Rattle.laid.specs.Laid.{laid, first-items}
-use Rattle.flipped.specs.declared.FlipRefusal.the-variants.{EdgeMissing, EdgeBlocked, FlipFails}
+use Rattle.flipped.specs.declared.FlipRefusal.the-variants.{EdgeMissing, EdgeBlocked, UndoFails}
 use Rattle.flipped.specs.declared.Flipped.{Flipped}
 use Rattle.flipped.specs.declared.Flipped.the-variants.{Done, Stopped}
 use Rattle.flipped.proofs.Telling.{flipped-apart}
@@ -49,7 +49,7 @@ T-joined {c} {d} p q n =
       | inr m ↦ in-edge (rows T) (among-sound arrow-eq arrow-sound arrow-whole (edges (rows T)) m)
     ]
 
-T-blocked : {a b : ℕ} → Edge (rows T) a b → Joined (rows T) a b
+T-blocked : {a b : ℕ} → Edge (rows T) a b → Blocked (rows T) a b
 T-blocked {a} {b} e =
     let s = T-skin .stage in
     let g = s .both e in
@@ -179,7 +179,7 @@ not-yet : (S : List Row) → ¬ Undone 6 (rows O-twice) k₁ S
 unfolding rows
 not-yet S u = let e = u .is in let f = u .flips .leaves in let k : _≡_ {A = ℕ} 4 2 = cc in omega arith
 
-pub O-kept : UndoneAs 6 O-twice one-record (Stopped FlipFails 0) O-twice
+pub O-kept : UndoneAs 6 O-twice one-record (Stopped UndoFails 0) O-twice
 unfolding rows flat first-items laid
 O-kept = record {
   outcome = followed (undo-passes 6 O-twice one-record (record { counts = counts-fit refl twice-stage; whole = refl }) twice-stage, twice-stage)
@@ -199,7 +199,7 @@ O-undone = record {
 }
 
 -- one that begins with the first record, which is not undone there
-pub first-record-first : (t′ : List ℕ) → ¬ UndoneAs 6 O-twice two-records (Stopped FlipFails 0) t′
+pub first-record-first : (t′ : List ℕ) → ¬ UndoneAs 6 O-twice two-records (Stopped UndoFails 0) t′
 first-record-first t′ h = flipped-apart .finished-stopped (undid-one O-undone h .0)
 
 -- or that puts the rows back in that order unasked, and leaves O-flipped

@@ -22,7 +22,7 @@ use Rattle.chart.specs.Chart.{InChains, Numbered}
 use Rattle.chart.proofs.Looking.{none-found, found-edge}
 use Rattle.flipped.specs.declared.FlipRefusal.the-variants.{EdgeMissing, EdgeBlocked}
 use Rattle.fliplog.specs.declared.FlipRecord.{FlipRecord}
-use Rattle.fliplog.specs.Meant.{meant}
+use Rattle.fliplog.specs.InnerMeant.{meant}
 use Rattle.flip.specs.declared.Tried.the-variants.{Logs, Refused}
 use Rattle.flip.specs.Refused.{missing, blocked}
 use Rattle.flip.specs.Inner.{third-at, RowAt, crossed-rows, Tries}

@@ -13,7 +13,7 @@ use Rattle.slots.specs.Slot.{next-slot, Whole}
 use Rattle.slots.proofs.Slots.{whole-rows, next-inside}
 use Rattle.ends.specs.Rows.{row-of}
 use Rattle.fliplog.specs.declared.FlipRecord.{FlipRecord}
-use Rattle.fliplog.specs.Meant.{meant}
+use Rattle.fliplog.specs.InnerMeant.{meant}
 
 module _ (t : List ℕ) (w : Whole t) where
   -- the slots of a row are the table's

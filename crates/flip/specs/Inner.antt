@@ -10,7 +10,7 @@ use Rattle.record.specs.declared.Leaving.{Leaving}
 use Rattle.slots.specs.Slot.{next-slot}
 use Rattle.ends.specs.Rows.{row-of}
 use Rattle.fliplog.specs.declared.FlipRecord.{FlipRecord}
-use Rattle.fliplog.specs.Meant.{meant}
+use Rattle.fliplog.specs.InnerMeant.{meant}
 use Rattle.flip.specs.declared.Tried.{Tried}
 use Rattle.flip.specs.declared.Tried.the-variants.{Logs, Refused}
 use Rattle.flip.specs.Refused.{FlipRefused}

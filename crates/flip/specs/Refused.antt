@@ -3,11 +3,11 @@ use mathlib.Core.Path.{_≡_}
 use mathlib.Core.List.{List}
 use Prim.Native.Nat.{ℕ}
 use Rattle.surface.specs.Rows.{Row}
-use Rattle.flips.specs.Flip.{EdgeGone, Joined}
+use Rattle.flips.specs.Flip.{NoEdge, Blocked}
 use Rattle.flipped.specs.declared.FlipRefusal.{FlipRefusal}
 use Rattle.flipped.specs.declared.FlipRefusal.the-variants.{EdgeMissing, EdgeBlocked}
 
 -- the flip of the edge a b in T is refused with r
 pub data FlipRefused (T : List Row) (a b : ℕ) (r : FlipRefusal) : Type 0 where
-  missing : EdgeGone T a b → r ≡ EdgeMissing → FlipRefused T a b r
-  blocked : Joined T a b → r ≡ EdgeBlocked → FlipRefused T a b r
+  missing : NoEdge T a b → r ≡ EdgeMissing → FlipRefused T a b r
+  blocked : Blocked T a b → r ≡ EdgeBlocked → FlipRefused T a b r

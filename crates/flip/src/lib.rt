@@ -13,7 +13,7 @@ ghost use Rattle.flips.specs.Undo.{put-rows};
 ghost use Rattle.slots.specs.Slot.{Whole};
 ghost use Rattle.neighbours.specs.Around.{Charted};
 ghost use Rattle.chart.specs.Chart.{InChains, Numbered};
-ghost use Rattle.fliplog.specs.Meant.{meant};
+ghost use Rattle.fliplog.specs.InnerMeant.{meant};
 ghost use Rattle.flip.specs.Inner.{third-at, RowAt, crossed-rows, Tries};
 
 // What comes of the flip of an edge: its record, or why it is refused.

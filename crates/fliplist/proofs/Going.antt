@@ -22,7 +22,7 @@ use Rattle.flipped.specs.declared.FlipRefusal.{FlipRefusal}
 use Rattle.flipped.specs.declared.Flipped.{Flipped}
 use Rattle.flipped.specs.declared.Flipped.the-variants.{Done, Stopped}
 use Rattle.fliplog.specs.declared.FlipRecord.{FlipRecord}
-use Rattle.fliplog.specs.Meant.{meant}
+use Rattle.fliplog.specs.InnerMeant.{meant}
 use Rattle.fliplog.specs.Layout.{edge-list, width, numbers, flip-log}
 use Rattle.fliplog.proofs.Logging.{flip-log-sound, edge-there}
 use Rattle.flip.specs.declared.Tried.the-variants.{Logs, Refused}

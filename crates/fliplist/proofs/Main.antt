@@ -19,7 +19,7 @@ use Rattle.surface.proofs.Flat.{rows-flat}
 use Rattle.flips.specs.Flip.{Flip, Flips}
 use Rattle.flips.specs.Kept.{SkinKept}
 use Rattle.flips.proofs.Keeping.{kept-none, kept-on, flip-keeps}
-use Rattle.flips.proofs.Flips.{flip-one, gone-joined, gone-flips, joined-flips}
+use Rattle.flips.proofs.Flips.{flip-one, missing-blocked, missing-flips, blocked-flips}
 use Rattle.refusal.specs.declared.Refusal.{Refusal}
 use Rattle.refusal.specs.declared.Verdict.the-variants.{Passes}
 use Rattle.refusal.specs.First.{First}
@@ -35,7 +35,7 @@ use Rattle.flipped.proofs.Telling.{flipped-apart, did}
 use Rattle.fliplog.specs.Layout.{edge-list, width, flip-log}
 use Rattle.fliplog.proofs.Logging.{flip-log-sound}
 use Rattle.flip.specs.Refused.{missing, blocked}
-use Rattle.fliplist.specs.Outcome.{FlipFits, flip-room, flip-refusals, Reached, FlipsOn, FlipStops, Lent, flipping, FlippedAs}
+use Rattle.fliplist.specs.Outcome.{FlipFits, flip-room, flip-refusals, Reached, FlipsOn, FlipStops, TableAndLog, flipping, FlippedAs}
 use Rattle.fliplist.specs.Left.{FlipsLeft}
 use Rattle.fliplist.proofs.Keeping.{whole-table, kept-flat}
 
@@ -57,13 +57,13 @@ module _ (n : ℕ) where
       λ j. record { table = e .1 j; log = (f .2 ∙ ap (λ k. s .log ++ (k ∷ [])) (e .0) ∙ sym (g .2)) j }
 
   apart : (s s′ : Reached) (i : Arrow) (r : FlipRefusal) → OnStage s → FlipStops s i r → FlipsOn s i s′ → ⊥
-  apart s s′ (a ⇒ b) r z (missing m e) f = gone-flips m (f .1)
-  apart s s′ (a ⇒ b) r z (blocked j e) f = joined-flips z j (f .1)
+  apart s s′ (a ⇒ b) r z (missing m e) f = missing-flips m (f .1)
+  apart s s′ (a ⇒ b) r z (blocked j e) f = blocked-flips z j (f .1)
 
   reason : (s : Reached) (i : Arrow) (r q : FlipRefusal) → FlipStops s i r → FlipStops s i q → r ≡ q
   reason s (a ⇒ b) r q (missing m e) (missing o f) = e ∙ sym f
-  reason s (a ⇒ b) r q (missing m e) (blocked j f) = absurd (gone-joined m j)
-  reason s (a ⇒ b) r q (blocked j e) (missing m f) = absurd (gone-joined m j)
+  reason s (a ⇒ b) r q (missing m e) (blocked j f) = absurd (missing-blocked m j)
+  reason s (a ⇒ b) r q (blocked j e) (missing m f) = absurd (missing-blocked m j)
   reason s (a ⇒ b) r q (blocked j e) (blocked o f) = e ∙ sym f
 
 -- an edge of a stage is flipped to one table with one record, or is refused by one number
@@ -84,13 +84,13 @@ module _ {n : ℕ} {t edges l : List ℕ} where
   pub flipped-one : {a b : Flipped} {t₁ t₂ l₁ l₂ : List ℕ} → FlippedAs n t edges l a t₁ l₁ → FlippedAs n t edges l b t₂ l₂ → (a ≡ b) × (t₁ ≡ t₂) × (l₁ ≡ l₂)
   flipped-one v w =
       let e = outcome-one (within (OnStage n) (flipping n t edges l)) (flipping-plain n t edges l) (on-stages v) (on-stages w) in
-      (e .0, ap (λ (b : Lent). b .table) (e .1), ap (λ (b : Lent). b .log) (e .1))
+      (e .0, ap (λ (b : TableAndLog). b .table) (e .1), ap (λ (b : TableAndLog). b .log) (e .1))
 
   -- what is refused before any flip is unchanged
   pub refused-same : {r : Refusal} {t′ l′ : List ℕ} → FlippedAs n t edges l (Refused r) t′ l′ → (t′ ≡ t) × (l′ ≡ l)
   refused-same w =
       let e = following.refused-same (flipping n t edges l) flipped-apart (w .outcome) in
-      (ap (λ (b : Lent). b .table) e, ap (λ (b : Lent). b .log) e)
+      (ap (λ (b : TableAndLog). b .table) e, ap (λ (b : TableAndLog). b .log) e)
 
 -- a stage within its counts and with room passes
 pub flip-passes : (n : ℕ) (t edges l : List ℕ) → FlipFits n t edges → flip-room edges ≤ length l → Stage n (rows t) → First (flip-refusals n t edges l) Passes
@@ -134,10 +134,10 @@ module _ {n : ℕ} {t edges l : List ℕ} {a : Flipped} {t′ l′ : List ℕ} (
   s = led .1
 
   is-table : t′ ≡ flat (s .table)
-  is-table = ap (λ (b : Lent). b .table) (led .3)
+  is-table = ap (λ (b : TableAndLog). b .table) (led .3)
 
   is-log : l′ ≡ in-front flip-log (s .log) l
-  is-log = ap (λ (b : Lent). b .log) (led .3)
+  is-log = ap (λ (b : TableAndLog). b .log) (led .3)
 
   state : record { table = rows t′; log = s .log } ≡ s
   state = λ j. record { table = (ap rows is-table ∙ rows-flat (s .table)) j; log = s .log }

@@ -1,4 +1,4 @@
--- What the flips of a list leave: in table and log those done and no others, and a skin as it was before.
+-- What the flips of a list leave: in table and log those done and no others, and a stage with the same corners and Euler number.
 use mathlib.Core.Path.{_≡_}
 use mathlib.Core.List.{List, []}
 use Prim.Native.Nat.{ℕ, _*_, _≤_}

@@ -31,7 +31,7 @@ pub record FlipFits (n : ℕ) (t edges : List ℕ) : Type 0 where
 abbrev pub flip-room : List ℕ → ℕ
 flip-room edges = width * count edge-list edges
 
--- 2, 3, then 5 to 11 of the table, a stage's
+-- 2, 3, then 5 to 8, 10 and 11 of the table, a stage's
 unfoldable pub flip-refusals : ℕ → List ℕ → List ℕ → List ℕ → Refusals
 flip-refusals n t edges log =
     (CountsOutside when (¬ FlipFits n t edges))
@@ -52,12 +52,12 @@ abbrev pub FlipStops : Reached → Arrow → FlipRefusal → Type 0
 FlipStops s (a ⇒ b) r = FlipRefused (s .table) a b r
 
 -- what is lent to be written
-pub record Lent : Type 0 where
+pub record TableAndLog : Type 0 where
   pub table : List ℕ
   pub log : List ℕ
 
 -- flipping a list of edges of the table t over n corners, with the room l for the log
-abbrev pub flipping : ℕ → List ℕ → List ℕ → List ℕ → Call Reached Arrow FlipRefusal Refusal Flipped Lent
+abbrev pub flipping : ℕ → List ℕ → List ℕ → List ℕ → Call Reached Arrow FlipRefusal Refusal Flipped TableAndLog
 flipping n t edges l = record {
   -- the first that holds; where none does, the table is a stage
   Given = λ e. First (flip-refusals n t edges l) (verdict.Refused e);

@@ -49,7 +49,7 @@ fn list_fits(table: &[u32], corners: usize, edges: &[u32]) -> bool
     true
 }
 
-// The first of the refusals 2 to 11 that holds.
+// The first of the refusals 2, 3, 5 to 8, 10 and 11 that holds.
 fn judge(table: &[u32], corners: usize, edges: &[u32], log: &[u32]) -> Verdict
     ensures { λ v. ⌜ JudgedFlips corners (now (table .entry)) (now (edges .entry)) (now (log .entry)) v ⌝ }
 {

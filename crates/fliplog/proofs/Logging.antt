@@ -12,7 +12,7 @@ use Rattle.record.specs.Layout.{three}
 use Rattle.record.specs.declared.Leaving.{Leaving}
 use Rattle.laid.proofs.Laws.{Sound}
 use Rattle.fliplog.specs.Layout.{edge-list, numbers, flip-in, flip-log}
-use Rattle.fliplog.specs.Meant.{meant}
+use Rattle.fliplog.specs.InnerMeant.{meant}
 use Rattle.fliplog.specs.Inner.{ReadRow}
 
 pub flip-log-sound : Sound flip-log

@@ -1,3 +1,3 @@
 pub mod Layout
-pub mod Meant
+pub mod InnerMeant
 pub mod Inner

@@ -7,7 +7,7 @@ ghost use Prim.Native.Nat.{_+_, _≤_};
 ghost use lib.ListN.{length, drop};
 ghost use lib.Seq.{sets};
 ghost use Rattle.fliplog.specs.Layout.{width, numbers, flip-in};
-ghost use Rattle.fliplog.specs.Meant.{meant};
+ghost use Rattle.fliplog.specs.InnerMeant.{meant};
 ghost use Rattle.fliplog.specs.Inner.{ReadRow};
 
 // What a flip logs: the row (a, b, c) and the row (b, a, d), as they stood.

@@ -11,7 +11,7 @@ use Rattle.refusal.specs.declared.Refusal.{Refusal}
 use Rattle.refusal.specs.Told.{Told, done, refused}
 use Rattle.refusal.proofs.Outcome.{refused-done}
 use Rattle.flipped.specs.declared.FlipRefusal.{FlipRefusal}
-use Rattle.flipped.specs.declared.FlipRefusal.the-variants.{EdgeMissing, EdgeBlocked, FlipFails}
+use Rattle.flipped.specs.declared.FlipRefusal.the-variants.{EdgeMissing, EdgeBlocked, UndoFails}
 use Rattle.flipped.specs.declared.Flipped.{Flipped}
 use Rattle.flipped.specs.declared.Flipped.the-variants.{Done, Stopped, Refused}
 use Rattle.flipped.specs.Number.{number}
@@ -31,14 +31,14 @@ flipped-apart = record {
 
 -- the refusals in the order of their numbers, from 30 on
 in-order : List FlipRefusal
-in-order = EdgeMissing ∷ EdgeBlocked ∷ FlipFails ∷ []
+in-order = EdgeMissing ∷ EdgeBlocked ∷ UndoFails ∷ []
 
 -- a number is above 0 and tells its refusal
 numbered : (r : FlipRefusal) → (0 < number r) × (getD in-order (number r - 30) EdgeMissing ≡ r)
 unfolding in-order
 numbered EdgeMissing = (omega arith, refl)
 numbered EdgeBlocked = (omega arith, refl)
-numbered FlipFails = (omega arith, refl)
+numbered UndoFails = (omega arith, refl)
 
 number-one : (r q : FlipRefusal) → number r ≡ number q → r ≡ q
 number-one r q e = sym (numbered r .1) ∙ ap (λ (n : ℕ). getD in-order (n - 30) EdgeMissing) e ∙ numbered q .1

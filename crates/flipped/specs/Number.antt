@@ -1,7 +1,7 @@
 -- 02's number for each refusal of an edge or a record.
 use Prim.Native.Nat.{ℕ}
 use Rattle.flipped.specs.declared.FlipRefusal.{FlipRefusal}
-use Rattle.flipped.specs.declared.FlipRefusal.the-variants.{EdgeMissing, EdgeBlocked, FlipFails}
+use Rattle.flipped.specs.declared.FlipRefusal.the-variants.{EdgeMissing, EdgeBlocked, UndoFails}
 
 abbrev pub number : FlipRefusal → ℕ
 -- a listed edge that is missing
@@ -9,4 +9,4 @@ number EdgeMissing = 30
 -- a listed edge whose opposite corners are neighbours already
 number EdgeBlocked = 31
 -- a flip's record that is not undone
-number FlipFails = 32
+number UndoFails = 32

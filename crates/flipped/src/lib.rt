@@ -7,7 +7,7 @@ ghost use Rattle.flipped.specs.Number.{number};
 pub enum FlipRefusal {
     EdgeMissing,
     EdgeBlocked,
-    FlipFails,
+    UndoFails,
 }
 
 // All are done, those before one that is refused, or none, by the refusal of table, list, log or room.
@@ -24,6 +24,6 @@ pub fn number_of(r: FlipRefusal) -> u32
     match r {
         FlipRefusal::EdgeMissing => 30,
         FlipRefusal::EdgeBlocked => 31,
-        FlipRefusal::FlipFails => 32,
+        FlipRefusal::UndoFails => 32,
     }
 }

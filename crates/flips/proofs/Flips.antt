@@ -17,7 +17,7 @@ use Rattle.surface.proofs.Linked.{not-same}
 use Rattle.surface.proofs.Counted.{one-count, two-rows, difference-same}
 use Rattle.growth.proofs.Fork.{edge?}
 use Rattle.growth.proofs.Regrow.{Third, third-0, third-1, third-2, third}
-use Rattle.flips.specs.Flip.{Stands, Flip, Flips, EdgeGone, Joined}
+use Rattle.flips.specs.Flip.{Stands, Flip, Flips, NoEdge, Blocked}
 use Rattle.flips.specs.Undo.{put-rows, Undone}
 use Rattle.flips.specs.InnerUndoable.{Undoable}
 use Rattle.flips.proofs.Places.{stands-in, in-stands, stands-one, stands-place, set-new, set-other, set-back-two, NewOrOld, Swapped, set-two}
@@ -172,10 +172,10 @@ flip-one {n} {T} {a} {b} {k} {k₂} {T₁} {T₂} s f g = (λ i. record { place-
     left = rw (sym p₁, sym p₂, sym c, sym d) (f .leaves)
 
 -- the edge is missing, or its opposite corners are joined already, or the flip is made
-pub flip-outcome : {n : ℕ} {T : List Row} → Stage n T → (a b : ℕ) → EdgeGone T a b ⊎ (Joined T a b ⊎ ((k : Flip) × (T′ : List Row) × Flips T a b k T′))
+pub flip-outcome : {n : ℕ} {T : List Row} → Stage n T → (a b : ℕ) → NoEdge T a b ⊎ (Blocked T a b ⊎ ((k : Flip) × (T′ : List Row) × Flips T a b k T′))
 flip-outcome {n} {T} s a b = go (edge? T a b)
   where
-    next : {c d : ℕ} → Follows T a b c → Follows T b a d → Dec (Edge T c d) → Joined T a b ⊎ ((k : Flip) × (T′ : List Row) × Flips T a b k T′)
+    next : {c d : ℕ} → Follows T a b c → Follows T b a d → Dec (Edge T c d) → Blocked T a b ⊎ ((k : Flip) × (T′ : List Row) × Flips T a b k T′)
     next {c} {d} f g (yes e) = inl (record { c = c; d = d; first = f; second = g; edge = e })
     next {c} {d} f g (no m) =
         let i = in-stands (f .here) in
@@ -195,29 +195,29 @@ flip-outcome {n} {T} s a b = go (edge? T a b)
           },
         )
 
-    go : Dec (Edge T a b) → EdgeGone T a b ⊎ (Joined T a b ⊎ ((k : Flip) × (T′ : List Row) × Flips T a b k T′))
+    go : Dec (Edge T a b) → NoEdge T a b ⊎ (Blocked T a b ⊎ ((k : Flip) × (T′ : List Row) × Flips T a b k T′))
     go (no m) = inl m
     go (yes e) = let g = s .both e in inr (next (e .1) (g .1) (edge? T (e .0) (g .0)))
 
 -- and no two of these
-pub gone-joined : {T : List Row} {a b : ℕ} → EdgeGone T a b → Joined T a b → ⊥
-gone-joined m j = m (j .c, j .first)
+pub missing-blocked : {T : List Row} {a b : ℕ} → NoEdge T a b → Blocked T a b → ⊥
+missing-blocked m j = m (j .c, j .first)
 
-pub gone-flips : {T : List Row} {a b : ℕ} {k : Flip} {T′ : List Row} → EdgeGone T a b → Flips T a b k T′ → ⊥
-gone-flips m f = m (f .c, abc f)
+pub missing-flips : {T : List Row} {a b : ℕ} {k : Flip} {T′ : List Row} → NoEdge T a b → Flips T a b k T′ → ⊥
+missing-flips m f = m (f .c, abc f)
 
-pub joined-flips : {n : ℕ} {T : List Row} {a b : ℕ} {k : Flip} {T′ : List Row} → Stage n T → Joined T a b → Flips T a b k T′ → ⊥
-joined-flips {n} {T} s j f = f .no-edge (re-edge (follows-same n T s (j .first) (abc f)) (follows-same n T s (j .second) (bad f)) (j .edge))
+pub blocked-flips : {n : ℕ} {T : List Row} {a b : ℕ} {k : Flip} {T′ : List Row} → Stage n T → Blocked T a b → Flips T a b k T′ → ⊥
+blocked-flips {n} {T} s j f = f .no-edge (re-edge (follows-same n T s (j .first) (abc f)) (follows-same n T s (j .second) (bad f)) (j .edge))
 
 -- no corner has an edge to itself, and one that is not used has none
-pub twisted : {n : ℕ} {T : List Row} {a b : ℕ} → a ≡ b → Stage n T → EdgeGone T a b
+pub twisted : {n : ℕ} {T : List Row} {a b : ℕ} → a ≡ b → Stage n T → NoEdge T a b
 twisted i s e = s .apart (e .1) i
 
-pub unused-gone : {T : List Row} {a b : ℕ} → ¬ Used T a → EdgeGone T a b
-unused-gone {b = b} m e = m (b, e)
+pub unused-missing : {T : List Row} {a b : ℕ} → ¬ Used T a → NoEdge T a b
+unused-missing {b = b} m e = m (b, e)
 
-pub unused-second-gone : {T : List Row} {a b : ℕ} → ¬ Used T b → EdgeGone T a b
-unused-second-gone {a = a} m e = m (e .0, (a, turn (e .1)))
+pub unused-second-missing : {T : List Row} {a b : ℕ} → ¬ Used T b → NoEdge T a b
+unused-second-missing {a = a} m e = m (e .0, (a, turn (e .1)))
 
 swap-old : {T W : List Row} {o₁ o₂ z₁ z₂ : Row} → Swapped T o₁ o₂ z₁ z₂ W → Swapped T o₂ o₁ z₁ z₂ W
 swap-old {T} {W} {o₁} {o₂} {z₁} {z₂} k = record {

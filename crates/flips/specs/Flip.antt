@@ -30,12 +30,12 @@ pub record Flips (T : List Row) (a b : ℕ) (k : Flip) (T′ : List Row) : Type 
   pub no-edge : ¬ Edge T c d
   pub leaves : T′ ≡ set (set T (k .place-2) (row c d b)) (k .place-1) (row c a d)
 
--- 30: the edge is missing; a number that is no used corner makes it so, and a = b
-abbrev pub EdgeGone : List Row → ℕ → ℕ → Type 0
-EdgeGone T a b = ¬ Edge T a b
+-- 30: the edge is missing; a number that is no used corner makes it so, and in a stage a = b does
+abbrev pub NoEdge : List Row → ℕ → ℕ → Type 0
+NoEdge T a b = ¬ Edge T a b
 
--- 31: c and d are neighbours already
-pub record Joined (T : List Row) (a b : ℕ) : Type 0 where
+-- 31: the flip is blocked, c and d are neighbours already
+pub record Blocked (T : List Row) (a b : ℕ) : Type 0 where
   pub c : ℕ
   pub d : ℕ
   pub first : Follows T a b c

@@ -1,4 +1,4 @@
--- What a flip keeps, and its undoing.
+-- What a flip keeps, and so does undoing one.
 use mathlib.Core.Path.{_≡_}
 use mathlib.Core.Logic.{_↔_}
 use mathlib.Core.List.{List}

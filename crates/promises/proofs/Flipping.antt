@@ -31,9 +31,9 @@ use Rattle.slots.proofs.Slots.{whole-rows}
 use Rattle.thin.specs.Answer as thinnings
 use Rattle.thin.proofs.Main.{accepted}
 use Rattle.volume.proofs.Main.{volume-near, change-near}
-use Rattle.flips.specs.Flip.{EdgeGone}
+use Rattle.flips.specs.Flip.{NoEdge}
 use Rattle.flips.specs.Kept.{SkinKept}
-use Rattle.flips.proofs.Flips.{twisted, unused-gone, unused-second-gone}
+use Rattle.flips.proofs.Flips.{twisted, unused-missing, unused-second-missing}
 use Rattle.flips.proofs.Keeping.{kept-none, kept-on}
 use Rattle.laid.specs.Laid.{count, items, WholeItems, in-front}
 use Rattle.laid.proofs.Laws.{first-length}
@@ -95,13 +95,13 @@ undo-accepted {n} {t} {log} threes s whole w = elim (outcome-did (undoing n t lo
 
 -- ---- an edge that is none
 
-names-gone : {n : ℕ} {T T′ : List Row} {x y : ℕ} → SkinKept n T T′ → NoEdgeNamed T (x ⇒ y) → EdgeGone T′ x y
-names-gone k (first-unused m) = unused-gone (λ u. m (k .used .1 u))
-names-gone k (second-unused m) = unused-second-gone (λ u. m (k .used .1 u))
-names-gone k (one-corner e) = twisted e (k .after)
+names-missing : {n : ℕ} {T T′ : List Row} {x y : ℕ} → SkinKept n T T′ → NoEdgeNamed T (x ⇒ y) → NoEdge T′ x y
+names-missing k (first-unused m) = unused-missing (λ u. m (k .used .1 u))
+names-missing k (second-unused m) = unused-second-missing (λ u. m (k .used .1 u))
+names-missing k (one-corner e) = twisted e (k .after)
 
 names-stop : {n : ℕ} {T : List Row} (s : Reached) (e : Arrow) → SkinKept n T (s .table) → NoEdgeNamed T e → FlipStops s e EdgeMissing
-names-stop s (x ⇒ y) k m = refusals.missing (names-gone k m) refl
+names-stop s (x ⇒ y) k m = refusals.missing (names-missing k m) refl
 
 -- where as many flips as stand before it are told, the list stops there
 module _ {n : ℕ} {t edges l : List ℕ} {a : Flipped} {t′ l′ : List ℕ} (w : FlippedAs n t edges l a t′ l′) {k : ℕ} (d : FlipsTold k (told a))

@@ -75,7 +75,7 @@ use Rattle.job.proofs.Judging as judging
 use Rattle.job.proofs.Numbers as job-numbers
 use Rattle.laid.specs.Laid.{in-front}
 use Rattle.flipped.specs.declared.FlipRefusal.{FlipRefusal}
-use Rattle.flipped.specs.declared.FlipRefusal.the-variants.{EdgeMissing, EdgeBlocked, FlipFails}
+use Rattle.flipped.specs.declared.FlipRefusal.the-variants.{EdgeMissing, EdgeBlocked, UndoFails}
 use Rattle.flipped.specs.declared.Flipped.{Flipped}
 use Rattle.flipped.specs.declared.Flipped.the-variants as flipped
 use Rattle.flipped.specs.Number.{number}
@@ -83,7 +83,7 @@ use Rattle.flipped.specs.Answer as flips
 use Rattle.flipped.proofs.Telling.{flipped-apart, stopping-other, stops as flip-stops}
 use Rattle.fliplog.specs.Layout.{flip-log}
 use Rattle.flip.specs.Refused.{FlipRefused, missing, blocked}
-use Rattle.fliplist.specs.Outcome.{flip-refusals, Reached, Lent, flipping, FlippedAs}
+use Rattle.fliplist.specs.Outcome.{flip-refusals, Reached, TableAndLog, flipping, FlippedAs}
 use Rattle.fliplist.proofs.Main as lists
 use Rattle.undoflips.specs.Outcome.{undo-refusals, undoing, UndoneAs}
 use Rattle.undoflips.proofs.Main as undoes
@@ -143,7 +143,7 @@ flip-by : (n : ℕ) (t edges l : List ℕ) {r : FlipRefusal} {k : ℕ} {s : Reac
 flip-by n t edges l (all w e) = absurd (flipped-apart .finished-stopped (sym e))
 flip-by n t edges l {s = s} (some done (x ⇒ y) rest q w f e) = refused-by (subst (λ k. FlipRefused (s .table) x y k) (stopped-at e) f)
 
-undo-by : (n : ℕ) (t log : List ℕ) {r : FlipRefusal} {k : ℕ} {T : List Row} → Followed (undoing n t log) (flipped.Stopped r k) T → r ≡ FlipFails
+undo-by : (n : ℕ) (t log : List ℕ) {r : FlipRefusal} {k : ℕ} {T : List Row} → Followed (undoing n t log) (flipped.Stopped r k) T → r ≡ UndoFails
 undo-by n t log (all w e) = absurd (flipped-apart .finished-stopped (sym e))
 undo-by n t log (some done i rest q w f e) = sym (stopped-at e) ∙ f .1
 
@@ -151,7 +151,7 @@ flip-fails : {n : ℕ} {t edges l : List ℕ} {a : Flipped} {t′ l′ : List �
     FailsOf (number r) (flip-refusals n t edges l) (λ k s. Followed (flipping n t edges l) (flipped.Stopped r k) s) (λ s. (t′ ≡ flat (s .table)) × (l′ ≡ in-front flip-log (s .log) l)) (flips.told a)
 flip-fails {n} {t} {edges} {l} {a} w r =
     let f = stops-exactly (flipping n t edges l) (λ e g. g) (λ h. h .0) flipped-apart (w .outcome) (λ a₂ b x. lists.flipped-one w (record { outcome = x }) .0) flips.told r (λ k. refl) (flip-stops a r) in
-    record { when = f .when; only = λ k p. (let z = f .only k p in (z .0, z .1, z .2, (ap (λ (b : Lent). b .table) (z .3), ap (λ (b : Lent). b .log) (z .3)))) }
+    record { when = f .when; only = λ k p. (let z = f .only k p in (z .0, z .1, z .2, (ap (λ (b : TableAndLog). b .table) (z .3), ap (λ (b : TableAndLog). b .log) (z .3)))) }
 
 undo-fails : {n : ℕ} {t log : List ℕ} {a : Flipped} {t′ : List ℕ} → UndoneAs n t log a t′ → (r : FlipRefusal) →
     FailsOf (number r) (undo-refusals n t log) (λ k T. Followed (undoing n t log) (flipped.Stopped r k) T) (λ T. t′ ≡ flat T) (flips.told a)
@@ -298,7 +298,7 @@ demand-one = record {
   flip-only = λ {n} {t} {edges} {l} w r k p. flip-by n t edges l (flip-fails w r .only k p .2);
   undo-flips = λ {n} {t} {log} {a} w. follows-refuse flips.flipped flips.told (λ e. refl) (λ k. refl) stopping-other a (outcome-did (undoing n t log) (w .outcome));
   undo-same = λ w r p. undo-same w r p;
-  undo-fails = λ w. undo-fails w FlipFails;
+  undo-fails = λ w. undo-fails w UndoFails;
   undo-only = λ {n} {t} {log} w r k p. undo-by n t log (undo-fails w r .only k p .2);
   open-log = λ w. open-refuses w;
   next-record = λ w. next-refuses w;

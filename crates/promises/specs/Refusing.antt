@@ -64,7 +64,7 @@ use Rattle.job.specs.Answer as jobs
 use Rattle.job.specs.Outcome.{job-refusals, JobAnswered}
 use Rattle.laid.specs.Laid.{in-front}
 use Rattle.flipped.specs.declared.FlipRefusal.{FlipRefusal}
-use Rattle.flipped.specs.declared.FlipRefusal.the-variants.{EdgeMissing, EdgeBlocked, FlipFails}
+use Rattle.flipped.specs.declared.FlipRefusal.the-variants.{EdgeMissing, EdgeBlocked, UndoFails}
 use Rattle.flipped.specs.declared.Flipped.{Flipped}
 use Rattle.flipped.specs.declared.Flipped.the-variants as flipped
 use Rattle.flipped.specs.Number.{number}
@@ -148,8 +148,8 @@ pub record DemandOne : Type 0 where
   pub undo-flips : {n : ℕ} {t log : List ℕ} {a : Flipped} {t′ : List ℕ} → UndoneAs n t log a t′ → Refuses (undo-refusals n t log) (flips.told a)
   pub undo-same : {n : ℕ} {t log : List ℕ} {a : Flipped} {t′ : List ℕ} → UndoneAs n t log a t′ → (r : Refusal) → flips.told a ≡ refused r → t′ ≡ t
   pub undo-fails : {n : ℕ} {t log : List ℕ} {a : Flipped} {t′ : List ℕ} → UndoneAs n t log a t′ →
-      FailsOf 32 (undo-refusals n t log) (λ k T. Followed (undoing n t log) (flipped.Stopped FlipFails k) T) (λ T. t′ ≡ flat T) (flips.told a)
-  pub undo-only : {n : ℕ} {t log : List ℕ} {a : Flipped} {t′ : List ℕ} → UndoneAs n t log a t′ → (r : FlipRefusal) (k : ℕ) → flips.told a ≡ flips.stopped r k → r ≡ FlipFails
+      FailsOf 32 (undo-refusals n t log) (λ k T. Followed (undoing n t log) (flipped.Stopped UndoFails k) T) (λ T. t′ ≡ flat T) (flips.told a)
+  pub undo-only : {n : ℕ} {t log : List ℕ} {a : Flipped} {t′ : List ℕ} → UndoneAs n t log a t′ → (r : FlipRefusal) (k : ℕ) → flips.told a ≡ flips.stopped r k → r ≡ UndoFails
   pub open-log : {b : List ℕ} {a : Opened} → OpenedLog b a → Refuses (open-refusals b) (told-opened a)
   -- 12 exactly where a byte follows the place and no record's line stands there; by a reader too, at its own place
   pub next-record : {b : List ℕ} {at : ℕ} {a : Next} → NextRecord b at a → (at < length b → ((ns : List ℕ) → ¬ LineStands b at ns) → told-next a ≡ refused-as 12)

@@ -18,7 +18,7 @@ use Rattle.neighbours.specs.Around.{Charted}
 use Rattle.laid.specs.Laid.{count, items}
 use Rattle.laid.proofs.Laws.{first-length, items-back}
 use Rattle.chart.specs.Chart.{InChains}
-use Rattle.flipped.specs.declared.FlipRefusal.the-variants.{FlipFails}
+use Rattle.flipped.specs.declared.FlipRefusal.the-variants.{UndoFails}
 use Rattle.flipped.specs.declared.Flipped.the-variants.{Done, Stopped}
 use Rattle.fliplog.specs.Layout.{width, flip-in, flip-log}
 use Rattle.unflip.specs.Inner.{Undoes}
@@ -65,12 +65,12 @@ module _ (t log : List ℕ) (g : AnyStage t) where
       more-items : done < length (reverse (items flip-log log))
       more-items = omega (arith, many-items, more)
 
-      pub next-fails : (t″ : List ℕ) → Undoes t′ next false t″ → UndoneOn t log (Stopped FlipFails done) t″
+      pub next-fails : (t″ : List ℕ) → Undoes t′ next false t″ → UndoneOn t log (Stopped UndoFails done) t″
       unfolding Undoes
       next-fails t″ f = record {
         followed = λ n s. record {
           state = rows t′;
-          reached = upto-fails (undoing n t log) (w .upto n s) more-items next (items-back flip-log log done next more) {r = FlipFails} (not-undone (f .0), refl);
+          reached = upto-fails (undoing n t log) (w .upto n s) more-items next (items-back flip-log log done next more) {r = UndoFails} (not-undone (f .0), refl);
           left = f .1 ∙ chained-flat (w .chains);
         };
       }

@@ -1,4 +1,4 @@
--- What undone records leave: the table as reached, a skin as it was before.
+-- What undoing the records of a flip log leaves: a stage with the same corners and Euler number.
 use mathlib.Core.Path.{_≡_}
 use mathlib.Core.List.{List, reverse}
 use Prim.Native.Nat.{ℕ, _≤_}

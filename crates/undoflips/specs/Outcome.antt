@@ -16,7 +16,7 @@ use Rattle.faults.specs.Counts.{CountsFit}
 use Rattle.faults.specs.Order.{row-refusals}
 use Rattle.laid.specs.Laid.{items, WholeItems}
 use Rattle.flipped.specs.declared.FlipRefusal.{FlipRefusal}
-use Rattle.flipped.specs.declared.FlipRefusal.the-variants.{FlipFails}
+use Rattle.flipped.specs.declared.FlipRefusal.the-variants.{UndoFails}
 use Rattle.flipped.specs.declared.Flipped.{Flipped}
 use Rattle.flipped.specs.Answer.{flipped}
 use Rattle.fliplog.specs.Layout.{flip-log}
@@ -26,13 +26,13 @@ pub record UndoFits (n : ℕ) (t log : List ℕ) : Type 0 where
   pub counts : CountsFit n t
   pub whole : WholeItems flip-log log
 
--- 2, then 5 to 11 of the table, a stage's
+-- 2, then 5 to 8, 10 and 11 of the table, a stage's
 unfoldable pub undo-refusals : ℕ → List ℕ → List ℕ → Refusals
 undo-refusals n t log = (CountsOutside when (¬ UndoFits n t log)) ∷ row-refusals false n (rows t)
 
 -- 32: the record is undone to no table
 abbrev pub NotUndone : ℕ → List Row → Flip → FlipRefusal → Type 0
-NotUndone n T k r = ((T₀ : List Row) → ¬ Undone n T k T₀) × (r ≡ FlipFails)
+NotUndone n T k r = ((T₀ : List Row) → ¬ Undone n T k T₀) × (r ≡ UndoFails)
 
 -- undoing a flip log on the table t over n corners
 abbrev pub undoing : ℕ → List ℕ → List ℕ → Call (List Row) Flip FlipRefusal Refusal Flipped (List ℕ)

@@ -20,7 +20,7 @@ fn undo_log(table: &mut [u32], log: &[u32]) -> Flipped
     while done < all {
         let r = fliplog::read_flip(log, fliplog::WIDTH * (all - 1 - done));
         if !unflip::undo(table, &mut last, &mut prev, r) {
-            return Flipped::Stopped(FlipRefusal::FlipFails, done);
+            return Flipped::Stopped(FlipRefusal::UndoFails, done);
         }
         done += 1;
     }
@@ -40,7 +40,7 @@ fn undo_fits(table: &[u32], corners: usize, log: &[u32]) -> bool
     true
 }
 
-// The first of the refusals 2 to 11 that holds.
+// The first of the refusals 2, 5 to 8, 10 and 11 that holds.
 fn judge(table: &[u32], corners: usize, log: &[u32]) -> Verdict
     ensures { λ v. ⌜ JudgedUndoing corners (now (table .entry)) (now (log .entry)) v ⌝ }
 {

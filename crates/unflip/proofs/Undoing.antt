@@ -20,7 +20,7 @@ use Rattle.ends.specs.declared.Ends.the-variants.{At, Nothing}
 use Rattle.ends.specs.Rows.{row-of, PairIs}
 use Rattle.chart.specs.Chart.{Numbered}
 use Rattle.fliplog.specs.declared.FlipRecord.{FlipRecord}
-use Rattle.fliplog.specs.Meant.{meant}
+use Rattle.fliplog.specs.InnerMeant.{meant}
 use Rattle.flip.specs.Inner.{RowAt}
 use Rattle.unflip.specs.Inner.{Wrote, Undoes}
 

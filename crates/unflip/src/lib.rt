@@ -11,7 +11,7 @@ ghost use Rattle.refusal.specs.InnerTells.{Tells};
 ghost use Rattle.flips.specs.InnerUndoable.{Undoable};
 ghost use Rattle.neighbours.specs.Around.{Charted};
 ghost use Rattle.chart.specs.Chart.{InChains};
-ghost use Rattle.fliplog.specs.Meant.{meant};
+ghost use Rattle.fliplog.specs.InnerMeant.{meant};
 ghost use Rattle.unflip.specs.Inner.{Wrote, Undoes};
 
 // Whether the flip that wrote (c, a, d) and (c, d, b) had the old rows of the record.
