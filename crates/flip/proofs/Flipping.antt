@@ -25,7 +25,7 @@ use Rattle.fliplog.specs.declared.FlipRecord.{FlipRecord}
 use Rattle.fliplog.specs.InnerMeant.{meant}
 use Rattle.flip.specs.declared.Tried.the-variants.{Logs, Refused}
 use Rattle.flip.specs.Refused.{missing, blocked}
-use Rattle.flip.specs.Inner.{third-at, RowAt, crossed-rows, Tries}
+use Rattle.flip.specs.Inner.{third-at, RowAt, new-rows, Tries}
 use Rattle.flip.proofs.Rowwise.{slots-inside}
 
 -- the chains of a stage, with one for every number that a corner may have
@@ -62,9 +62,9 @@ module _ (t : List ℕ) (w : Whole t) {a b x : ℕ} (f : Found t a b x) (some : 
   turned-third r k = rw (stands-row t (k .stands) .1) (rw (f .from some, f .to some) at (turned-at t (x - 1)))
 
 -- what a flip writes fits where its record does
-pub crossed-fits : (m n : ℕ) (r old : FlipRecord) (A B C D : Corner) → r ≡ crossed-rows old A B C D → old .first .place .0 < m → old .second .place .0 < m → A .0 < n → B .0 < n → C .0 < n → D .0 < n →
+pub new-fits : (m n : ℕ) (r old : FlipRecord) (A B C D : Corner) → r ≡ new-rows old A B C D → old .first .place .0 < m → old .second .place .0 < m → A .0 < n → B .0 < n → C .0 < n → D .0 < n →
     ((r .first .place .0 < m) × Numbered (r .first) n) × ((r .second .place .0 < m) × Numbered (r .second) n)
-crossed-fits m n r old A B C D e p q ha hb hc hd = rw e ((p, record { a = hc; b = ha; c = hd }), (q, record { a = hc; b = hd; c = hb }))
+new-fits m n r old A B C D e p q ha hb hc hd = rw e ((p, record { a = hc; b = ha; c = hd }), (q, record { a = hc; b = hd; c = hb }))
 
 -- what was found, by equal corners
 pub found-as : {t : List ℕ} {a b a′ b′ x : ℕ} → a ≡ a′ → b ≡ b′ → Found t a b x → Found t a′ b′ x
@@ -98,7 +98,7 @@ module _ {t last prev : List ℕ} (c : Charted t last prev) {a b x : ℕ} (f : F
       module _ (first second : Leaving) (r₁ : RowAt t ((x - 1) / 3) first) (r₂ : RowAt t ((y - 1) / 3) second) where
         -- done
         pub flip-logs : (t′ : List ℕ) {A B C D : Corner} → A .0 ≡ a → B .0 ≡ b → C .0 ≡ third-at t (x - 1) → D .0 ≡ third-at t (y - 1) → z ≡ 0 →
-            rows t′ ≡ put-rows (meant (crossed-rows (record { first = first; second = second }) A B C D)) (rows t) → Tries t a b (Logs (record { first = first; second = second })) t′
+            rows t′ ≡ put-rows (meant (new-rows (record { first = first; second = second }) A B C D)) (rows t) → Tries t a b (Logs (record { first = first; second = second })) t′
         unfolding Tries
         flip-logs t′ ea eb ec ed e left = record {
           c = third-at t (x - 1);

@@ -25,8 +25,8 @@ pub record RowAt (t : List ℕ) (p : ℕ) (r : Leaving) : Type 0 where
   pub stands : Stands (rows t) p (row-of r)
 
 -- the rows that a flip writes at the places of a record: (c, a, d) and (c, d, b)
-abbrev pub crossed-rows : FlipRecord → Corner → Corner → Corner → Corner → FlipRecord
-crossed-rows k a b c d = record { first = record { place = k .first .place; a = c; b = a; c = d }; second = record { place = k .second .place; a = c; b = d; c = b } }
+abbrev pub new-rows : FlipRecord → Corner → Corner → Corner → Corner → FlipRecord
+new-rows k a b c d = record { first = record { place = k .first .place; a = c; b = a; c = d }; second = record { place = k .second .place; a = c; b = d; c = b } }
 
 -- what comes of the flip of a b on the table t, and the table after it
 unfoldable pub Tries : List ℕ → ℕ → ℕ → Tried → List ℕ → Type 0

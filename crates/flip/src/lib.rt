@@ -14,7 +14,7 @@ ghost use Rattle.slots.specs.Slot.{Whole};
 ghost use Rattle.neighbours.specs.Around.{Charted};
 ghost use Rattle.chart.specs.Chart.{InChains, Numbered};
 ghost use Rattle.fliplog.specs.InnerMeant.{meant};
-ghost use Rattle.flip.specs.Inner.{third-at, RowAt, crossed-rows, Tries};
+ghost use Rattle.flip.specs.Inner.{third-at, RowAt, new-rows, Tries};
 
 // What comes of the flip of an edge: its record, or why it is refused.
 pub enum Tried {
@@ -61,26 +61,26 @@ pub fn put_rows(t: &mut [u32], last: &mut [usize], prev: &mut [usize], r: FlipRe
 }
 
 // What a flip writes, in the places of the rows (a, b, c) and (b, a, d).
-fn crossed(old: FlipRecord, a: Corner, b: Corner, c: Corner, d: Corner) -> FlipRecord
-    ensures { λ r. ⌜ r ≡ crossed-rows old a b c d ⌝ }
+fn new_rows(old: FlipRecord, a: Corner, b: Corner, c: Corner, d: Corner) -> FlipRecord
+    ensures { λ r. ⌜ r ≡ new-rows old a b c d ⌝ }
 {
     let p = old.first.place;
     let q = old.second.place;
-    let upper = Leaving {
+    let first = Leaving {
         place: p,
         a: c,
         b: a,
         c: d,
     };
-    let lower = Leaving {
+    let second = Leaving {
         place: q,
         a: c,
         b: d,
         c: b,
     };
     FlipRecord {
-        first: upper,
-        second: lower,
+        first: first,
+        second: second,
     }
 }
 
@@ -107,7 +107,7 @@ pub fn flip(t: &mut [u32], last: &mut [usize], prev: &mut [usize], a: Corner, b:
         first: first,
         second: second,
     };
-    let new = crossed(old, a, b, c, d);
+    let new = new_rows(old, a, b, c, d);
     put_rows(t, last, prev, new);
     Tried::Logs(old)
 }

@@ -9,7 +9,7 @@ ghost use Rattle.fliplist.specs.Outcome.{FlipFits, FlippedAs};
 ghost use Rattle.fliplist.specs.Inner.{FlipReady, FlippedOn, JudgedFlips};
 
 // Numbers an edge of a list.
-pub const EDGE: usize = 2;
+pub const EDGE_WIDTH: usize = 2;
 
 // Flips the edges of a list on a stage's table, from the first on. The chains of its slots are made once for all flips.
 fn flip_edges(table: &mut [u32], edges: &[u32], log: &mut [u32]) -> Flipped
@@ -19,11 +19,11 @@ fn flip_edges(table: &mut [u32], edges: &[u32], log: &mut [u32]) -> Flipped
     let mut last = [0usize; surface::MOST_CORNERS];
     let mut prev = [0usize; slots::MOST_SLOTS];
     slots::chains(table, &mut last, &mut prev);
-    let all = edges.len() / EDGE;
+    let all = edges.len() / EDGE_WIDTH;
     let mut done: usize = 0;
     while done < all {
-        let a = Corner(edges[EDGE * done]);
-        let b = Corner(edges[EDGE * done + 1]);
+        let a = Corner(edges[EDGE_WIDTH * done]);
+        let b = Corner(edges[EDGE_WIDTH * done + 1]);
         let tried = flip::flip(table, &mut last, &mut prev, a, b);
         match tried {
             Tried::Refused(r) => return Flipped::Stopped(r, done),
@@ -43,7 +43,7 @@ fn list_fits(table: &[u32], corners: usize, edges: &[u32]) -> bool
     if !counts::counts_fit(table, corners) {
         return false;
     }
-    if edges.len() % EDGE != 0 {
+    if edges.len() % EDGE_WIDTH != 0 {
         return false;
     }
     true
@@ -56,7 +56,7 @@ fn judge(table: &[u32], corners: usize, edges: &[u32], log: &[u32]) -> Verdict
     if !list_fits(table, corners, edges) {
         return Verdict::Refused(Refusal::CountsOutside);
     }
-    if log.len() / fliplog::WIDTH < edges.len() / EDGE {
+    if log.len() / fliplog::WIDTH < edges.len() / EDGE_WIDTH {
         return Verdict::Refused(Refusal::RoomShort);
     }
     skin::check_stage(table, corners)

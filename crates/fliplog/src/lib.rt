@@ -10,7 +10,7 @@ ghost use Rattle.fliplog.specs.Layout.{width, numbers, flip-in};
 ghost use Rattle.fliplog.specs.InnerMeant.{meant};
 ghost use Rattle.fliplog.specs.Inner.{ReadRow};
 
-// What a flip logs: the row (a, b, c) and the row (b, a, d), as they stood.
+// Two rows with their places: the old ones that a flip logs, (a, b, c) and then (b, a, d), or the new ones that it writes there.
 pub struct FlipRecord {
     pub first: Leaving,
     pub second: Leaving,

@@ -2,3 +2,4 @@ pub mod Leading
 pub mod Following
 pub mod Within
 pub mod Upto
+pub mod Back

@@ -7,7 +7,7 @@ use native.Mathlib.Numerals.{add-one}
 use native.Mathlib.Omega.{arith}
 use lib.ListN.{length, drop, take, getD, length-append, length-drop}
 use lib.Seq.{sets, sets-eq, drop-at, take-at, drop-drop, drop-append-add}
-use Rattle.record.proofs.Places.{reverse-at}
+use Rattle.follow.proofs.Back.{reverse-at}
 use Rattle.laid.specs.Laid.{Layout, laid, first-items, count, items, in-front}
 
 -- an item has so many numbers, and is read from them

@@ -1,7 +1,7 @@
 -- `flip` meets its contract.
 use Prim.Native.Nat.{_<_}
 use mathlib.Core.Path.{refl}
-use Rattle.flip.proofs.Flipping.{stage-chains, edge-missing, reverse-found, edge-blocked, flip-logs, slot-inside, place-inside, found-as, first-small, third-small, crossed-fits}
+use Rattle.flip.proofs.Flipping.{stage-chains, edge-missing, reverse-found, edge-blocked, flip-logs, slot-inside, place-inside, found-as, first-small, third-small, new-fits}
 use native.Mathlib.Omega.{arith}
 use borrow.Author.Needs.{needs}
 use Rattle.flip.proofs.flip.Statement.{statement}
@@ -115,8 +115,8 @@ row-at-requires-2 c κs =
     let slot-of2 = c .before .before .before .before .before .before .before .before .before .before .before .before .slot-of2 in
     (stage-chains (pre .0) (pre .1) .whole, place-inside (args .t .now) (stage-chains (pre .0) (pre .1) .whole) (slot-of2 .ensures) (reverse-found (pre .0) (slot-of .ensures) (omega (arith, if1 .left)) (slot-of2 .ensures)))
 
-crossed-requires : tie.Need-crossed-requires
-crossed-requires c κs = search needs
+new-rows-requires : tie.Need-new-rows-requires
+new-rows-requires c κs = search needs
 
 put-rows-requires : tie.Need-put-rows-requires
 put-rows-requires c κs =
@@ -129,13 +129,13 @@ put-rows-requires c κs =
     let third-of2 = c .before .before .before .before .before .before .before .before .before .before .before .before .before .third-of2 in
     let row-at = c .before .before .before .before .before .before .row-at in
     let row-at2 = c .before .before .before .before .row-at2 in
-    let crossed = c .before .before .before .crossed in
+    let new-rows = c .before .before .before .new-rows in
     let t = args .t .now in
     let k = stage-chains (pre .0) (pre .1) in
     let some : 0 < slot-of .result = omega (arith, if1 .left) in
     let more = reverse-found (pre .0) (slot-of .ensures) some (slot-of2 .ensures) in (
       k,
-      crossed-fits _ _ _ (record { first = row-at .result; second = row-at2 .result }) (args .a) (args .b) (third-of .result) (third-of2 .result) (crossed .ensures)
+      new-fits _ _ _ (record { first = row-at .result; second = row-at2 .result }) (args .a) (args .b) (third-of .result) (third-of2 .result) (new-rows .ensures)
           (rw (row-at .ensures .place) (place-inside t (k .whole) (slot-of .ensures) some))
           (rw (row-at2 .ensures .place) (place-inside t (k .whole) (slot-of2 .ensures) more))
           (first-small t (k .whole) (slot-of .ensures) some (k .under))
@@ -165,10 +165,10 @@ returns-3 c =
     let if2 = c .before .before .before .before .before .before .before .before .before .before .before .before .before .before .before .if2 in
     let row-at = c .before .before .before .before .before .before .before .before .before .before .before .before .before .row-at in
     let row-at2 = c .before .before .before .before .before .before .before .before .before .before .before .row-at2 in
-    let crossed = c .before .before .before .before .before .before .before .before .before .before .crossed in
+    let new-rows = c .before .before .before .before .before .before .before .before .before .before .new-rows in
     let put-rows = c .before .before .before .before .before .before .put-rows in
     let some : 0 < slot-of .result = omega (arith, if1 .left) in
-    (flip-logs (pre .0) (slot-of .ensures) some (slot-of2 .ensures) (found-as (third-of .ensures) (third-of2 .ensures) (slot-of3 .ensures)) (row-at .result) (row-at2 .result) (row-at .ensures) (row-at2 .ensures) _ refl refl (third-of .ensures) (third-of2 .ensures) (if2 .left) (rw (crossed .ensures) at (put-rows .ensures .0)), put-rows .ensures .1)
+    (flip-logs (pre .0) (slot-of .ensures) some (slot-of2 .ensures) (found-as (third-of .ensures) (third-of2 .ensures) (slot-of3 .ensures)) (row-at .result) (row-at2 .result) (row-at .ensures) (row-at2 .ensures) _ refl refl (third-of .ensures) (third-of2 .ensures) (if2 .left) (rw (new-rows .ensures) at (put-rows .ensures .0)), put-rows .ensures .1)
 
 pub flip-spec : {M : Type 1} → statement M
 flip-spec =
@@ -193,7 +193,7 @@ flip-spec =
     row-at-requires
     sub-row-at-2
     row-at-requires-2
-    crossed-requires
+    new-rows-requires
     put-rows-requires
     same-length-7
     same-length-8
