@@ -32,7 +32,7 @@ use Rattle.thin.specs.Answer as thinnings
 use Rattle.thin.proofs.Main.{accepted}
 use Rattle.volume.proofs.Main.{volume-near, change-near}
 use Rattle.flips.specs.Flip.{NoEdge}
-use Rattle.flips.specs.Kept.{SkinKept}
+use Rattle.flips.specs.Kept.{StageKept}
 use Rattle.flips.proofs.Flips.{twisted, unused-missing, unused-second-missing}
 use Rattle.flips.proofs.Keeping.{kept-none, kept-on}
 use Rattle.laid.specs.Laid.{count, items, WholeItems, in-front}
@@ -95,12 +95,12 @@ undo-accepted {n} {t} {log} threes s whole w = elim (outcome-did (undoing n t lo
 
 -- ---- an edge that is none
 
-names-missing : {n : ℕ} {T T′ : List Row} {x y : ℕ} → SkinKept n T T′ → NoEdgeNamed T (x ⇒ y) → NoEdge T′ x y
+names-missing : {n : ℕ} {T T′ : List Row} {x y : ℕ} → StageKept n T T′ → NoEdgeNamed T (x ⇒ y) → NoEdge T′ x y
 names-missing k (first-unused m) = unused-missing (λ u. m (k .used .1 u))
 names-missing k (second-unused m) = unused-second-missing (λ u. m (k .used .1 u))
 names-missing k (one-corner e) = twisted e (k .after)
 
-names-stop : {n : ℕ} {T : List Row} (s : Reached) (e : Arrow) → SkinKept n T (s .table) → NoEdgeNamed T e → FlipStops s e EdgeMissing
+names-stop : {n : ℕ} {T : List Row} (s : Reached) (e : Arrow) → StageKept n T (s .table) → NoEdgeNamed T e → FlipStops s e EdgeMissing
 names-stop s (x ⇒ y) k m = refusals.missing (names-missing k m) refl
 
 -- where as many flips as stand before it are told, the list stops there
@@ -129,20 +129,20 @@ module _ {n : ℕ} {t edges l : List ℕ} {a : Flipped} {t′ l′ : List ℕ} (
 
 -- ---- tables that were flipped
 
--- what is refused leaves the table, and what is told keeps the skin
-kept-by-list : {n : ℕ} {t edges l : List ℕ} {a : Flipped} {t′ l′ : List ℕ} → FlippedAs n t edges l a t′ l′ → Stage n (rows t) → SkinKept n (rows t) (rows t′) × (length t′ ≡ length t)
+-- what is refused leaves the table, and what is told keeps the stage
+kept-by-list : {n : ℕ} {t edges l : List ℕ} {a : Flipped} {t′ l′ : List ℕ} → FlippedAs n t edges l a t′ l′ → Stage n (rows t) → StageKept n (rows t) (rows t′) × (length t′ ≡ length t)
 kept-by-list {n} {t} {edges} {l} w s = elim (outcome-did (listed n t edges l) (w .outcome)) [
   | inl x ↦ (let e = lists.refused-same (rw (x .2) at w) .0 in (rw e (kept-none s), ap length e))
   | inr x ↦ (let f = flips-left w (tells (x .2)) in (f .kept, f .same-table))
 ]
 
-kept-by-undoing : {n : ℕ} {t log : List ℕ} {a : Flipped} {t′ : List ℕ} → UndoneAs n t log a t′ → Stage n (rows t) → SkinKept n (rows t) (rows t′) × (length t′ ≡ length t)
+kept-by-undoing : {n : ℕ} {t log : List ℕ} {a : Flipped} {t′ : List ℕ} → UndoneAs n t log a t′ → Stage n (rows t) → StageKept n (rows t) (rows t′) × (length t′ ≡ length t)
 kept-by-undoing {n} {t} {log} w s = elim (outcome-did (undoing n t log) (w .outcome)) [
   | inl x ↦ (let e = undoes.refused-same (rw (x .2) at w) in (rw e (kept-none s), ap length e))
   | inr x ↦ (let f = undone-left w (tells (x .2)) in (f .kept, f .same-table))
 ]
 
-kept : {n : ℕ} {t t′ : List ℕ} → Stage n (rows t) → ByFlips n t t′ → SkinKept n (rows t) (rows t′) × (length t′ ≡ length t)
+kept : {n : ℕ} {t t′ : List ℕ} → Stage n (rows t) → ByFlips n t t′ → StageKept n (rows t) (rows t′) × (length t′ ≡ length t)
 kept s (no-call e) = (rw e (kept-none s), ap length e)
 kept s (then-flipped b w) = let k = kept s b in let f = kept-by-list w (k .0 .after) in (kept-on (k .0) (f .0), f .1 ∙ k .1)
 kept s (then-undone b w) = let k = kept s b in let f = kept-by-undoing w (k .0 .after) in (kept-on (k .0) (f .0), f .1 ∙ k .1)
@@ -155,7 +155,7 @@ stage-table {t = t} threes s b =
     let i = whole-rows t threes in
     record { count = omega arith; stage = k .0 .after }
 
-skin-kept : {n : ℕ} {T T′ : List Row} {xs : List ℤ} → Skin n T xs → SkinKept n T T′ → Skin n T′ xs
+skin-kept : {n : ℕ} {T T′ : List Row} {xs : List ℤ} → Skin n T xs → StageKept n T T′ → Skin n T′ xs
 skin-kept s k = record { stage = k .after; corners = s .corners; in-range = s .in-range; used = λ h. k .used .0 (s .used h) }
 
 -- the numbers of rows that stand in front are whole rows

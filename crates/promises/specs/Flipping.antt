@@ -22,7 +22,7 @@ use Rattle.thin.specs.Thin.{log-need, Thinned}
 use Rattle.volume.specs.declared.Measured.{Measured}
 use Rattle.volume.specs.Answer as volumes
 use Rattle.volume.specs.Report.{VolumeReport, ChangeReport, Near}
-use Rattle.flips.specs.Kept.{SkinKept}
+use Rattle.flips.specs.Kept.{StageKept}
 use Rattle.laid.specs.Laid.{count, items, WholeItems, in-front}
 use Rattle.flipped.specs.declared.FlipRefusal.the-variants.{EdgeMissing}
 use Rattle.flipped.specs.declared.Flipped.{Flipped}
@@ -72,7 +72,7 @@ pub record Flipping : Type 0 where
   pub restores : {n : ℕ} {t edges l : List ℕ} {a : Flipped} {t′ l′ : List ℕ} → FlippedAs n t edges l a t′ l′ → {k : ℕ} → FlipsTold k (told a) → {b : Flipped} {t″ : List ℕ} →
       UndoneAs n t′ (take (width * k) l′) b t″ → (told b ≡ answers.done (pos k ∷ [])) × (t″ ≡ t)
   -- whatever calls flipped or undid, a stage stays a stage, with its used corners, its number of rows and its Euler number
-  pub keeps : {n : ℕ} {t t′ : List ℕ} → Stage n (rows t) → ByFlips n t t′ → SkinKept n (rows t) (rows t′) × (length t′ ≡ length t)
+  pub keeps : {n : ℕ} {t t′ : List ℕ} → Stage n (rows t) → ByFlips n t t′ → StageKept n (rows t) (rows t′) × (length t′ ≡ length t)
   -- "Demand 3's volume figure holds for flipped tables": each is within half a cubic metre of exact for the table's own triangles, over any coordinates in range
   pub volumes-near : {n : ℕ} {t t′ : List ℕ} → length t % 3 ≡ 0 → Stage n (rows t) → ByFlips n t t′ → {xs : List ℤ} → length xs ≡ 3 * n → InRange xs →
       (a : Measured) → VolumeReport xs t′ (volumes.told a) → Near (sixfold xs (rows t′)) a
