@@ -34,7 +34,7 @@ use Rattle.volume.proofs.Main.{volume-near, change-near}
 use Rattle.flips.specs.Flip.{NoEdge}
 use Rattle.flips.specs.Kept.{StageKept}
 use Rattle.flips.proofs.Flips.{twisted, unused-missing, unused-second-missing}
-use Rattle.flips.proofs.Keeping.{kept-none, kept-on}
+use Rattle.flips.proofs.Keeping.{kept-none, kept-on, flip-keeps, undo-keeps}
 use Rattle.laid.specs.Laid.{count, items, WholeItems, in-front}
 use Rattle.laid.proofs.Laws.{first-length}
 use Rattle.flipped.specs.declared.FlipRefusal.the-variants.{EdgeMissing}
@@ -164,6 +164,9 @@ front-threes m t h = let i = rows-fit (take (3 * m) t) in let j = length-take (3
 
 pub flipping : Flipping
 flipping = record {
+  each-keeps = λ s f. flip-keeps s f;
+  each-undone-keeps = λ u. undo-keeps u;
+  skins = λ s k. skin-kept s k;
   accepts = λ threes s whole room w. list-accepted w threes s whole room;
   does-all = λ threes s whole room w v. done-whole w threes s whole room v;
   whole = λ {n} {t} {edges} {l} {a} w {k} p. all-told (listed n t edges l) flipped-apart (w .outcome) (finishes a k p) ∙ first-length edge-list (count edge-list edges) edges;

@@ -22,6 +22,8 @@ use Rattle.thin.specs.Thin.{log-need, Thinned}
 use Rattle.volume.specs.declared.Measured.{Measured}
 use Rattle.volume.specs.Answer as volumes
 use Rattle.volume.specs.Report.{VolumeReport, ChangeReport, Near}
+use Rattle.flips.specs.Flip.{Flip, Flips}
+use Rattle.flips.specs.Undo.{Undone}
 use Rattle.flips.specs.Kept.{StageKept}
 use Rattle.laid.specs.Laid.{count, items, WholeItems, in-front}
 use Rattle.flipped.specs.declared.FlipRefusal.the-variants.{EdgeMissing}
@@ -47,6 +49,11 @@ pub data ByFlips (n : ℕ) (t : List ℕ) : List ℕ → Type 0 where
   then-undone : {t₁ log : List ℕ} {a : Flipped} {t′ : List ℕ} → ByFlips n t t₁ → UndoneAs n t₁ log a t′ → ByFlips n t t′
 
 pub record Flipping : Type 0 where
+  -- "Every flip keeps a closed oriented skin with the same corners and Euler number", and so does every undoing of one
+  pub each-keeps : {n : ℕ} {T T′ : List Row} {a b : ℕ} {k : Flip} → Stage n T → Flips T a b k T′ → StageKept n T T′
+  pub each-undone-keeps : {n : ℕ} {T T′ : List Row} {k : Flip} → Undone n T′ k T → StageKept n T′ T
+  -- a skin over coordinates stays one
+  pub skins : {n : ℕ} {T T′ : List Row} {xs : List ℤ} → Skin n T xs → StageKept n T T′ → Skin n T′ xs
   -- of every stage within the limits, a list of even length with room for its log is flipped up to the first refusal: nothing else is refused
   pub accepts : {n : ℕ} {t edges l : List ℕ} {a : Flipped} {t′ l′ : List ℕ} → length t % 3 ≡ 0 → Stage n (rows t) → WholeItems edge-list edges → flip-room edges ≤ length l → FlippedAs n t edges l a t′ l′ →
       (k : ℕ) × FlipsTold k (told a)
@@ -56,7 +63,7 @@ pub record Flipping : Type 0 where
       (told a ≡ answers.done (pos (count edge-list edges) ∷ [])) × (t′ ≡ flat (s .table)) × (l′ ≡ in-front flip-log (s .log) l)
   -- and 0 is told of whole lists alone
   pub whole : {n : ℕ} {t edges l : List ℕ} {a : Flipped} {t′ l′ : List ℕ} → FlippedAs n t edges l a t′ l′ → {k : ℕ} → told a ≡ answers.done (pos k ∷ []) → k ≡ count edge-list edges
-  -- "the answer counts those done, and table and log hold those and no others"; "Every flip keeps a closed oriented skin with the same corners and Euler number"
+  -- "the answer counts those done, and table and log hold those and no others"; the stage is kept
   pub left : {n : ℕ} {t edges l : List ℕ} {a : Flipped} {t′ l′ : List ℕ} → FlippedAs n t edges l a t′ l′ → {k : ℕ} → FlipsTold k (told a) → FlipsLeft n t edges l k t′ l′
   -- "A number that is no used corner makes the edge missing", and so does a corner named twice: such an edge is not flipped, and where all before it are, it is 30
   pub missing : {n : ℕ} {t edges l : List ℕ} {a : Flipped} {t′ l′ : List ℕ} → FlippedAs n t edges l a t′ l′ → {k : ℕ} → FlipsTold k (told a) →
