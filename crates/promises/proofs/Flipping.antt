@@ -2,7 +2,7 @@
 -- none.
 use mathlib.Core.Path.{_≡_, refl, sym, _∙_, ap}
 use mathlib.Core.Logic.{inl, inr}
-use mathlib.Core.List.{List, [], _∷_, _++_}
+use mathlib.Core.List.{List, [], _∷_, _++_, reverse}
 use Prim.Native.Nat.{ℕ, _+_, _-_, _*_, _≤_, _<_, _%_}
 use native.Mathlib.Decide.{decLt}
 use native.Mathlib.Omega.{arith}
@@ -10,16 +10,16 @@ use lib.IntN.{ℤ, pos}
 use lib.ListN.{length, take, length-take, length-reverse}
 use lib.Seq.{take-append-add}
 use Rattle.follow.specs.Leads.{Leads}
-use Rattle.follow.specs.Follow.{Call, all, some, Outcome, refused, followed}
+use Rattle.follow.specs.Follow.{Call, Followed, all, some, Outcome, refused, followed}
 use Rattle.follow.proofs.Leading.{leads-cut}
 use Rattle.follow.proofs.Following as following
-use Rattle.follow.proofs.Following.{Apart, outcome-did}
+use Rattle.follow.proofs.Following.{Apart, outcome-did, outcome-stopped}
 use Rattle.follow.proofs.Upto.{outcome-upto}
 use Rattle.surface.specs.Rows.{Row, rows, flat}
 use Rattle.surface.specs.Table.{Arrow, _⇒_}
 use Rattle.surface.specs.Stage.{Stage}
 use Rattle.surface.specs.InnerStageTable.{StageTable}
-use Rattle.surface.proofs.Flat.{rows-fit}
+use Rattle.surface.proofs.Flat.{rows-fit, rows-flat}
 use Rattle.corners.specs.Skin.{Skin}
 use Rattle.refusal.specs.declared.Verdict.the-variants.{Passes}
 use Rattle.refusal.specs.First.{First}
@@ -31,20 +31,23 @@ use Rattle.slots.proofs.Slots.{whole-rows}
 use Rattle.thin.specs.Answer as thinnings
 use Rattle.thin.proofs.Main.{accepted}
 use Rattle.volume.proofs.Main.{volume-near, change-near}
-use Rattle.flips.specs.Flip.{NoEdge}
+use Rattle.flips.specs.Flip.{Flip, NoEdge}
+use Rattle.flips.specs.Undo.{Undone}
 use Rattle.flips.specs.Kept.{StageKept}
 use Rattle.flips.proofs.Flips.{twisted, unused-missing, unused-second-missing}
 use Rattle.flips.proofs.Keeping.{kept-none, kept-on, flip-keeps, undo-keeps}
 use Rattle.laid.specs.Laid.{count, items, WholeItems, in-front}
 use Rattle.laid.proofs.Laws.{first-length}
-use Rattle.flipped.specs.declared.FlipRefusal.the-variants.{EdgeMissing}
+use Rattle.flipped.specs.declared.FlipRefusal.{FlipRefusal}
+use Rattle.flipped.specs.declared.FlipRefusal.the-variants.{EdgeMissing, UndoFails}
 use Rattle.flipped.specs.declared.Flipped.{Flipped}
 use Rattle.flipped.specs.declared.Flipped.the-variants.{Done, Stopped}
 use Rattle.flipped.specs.Answer.{told, stopped, FlipsTold, all-done, some-done, flipped}
-use Rattle.flipped.proofs.Telling.{flipped-apart, finishes, did}
+use Rattle.flipped.proofs.Telling.{flipped-apart, finishes, stops as stops-by, did}
 use Rattle.fliplog.specs.Layout.{edge-list, flip-log}
 use Rattle.flip.specs.Refused as refusals
-use Rattle.fliplist.specs.Outcome.{flip-room, flip-refusals, Reached, FlipsOn, FlipStops, flipping as listed, FlippedAs}
+use Rattle.flip.specs.Refused.{FlipRefused}
+use Rattle.fliplist.specs.Outcome.{flip-room, flip-refusals, Reached, FlipsOn, FlipStops, TableAndLog, flipping as listed, FlippedAs}
 use Rattle.fliplist.proofs.Main as lists
 use Rattle.fliplist.proofs.Main.{flips-keep, flipped-one, flip-passes, flips-left}
 use Rattle.undoflips.specs.Outcome.{undoing, UndoneAs}
@@ -92,6 +95,37 @@ undo-accepted {n} {t} {log} threes s whole w = elim (outcome-did (undoing n t lo
   | inl x ↦ refused-passes (first-one verdicts _ (x .1) (undo-passes n t log (record { counts = counts-fit threes s; whole = whole }) s))
   | inr x ↦ (x .1, tells (x .2))
 ]
+
+-- ---- where it stops
+
+stopped-by : (r q : FlipRefusal) (j k : ℕ) → Stopped r j ≡ Stopped q k → r ≡ q
+stopped-by r q j k e = cc
+
+-- where a call stops, its items are parted at one that fails on what is left
+parted : {S I R Q A B : Type 0} (c : Call S I R Q A B) → Apart (c .answers) → ((r q : R) (j k : ℕ) → c .answers .stopped r j ≡ c .answers .stopped q k → r ≡ q) → {r : R} {k : ℕ} {b : B} →
+    Outcome c (c .answers .stopped r k) b → (s : S) × (b ≡ c .left s) × (before : List I) × (i : I) × (after : List I) × (c .items ≡ before ++ i ∷ after) × (length before ≡ k) × c .FailsBy s i r
+parted c x by {r} {k} {b} o = let z = outcome-stopped c x o in go (z .1) (z .3) (z .2)
+  where
+    go : (s : _) → b ≡ c .left s → Followed c (c .answers .stopped r k) s →
+        (s : _) × (b ≡ c .left s) × (before : List _) × (i : _) × (after : List _) × (c .items ≡ before ++ i ∷ after) × (length before ≡ k) × c .FailsBy s i r
+    go s e (all w p) = absurd (x .finished-stopped (sym p))
+    go s e (some before i after {r = r₂} q w f p) = (s, e, before, i, after, q, sym (x .stopped-one p), rw (by r r₂ k (length before) p) f)
+
+list-stops : {n : ℕ} {t edges l : List ℕ} {a : Flipped} {t′ l′ : List ℕ} → FlippedAs n t edges l a t′ l′ → (r : FlipRefusal) (k : ℕ) → told a ≡ stopped r k →
+    (before : List Arrow) × (x y : ℕ) × (after : List Arrow) × (items edge-list edges ≡ before ++ (x ⇒ y) ∷ after) × (length before ≡ k) × FlipRefused (rows t′) x y r
+list-stops {n} {t} {edges} {l} {a} {t′} {l′} w r k p = go (parted (listed n t edges l) flipped-apart stopped-by (rw (stops-by a r k p) at (w .outcome)))
+  where
+    go : (s : Reached) × (record { table = t′; log = l′ } ≡ listed n t edges l .left s) × (before : List Arrow) × (e : Arrow) × (after : List Arrow) × (items edge-list edges ≡ before ++ e ∷ after)
+        × (length before ≡ k) × FlipStops s e r →
+        (before : List Arrow) × (x y : ℕ) × (after : List Arrow) × (items edge-list edges ≡ before ++ (x ⇒ y) ∷ after) × (length before ≡ k) × FlipRefused (rows t′) x y r
+    go (s, e, before, x ⇒ y, after, q, m, f) = (before, x, y, after, q, m, rw (ap (λ (b : TableAndLog). rows (b .table)) e ∙ rows-flat (s .table)) f)
+
+log-stops : {n : ℕ} {t log : List ℕ} {a : Flipped} {t′ : List ℕ} → UndoneAs n t log a t′ → (r : FlipRefusal) (k : ℕ) → told a ≡ stopped r k →
+    (r ≡ UndoFails) × (before : List Flip) × (i : Flip) × (after : List Flip) × (reverse (items flip-log log) ≡ before ++ i ∷ after) × (length before ≡ k) × ((T : List Row) → ¬ Undone n (rows t′) i T)
+log-stops {n} {t} {log} {a} {t′} w r k p =
+    let z = parted (undoing n t log) flipped-apart stopped-by (rw (stops-by a r k p) at (w .outcome)) in
+    let e : rows t′ ≡ z .0 = ap rows (z .1) ∙ rows-flat (z .0) in
+    (z .7 .1, z .2, z .3, z .4, z .5, z .6, λ T u. z .7 .0 T (rw e at u))
 
 -- ---- an edge that is none
 
@@ -171,11 +205,13 @@ flipping = record {
   does-all = λ threes s whole room w v. done-whole w threes s whole room v;
   whole = λ {n} {t} {edges} {l} {a} w {k} p. all-told (listed n t edges l) flipped-apart (w .outcome) (finishes a k p) ∙ first-length edge-list (count edge-list edges) edges;
   left = λ w d. flips-left w d;
+  stops = λ w r k p. list-stops w r k p;
   missing = λ w d before e after parts m. never-flipped w d before e after parts m;
   undo-accepts = λ threes s whole w. undo-accepted threes s whole w;
   undo-whole = λ {n} {t} {log} {a} w {k} p.
       all-told (undoing n t log) flipped-apart (w .outcome) (finishes a k p) ∙ length-reverse (items flip-log log) ∙ first-length flip-log (count flip-log log) log;
   undone = λ w d. undone-left w d;
+  undo-stops = λ w r k p. log-stops w r k p;
   restores = λ w d u. (let o = undo-restores w d u in (ap told (o .0), o .1));
   keeps = λ s b. kept s b;
   volumes-near = λ threes s b e r a p. volume-near e r (stage-table threes s b) a p;

@@ -1,6 +1,6 @@
 -- Request 6 of document 02: "Flips." What is promised of flipping a list of edges and of undoing its log, and of tables that were flipped.
 use mathlib.Core.Path.{_≡_}
-use mathlib.Core.List.{List, [], _∷_, _++_}
+use mathlib.Core.List.{List, [], _∷_, _++_, reverse}
 use Prim.Native.Nat.{ℕ, _*_, _≤_, _%_}
 use lib.IntN.{ℤ, pos, _-ℤ_}
 use lib.ListN.{length, take}
@@ -26,10 +26,12 @@ use Rattle.flips.specs.Flip.{Flip, Flips}
 use Rattle.flips.specs.Undo.{Undone}
 use Rattle.flips.specs.Kept.{StageKept}
 use Rattle.laid.specs.Laid.{count, items, WholeItems, in-front}
-use Rattle.flipped.specs.declared.FlipRefusal.the-variants.{EdgeMissing}
+use Rattle.flipped.specs.declared.FlipRefusal.{FlipRefusal}
+use Rattle.flipped.specs.declared.FlipRefusal.the-variants.{EdgeMissing, UndoFails}
 use Rattle.flipped.specs.declared.Flipped.{Flipped}
 use Rattle.flipped.specs.Answer.{told, stopped, FlipsTold}
 use Rattle.fliplog.specs.Layout.{edge-list, width, flip-log}
+use Rattle.flip.specs.Refused.{FlipRefused}
 use Rattle.fliplist.specs.Outcome.{flip-room, Reached, FlipsOn, FlippedAs}
 use Rattle.fliplist.specs.Left.{FlipsLeft}
 use Rattle.undoflips.specs.Outcome.{UndoneAs}
@@ -54,7 +56,7 @@ pub record Flipping : Type 0 where
   pub each-undone-keeps : {n : ℕ} {T T′ : List Row} {k : Flip} → Undone n T′ k T → StageKept n T′ T
   -- a skin over coordinates stays one
   pub skins : {n : ℕ} {T T′ : List Row} {xs : List ℤ} → Skin n T xs → StageKept n T T′ → Skin n T′ xs
-  -- of every stage within the limits, a list of even length with room for its log is flipped up to the first refusal: nothing else is refused
+  -- of every stage, a list of edges of even length with room for its log is not refused before any flip: 0, 30, 31 or 32 is told with a count
   pub accepts : {n : ℕ} {t edges l : List ℕ} {a : Flipped} {t′ l′ : List ℕ} → length t % 3 ≡ 0 → Stage n (rows t) → WholeItems edge-list edges → flip-room edges ≤ length l → FlippedAs n t edges l a t′ l′ →
       (k : ℕ) × FlipsTold k (told a)
   -- whole, where each listed flip is allowed in its turn; table and log hold what these lead to
@@ -65,16 +67,23 @@ pub record Flipping : Type 0 where
   pub whole : {n : ℕ} {t edges l : List ℕ} {a : Flipped} {t′ l′ : List ℕ} → FlippedAs n t edges l a t′ l′ → {k : ℕ} → told a ≡ answers.done (pos k ∷ []) → k ≡ count edge-list edges
   -- "the answer counts those done, and table and log hold those and no others"; the stage is kept
   pub left : {n : ℕ} {t edges l : List ℕ} {a : Flipped} {t′ l′ : List ℕ} → FlippedAs n t edges l a t′ l′ → {k : ℕ} → FlipsTold k (told a) → FlipsLeft n t edges l k t′ l′
+  -- "up to the first refusal": 30 or 31 and k are told of the listed edge behind k others, which is refused so on the table that is left
+  pub stops : {n : ℕ} {t edges l : List ℕ} {a : Flipped} {t′ l′ : List ℕ} → FlippedAs n t edges l a t′ l′ → (r : FlipRefusal) (k : ℕ) → told a ≡ stopped r k →
+      (before : List Arrow) × (x y : ℕ) × (after : List Arrow) × (items edge-list edges ≡ before ++ (x ⇒ y) ∷ after) × (length before ≡ k) × FlipRefused (rows t′) x y r
   -- "A number that is no used corner makes the edge missing", and so does a corner named twice: such an edge is not flipped, and where all before it are, it is 30
   pub missing : {n : ℕ} {t edges l : List ℕ} {a : Flipped} {t′ l′ : List ℕ} → FlippedAs n t edges l a t′ l′ → {k : ℕ} → FlipsTold k (told a) →
       (before : List Arrow) (e : Arrow) (after : List Arrow) → items edge-list edges ≡ before ++ e ∷ after → NoEdgeNamed (rows t) e →
       (k ≤ length before) × (k ≡ length before → told a ≡ stopped EdgeMissing k)
-  -- of every stage within the limits, a log of whole records is undone up to the first that is not: nothing else is refused
+  -- of every stage, a log of whole records is not refused before any is undone: 0, 30, 31 or 32 is told with a count
   pub undo-accepts : {n : ℕ} {t log : List ℕ} {a : Flipped} {t′ : List ℕ} → length t % 3 ≡ 0 → Stage n (rows t) → WholeItems flip-log log → UndoneAs n t log a t′ → (k : ℕ) × FlipsTold k (told a)
   -- and 0 is told of whole logs alone
   pub undo-whole : {n : ℕ} {t log : List ℕ} {a : Flipped} {t′ : List ℕ} → UndoneAs n t log a t′ → {k : ℕ} → told a ≡ answers.done (pos k ∷ []) → k ≡ count flip-log log
   -- "with the table as reached and the undone counted"
   pub undone : {n : ℕ} {t log : List ℕ} {a : Flipped} {t′ : List ℕ} → UndoneAs n t log a t′ → {k : ℕ} → FlipsTold k (told a) → UndoneLeft n t log k t′
+  -- "otherwise 32": it is told with k of the record behind k others, from the last on, which is undone to no table from the one that is left
+  pub undo-stops : {n : ℕ} {t log : List ℕ} {a : Flipped} {t′ : List ℕ} → UndoneAs n t log a t′ → (r : FlipRefusal) (k : ℕ) → told a ≡ stopped r k →
+      (r ≡ UndoFails) × (before : List Flip) × (i : Flip) × (after : List Flip) × (reverse (items flip-log log) ≡ before ++ i ∷ after) × (length before ≡ k)
+      × ((T : List Row) → ¬ Undone n (rows t′) i T)
   -- "Undoing the whole log, last record first, restores the table", number for number, also where the list stopped
   pub restores : {n : ℕ} {t edges l : List ℕ} {a : Flipped} {t′ l′ : List ℕ} → FlippedAs n t edges l a t′ l′ → {k : ℕ} → FlipsTold k (told a) → {b : Flipped} {t″ : List ℕ} →
       UndoneAs n t′ (take (width * k) l′) b t″ → (told b ≡ answers.done (pos k ∷ [])) × (t″ ≡ t)
