@@ -11,7 +11,7 @@ use lib.ListN.{length, take, length-take, length-reverse}
 use lib.Seq.{take-append-add}
 use Rattle.follow.specs.Leads.{Leads}
 use Rattle.follow.specs.Follow.{Call, Followed, all, some, Outcome, refused, followed}
-use Rattle.follow.proofs.Leading.{leads-cut}
+use Rattle.follow.proofs.Leading.{leads-cut, leads-keep}
 use Rattle.follow.proofs.Following as following
 use Rattle.follow.proofs.Following.{Apart, outcome-did, outcome-stopped}
 use Rattle.follow.proofs.Upto.{outcome-upto}
@@ -34,7 +34,7 @@ use Rattle.volume.proofs.Main.{volume-near, change-near}
 use Rattle.flips.specs.Flip.{Flip, NoEdge}
 use Rattle.flips.specs.Undo.{Undone}
 use Rattle.flips.specs.Kept.{StageKept}
-use Rattle.flips.proofs.Flips.{twisted, unused-missing, unused-second-missing}
+use Rattle.flips.proofs.Flips.{flip-undoable, undone, twisted, unused-missing, unused-second-missing}
 use Rattle.flips.proofs.Keeping.{kept-none, kept-on, flip-keeps, undo-keeps}
 use Rattle.laid.specs.Laid.{count, items, WholeItems, in-front}
 use Rattle.laid.proofs.Laws.{first-length}
@@ -163,25 +163,30 @@ module _ {n : ℕ} {t edges l : List ℕ} {a : Flipped} {t′ l′ : List ℕ} (
 
 -- ---- tables that were flipped
 
--- what is refused leaves the table, and what is told keeps the stage
-kept-by-list : {n : ℕ} {t edges l : List ℕ} {a : Flipped} {t′ l′ : List ℕ} → FlippedAs n t edges l a t′ l′ → Stage n (rows t) → StageKept n (rows t) (rows t′) × (length t′ ≡ length t)
-kept-by-list {n} {t} {edges} {l} w s = elim (outcome-did (listed n t edges l) (w .outcome)) [
+-- a record undone over so many corners is undone over as many as the stage has
+undone-over : {n m : ℕ} {T T′ : List Row} {k : Flip} → Stage n T′ → Undone m T′ k T → Undone n T′ k T
+undone-over s u = rw (u .is) (undone s (flip-undoable (u .stage) (u .flips)))
+
+-- what is refused leaves the table, and what is told keeps the stage, whatever corner count the call was given
+kept-by-list : {n m : ℕ} {t edges l : List ℕ} {a : Flipped} {t′ l′ : List ℕ} → FlippedAs m t edges l a t′ l′ → Stage n (rows t) → StageKept n (rows t) (rows t′) × (length t′ ≡ length t)
+kept-by-list {n} {m} {t} {edges} {l} w s = elim (outcome-did (listed m t edges l) (w .outcome)) [
   | inl x ↦ (let e = lists.refused-same (rw (x .2) at w) .0 in (rw e (kept-none s), ap length e))
-  | inr x ↦ (let f = flips-left w (tells (x .2)) in (f .kept, f .same-table))
+  | inr x ↦ (let f = flips-left w (tells (x .2)) in (flips-keep n s (f .flips), f .same-table))
 ]
 
-kept-by-undoing : {n : ℕ} {t log : List ℕ} {a : Flipped} {t′ : List ℕ} → UndoneAs n t log a t′ → Stage n (rows t) → StageKept n (rows t) (rows t′) × (length t′ ≡ length t)
-kept-by-undoing {n} {t} {log} w s = elim (outcome-did (undoing n t log) (w .outcome)) [
+kept-by-undoing : {n m : ℕ} {t log : List ℕ} {a : Flipped} {t′ : List ℕ} → UndoneAs m t log a t′ → Stage n (rows t) → StageKept n (rows t) (rows t′) × (length t′ ≡ length t)
+kept-by-undoing {n} {m} {t} {log} w s = elim (outcome-did (undoing m t log) (w .outcome)) [
   | inl x ↦ (let e = undoes.refused-same (rw (x .2) at w) in (rw e (kept-none s), ap length e))
-  | inr x ↦ (let f = undone-left w (tells (x .2)) in (f .kept, f .same-table))
+  | inr x ↦ (let f = undone-left w (tells (x .2)) in
+      (leads-keep (StageKept n (rows t)) (λ T T′ i k u. kept-on k (undo-keeps (undone-over (k .after) u))) (kept-none s) (f .undone), f .same-table))
 ]
 
-kept : {n : ℕ} {t t′ : List ℕ} → Stage n (rows t) → ByFlips n t t′ → StageKept n (rows t) (rows t′) × (length t′ ≡ length t)
+kept : {n : ℕ} {t t′ : List ℕ} → Stage n (rows t) → ByFlips t t′ → StageKept n (rows t) (rows t′) × (length t′ ≡ length t)
 kept s (no-call e) = (rw e (kept-none s), ap length e)
 kept s (then-flipped b w) = let k = kept s b in let f = kept-by-list w (k .0 .after) in (kept-on (k .0) (f .0), f .1 ∙ k .1)
 kept s (then-undone b w) = let k = kept s b in let f = kept-by-undoing w (k .0 .after) in (kept-on (k .0) (f .0), f .1 ∙ k .1)
 
-stage-table : {n : ℕ} {t t′ : List ℕ} → length t % 3 ≡ 0 → Stage n (rows t) → ByFlips n t t′ → StageTable n t′
+stage-table : {n : ℕ} {t t′ : List ℕ} → length t % 3 ≡ 0 → Stage n (rows t) → ByFlips t t′ → StageTable n t′
 stage-table {t = t} threes s b =
     let k = kept s b in
     let e = k .1 in

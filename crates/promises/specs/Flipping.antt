@@ -44,11 +44,11 @@ pub data NoEdgeNamed (T : List Row) : Arrow → Type 0 where
   second-unused : {a b : ℕ} → ¬ Used T b → NoEdgeNamed T (a ⇒ b)
   one-corner : {a b : ℕ} → a ≡ b → NoEdgeNamed T (a ⇒ b)
 
--- t′ stands after calls on the table t, each on what the one before it left: lists flipped and logs undone, whatever each answered
-pub data ByFlips (n : ℕ) (t : List ℕ) : List ℕ → Type 0 where
-  no-call : {t′ : List ℕ} → t′ ≡ t → ByFlips n t t′
-  then-flipped : {t₁ edges l : List ℕ} {a : Flipped} {t′ l′ : List ℕ} → ByFlips n t t₁ → FlippedAs n t₁ edges l a t′ l′ → ByFlips n t t′
-  then-undone : {t₁ log : List ℕ} {a : Flipped} {t′ : List ℕ} → ByFlips n t t₁ → UndoneAs n t₁ log a t′ → ByFlips n t t′
+-- t′ stands after calls on the table t, each on what the one before it left and with a corner count of its own: lists flipped and logs undone, whatever each answered
+pub data ByFlips (t : List ℕ) : List ℕ → Type 0 where
+  no-call : {t′ : List ℕ} → t′ ≡ t → ByFlips t t′
+  then-flipped : {t₁ : List ℕ} {m : ℕ} {edges l : List ℕ} {a : Flipped} {t′ l′ : List ℕ} → ByFlips t t₁ → FlippedAs m t₁ edges l a t′ l′ → ByFlips t t′
+  then-undone : {t₁ : List ℕ} {m : ℕ} {log : List ℕ} {a : Flipped} {t′ : List ℕ} → ByFlips t t₁ → UndoneAs m t₁ log a t′ → ByFlips t t′
 
 pub record Flipping : Type 0 where
   -- "Every flip keeps a closed oriented skin with the same corners and Euler number", and so does every undoing of one
@@ -88,15 +88,15 @@ pub record Flipping : Type 0 where
   pub restores : {n : ℕ} {t edges l : List ℕ} {a : Flipped} {t′ l′ : List ℕ} → FlippedAs n t edges l a t′ l′ → {k : ℕ} → FlipsTold k (told a) → {b : Flipped} {t″ : List ℕ} →
       UndoneAs n t′ (take (width * k) l′) b t″ → (told b ≡ answers.done (pos k ∷ [])) × (t″ ≡ t)
   -- whatever calls flipped or undid, a stage stays a stage, with its used corners, its number of rows and its Euler number
-  pub keeps : {n : ℕ} {t t′ : List ℕ} → Stage n (rows t) → ByFlips n t t′ → StageKept n (rows t) (rows t′) × (length t′ ≡ length t)
+  pub keeps : {n : ℕ} {t t′ : List ℕ} → Stage n (rows t) → ByFlips t t′ → StageKept n (rows t) (rows t′) × (length t′ ≡ length t)
   -- "Demand 3's volume figure holds for flipped tables": each is within half a cubic metre of exact for the table's own triangles, over any coordinates in range
-  pub volumes-near : {n : ℕ} {t t′ : List ℕ} → length t % 3 ≡ 0 → Stage n (rows t) → ByFlips n t t′ → {xs : List ℤ} → length xs ≡ 3 * n → InRange xs →
+  pub volumes-near : {n : ℕ} {t t′ : List ℕ} → length t % 3 ≡ 0 → Stage n (rows t) → ByFlips t t′ → {xs : List ℤ} → length xs ≡ 3 * n → InRange xs →
       (a : Measured) → VolumeReport xs t′ (volumes.told a) → Near (sixfold xs (rows t′)) a
   -- each change between two of them too
-  pub changes-near : {n : ℕ} {t t₁ t₂ : List ℕ} → length t % 3 ≡ 0 → Stage n (rows t) → ByFlips n t t₁ → ByFlips n t t₂ → {xs : List ℤ} → length xs ≡ 3 * n → InRange xs →
+  pub changes-near : {n : ℕ} {t t₁ t₂ : List ℕ} → length t % 3 ≡ 0 → Stage n (rows t) → ByFlips t t₁ → ByFlips t t₂ → {xs : List ℤ} → length xs ≡ 3 * n → InRange xs →
       (a : Measured) → ChangeReport xs t₁ t₂ (volumes.told a) → Near (sixfold xs (rows t₂) -ℤ sixfold xs (rows t₁)) a
   -- a flipped skin can be thinned: with room and a usable limit or none it is accepted as the first one is
-  pub thins : (o : Order) {xs : List ℤ} {t t′ l : List ℕ} {a : Thinning} {u l′ : List ℕ} → ¬ (asked o ≡ NoUse) → length t % 3 ≡ 0 → Skin (corners xs) (rows t) xs → ByFlips (corners xs) t t′ → log-need xs ≤ length l →
+  pub thins : (o : Order) {xs : List ℤ} {t t′ l : List ℕ} {a : Thinning} {u l′ : List ℕ} → ¬ (asked o ≡ NoUse) → length t % 3 ≡ 0 → Skin (corners xs) (rows t) xs → ByFlips t t′ → log-need xs ≤ length l →
       Thinned o xs t′ l a u l′ → (k : ℕ) × (thinnings.told a ≡ answers.done (pos k ∷ []))
   -- and a stage that thinning, recovery, replay or growing back left in front of a table can be flipped
   pub flips-stages : {n m : ℕ} {t edges l : List ℕ} {a : Flipped} {t′ l′ : List ℕ} → StageOf n m t → WholeItems edge-list edges → flip-room edges ≤ length l → FlippedAs n (front-rows m t) edges l a t′ l′ →
