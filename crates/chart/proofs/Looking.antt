@@ -6,14 +6,15 @@ use Prim.Native.Nat.{ℕ, zero, suc, _+_, _-_, _≤_, _<_, _%_}
 use native.Mathlib.Decide.{decLt, ℕ-discrete}
 use native.Mathlib.Omega.{arith}
 use lib.ListN.{length, getD}
-use Rattle.surface.specs.Rows.{rows}
+use Rattle.surface.specs.Rows.{rows, flat}
 use Rattle.surface.specs.Table.{Edge}
+use Rattle.surface.proofs.Flat.{flat-rows}
 use Rattle.slots.specs.Slot.{next-slot, Under}
 use Rattle.slots.specs.Chain.{Last}
-use Rattle.slots.proofs.Slots.{follows-at, at-follows}
+use Rattle.slots.proofs.Slots.{follows-at, at-follows, whole-rows}
 use Rattle.edges.specs.Sweep.{Found}
 use Rattle.chart.specs.Links.{Link, top}
-use Rattle.chart.specs.Chart.{Above}
+use Rattle.chart.specs.Chart.{InChains, Above}
 
 -- the slots of a from x on do not have the edge to b; x is one more than a slot of a, or 0
 pub record Looked (t : List ℕ) (a b x : ℕ) : Type 0 where
@@ -84,3 +85,7 @@ module _ (t : List ℕ) (u e : ℕ) where
 
   pub walk-end : (x y : ℕ) → Walked t u e x y → y ≤ e + 1 → Above t u e x
   walk-end x y k h = record { link = k .link; over = k .over; none = λ f i j. k .hangs .miss f (omega arith) j }
+
+-- a table of whole rows is its rows' numbers
+pub chained-flat : {t last prev : List ℕ} → InChains t last prev → t ≡ flat (rows t)
+chained-flat {t} k = sym (flat-rows (length (rows t)) t (sym (whole-rows t (k .whole .threes))))

@@ -7,6 +7,7 @@ use lib.ListN.{length, getD}
 use Rattle.surface.specs.Limits.{most-corners}
 use Rattle.surface.specs.Rows.{row, rows, Turned, turn-0, turn-1, turn-2}
 use Rattle.surface.specs.Table.{Follows}
+use Rattle.surface.specs.Stage.{Stage}
 use Rattle.surface.proofs.Flat.{row-from}
 use Rattle.flips.specs.Undo.{put-rows}
 use Rattle.flips.proofs.Places.{stands-row}
@@ -31,6 +32,10 @@ use Rattle.flip.proofs.Rowwise.{slots-inside}
 -- the chains of a stage, with one for every number that a corner may have
 pub stage-chains : {t last prev : List ℕ} → Charted t last prev → most-corners ≤ length last → InChains t last prev
 stage-chains c h = record { whole = table-whole (c .table); under = under-more (table-under (c .table)) (let m = c .table .stage .many in omega arith); chained = c .chained }
+
+-- and back
+pub stage-charted : {n : ℕ} {t last prev : List ℕ} → Stage n (rows t) → InChains t last prev → Charted t last prev
+stage-charted {n} {t} s k = record { corners = n; table = record { count = sym (whole-rows t (k .whole .threes)); stage = s }; chained = k .chained }
 
 -- the row of a slot is turned to it
 turned-at : (t : List ℕ) (e : ℕ) → Turned (row-from t (3 * (e / 3))) (getD t e 0) (getD t (next-slot e) 0) (getD t (next-slot (next-slot e)) 0)

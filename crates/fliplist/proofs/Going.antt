@@ -5,7 +5,6 @@ use Prim.Native.Nat.{ℕ, _+_, _*_, _≤_, _<_}
 use native.Mathlib.Omega.{arith}
 use lib.ListN.{length, length-append, getD}
 use lib.Seq.{sets}
-use Rattle.follow.specs.Follow.{Followed, all, some}
 use Rattle.follow.proofs.Upto.{Upto, upto-none, upto-all, upto-fails, upto-more}
 use Rattle.surface.specs.Rows.{rows, flat}
 use Rattle.surface.specs.Table.{Arrow, _⇒_}
@@ -13,18 +12,18 @@ use Rattle.surface.specs.Stage.{Stage}
 use Rattle.surface.proofs.Flat.{rows-flat, flat-rows}
 use Rattle.flips.specs.Flip.{Flips}
 use Rattle.flips.proofs.Flips.{flip-stage}
-use Rattle.slots.proofs.Slots.{whole-rows}
 use Rattle.neighbours.specs.Around.{Charted}
 use Rattle.laid.specs.Laid.{count, items, in-front}
 use Rattle.laid.proofs.Laws.{first-length, first-at, none-in-front, front-length, one-more}
 use Rattle.chart.specs.Chart.{InChains}
+use Rattle.chart.proofs.Looking.{chained-flat}
 use Rattle.flipped.specs.declared.FlipRefusal.{FlipRefusal}
-use Rattle.flipped.specs.declared.Flipped.{Flipped}
 use Rattle.flipped.specs.declared.Flipped.the-variants.{Done, Stopped}
 use Rattle.fliplog.specs.declared.FlipRecord.{FlipRecord}
 use Rattle.fliplog.specs.InnerMeant.{meant}
 use Rattle.fliplog.specs.Layout.{edge-list, width, numbers, flip-log}
 use Rattle.fliplog.proofs.Logging.{flip-log-sound, edge-there}
+use Rattle.flip.proofs.Flipping.{stage-charted}
 use Rattle.flip.specs.declared.Tried.the-variants.{Logs, Refused}
 use Rattle.flip.specs.Inner.{Tries}
 use Rattle.fliplist.specs.Outcome.{Reached, flipping}
@@ -33,18 +32,14 @@ use Rattle.fliplist.specs.Inner.{FlipReady, FlippedOn}
 -- after so many flips
 pub record Going (n : ℕ) (t edges l : List ℕ) (done : ℕ) (t′ l′ last prev : List ℕ) : Type 0 where
   pub state : Reached
-  pub upto : Upto (flipping n t edges l) done state
+  -- what the flips lead to does not depend on the corner count told
+  pub upto : (m : ℕ) → Upto (flipping m t edges l) done state
   pub many : length (state .log) ≡ done
   pub table : t′ ≡ flat (state .table)
   pub log : l′ ≡ in-front flip-log (state .log) l
   pub stage : Stage n (state .table)
   pub size : length t′ ≡ length t
   pub chains : InChains t′ last prev
-
--- what the flips lead to does not depend on the corner count told
-any-count : (m n : ℕ) (t edges l : List ℕ) {a : Flipped} {s : Reached} → Followed (flipping m t edges l) a s → Followed (flipping n t edges l) a s
-any-count m n t edges l (all w e) = all w e
-any-count m n t edges l (some done i rest {r = r} q w f e) = some done i rest {r = r} q w f e
 
 module _ (t edges l : List ℕ) (g : FlipReady t edges l) where
   abbrev n : ℕ
@@ -59,7 +54,7 @@ module _ (t edges l : List ℕ) (g : FlipReady t edges l) where
   pub going-none : {last prev : List ℕ} → InChains t last prev → Going n t edges l 0 t l last prev
   going-none k = record {
     state = record { table = rows t; log = [] };
-    upto = upto-none (flipping n t edges l);
+    upto = λ m. upto-none (flipping m t edges l);
     many = refl;
     table = sym whole;
     log = sym (none-in-front flip-log l);
@@ -73,23 +68,19 @@ module _ (t edges l : List ℕ) (g : FlipReady t edges l) where
     stands = ap rows (w .table) ∙ rows-flat (w .state .table)
 
     pub charted : Charted t′ last prev
-    charted = record {
-      corners = n;
-      table = record { count = sym (whole-rows t′ (w .chains .whole .threes)); stage = rw stands (w .stage) };
-      chained = w .chains .chained;
-    }
+    charted = stage-charted (rw stands (w .stage)) (w .chains)
 
     -- the log keeps its length
     pub same-log : length l′ ≡ length l
     same-log =
-        let u = w .upto .within in
+        let u = w .upto n .within in
         let m = many-items in
         let k = w .many in
         let h = g .fits in
         ap length (w .log) ∙ front-length flip-log flip-log-sound (w .state .log) l (omega arith)
 
     pub done-all : count edge-list edges ≤ done → FlippedOn t edges l (Done done) t′ l′
-    done-all h = record { followed = λ m. record { state = w .state; reached = any-count n m t edges l (upto-all (flipping n t edges l) (w .upto) (omega (arith, many-items, h))); left = λ i. record { table = w .table i; log = w .log i } } }
+    done-all h = record { followed = λ m. record { state = w .state; reached = upto-all (flipping m t edges l) (w .upto m) (omega (arith, many-items, h)); left = λ i. record { table = w .table i; log = w .log i } } }
 
     module _ (more : done < count edge-list edges) where
       -- the edge after those done
@@ -110,7 +101,7 @@ module _ (t edges l : List ℕ) (g : FlipReady t edges l) where
       next-stops {r} t″ f = record {
         followed = λ m. record {
           state = w .state;
-          reached = any-count n m t edges l (upto-fails (flipping n t edges l) (w .upto) more-items next is-next {r = r} (rw stands at (f .0)));
+          reached = upto-fails (flipping m t edges l) (w .upto m) more-items next is-next {r = r} (rw stands at (f .0));
           left = λ i. record { table = (f .1 ∙ w .table) i; log = w .log i };
         };
       }
@@ -126,9 +117,9 @@ module _ (t edges l : List ℕ) (g : FlipReady t edges l) where
         pub next-flips : {last′ prev′ : List ℕ} → length t″ ≡ length t′ → InChains t″ last′ prev′ → Going n t edges l (done + 1) t″ l″ last′ prev′
         next-flips same c = record {
           state = onward;
-          upto = upto-more (flipping n t edges l) (w .upto) more-items next is-next (meant k, flips, refl);
+          upto = λ m. upto-more (flipping m t edges l) (w .upto m) more-items next is-next (meant k, flips, refl);
           many = let e = length-append (w .state .log) (meant k ∷ []) in let m = w .many in omega arith;
-          table = sym (flat-rows (length (rows t″)) t″ (sym (whole-rows t″ (c .whole .threes))));
+          table = chained-flat c;
           log =
               wrote
               ∙ (λ i. sets (w .log i) (width * sym (w .many) i) (numbers (meant k)))

@@ -17,7 +17,7 @@ use Rattle.surface.specs.Table.{Arrow, _⇒_}
 use Rattle.surface.specs.Stage.{Stage}
 use Rattle.surface.proofs.Flat.{rows-flat}
 use Rattle.flips.specs.Flip.{Flip, Flips}
-use Rattle.flips.specs.Kept.{SkinKept}
+use Rattle.flips.specs.Kept.{StageKept}
 use Rattle.flips.proofs.Keeping.{kept-none, kept-on, flip-keeps}
 use Rattle.flips.proofs.Flips.{flip-one, missing-blocked, missing-flips, blocked-flips}
 use Rattle.refusal.specs.declared.Refusal.{Refusal}
@@ -44,12 +44,12 @@ module _ (n : ℕ) where
   abbrev pub OnStage : Reached → Type 0
   OnStage s = Stage n (s .table)
 
-  keeps : (s s′ : Reached) (i : Arrow) → OnStage s → FlipsOn s i s′ → SkinKept n (s .table) (s′ .table)
+  keeps : (s s′ : Reached) (i : Arrow) → OnStage s → FlipsOn s i s′ → StageKept n (s .table) (s′ .table)
   keeps s s′ (a ⇒ b) z f = flip-keeps z (f .1)
 
-  -- flips keep a skin
-  pub flips-keep : {s s′ : Reached} {es : List Arrow} → OnStage s → Leads FlipsOn s es s′ → SkinKept n (s .table) (s′ .table)
-  flips-keep {s} z w = leads-keep (λ (x : Reached). SkinKept n (s .table) (x .table)) (λ x y i m f. kept-on m (keeps x y i (m .after) f)) (kept-none z) w
+  -- flips keep a stage
+  pub flips-keep : {s s′ : Reached} {es : List Arrow} → OnStage s → Leads FlipsOn s es s′ → StageKept n (s .table) (s′ .table)
+  flips-keep {s} z w = leads-keep (λ (x : Reached). StageKept n (s .table) (x .table)) (λ x y i m f. kept-on m (keeps x y i (m .after) f)) (kept-none z) w
 
   step : (s s₁ s₂ : Reached) (i : Arrow) → OnStage s → FlipsOn s i s₁ → FlipsOn s i s₂ → s₁ ≡ s₂
   step s s₁ s₂ (a ⇒ b) z f g =
@@ -160,7 +160,7 @@ module _ {n : ℕ} {t edges l : List ℕ} {a : Flipped} {t′ l′ : List ℕ} (
       ∙ drop-at (laid flip-log (s .log)) (drop (width * length (s .log)) l) (width * length (s .log)) (laid-length flip-log flip-log-sound (s .log))
       ∙ ap (λ (m : ℕ). drop (width * m) l) many
 
-  kept : SkinKept n (rows t) (s .table)
+  kept : StageKept n (rows t) (s .table)
   kept = flips-keep n (led .0 .1) (led .2 .led)
 
   -- the table is whole rows

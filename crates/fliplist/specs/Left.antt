@@ -6,7 +6,7 @@ use lib.ListN.{length, take, drop}
 use Rattle.follow.specs.Leads.{Leads}
 use Rattle.surface.specs.Rows.{rows}
 use Rattle.flips.specs.Flip.{Flip}
-use Rattle.flips.specs.Kept.{SkinKept}
+use Rattle.flips.specs.Kept.{StageKept}
 use Rattle.laid.specs.Laid.{laid, count, items}
 use Rattle.fliplog.specs.Layout.{edge-list, width, flip-log}
 use Rattle.fliplist.specs.Outcome.{FlipsOn}
@@ -23,4 +23,4 @@ pub record FlipsLeft (n : ℕ) (t edges l : List ℕ) (k : ℕ) (t′ l′ : Lis
   pub past : drop (width * k) l′ ≡ drop (width * k) l
   pub same-table : length t′ ≡ length t
   pub same-room : length l′ ≡ length l
-  pub kept : SkinKept n (rows t) (rows t′)
+  pub kept : StageKept n (rows t) (rows t′)

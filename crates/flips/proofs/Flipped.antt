@@ -391,8 +391,8 @@ module _ {n : ℕ} {T : List Row} {a b c d : ℕ} {W : List Row} (s : Stage n T)
       go i j (is-ba p q) = step (re-edge (sym p) refl bd) (one-step (re-edge refl (sym q) da))
       go i j (kept e) = one-step e
 
-  pub flipped : Stage n W
-  flipped = record {
+  pub exchanged-stage : Stage n W
+  exchanged-stage = record {
     least = let h = s .least in let e = k .swapped .size in omega arith;
     most = let h = s .most in let e = k .swapped .size in omega arith;
     few = s .few;

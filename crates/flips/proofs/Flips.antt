@@ -21,7 +21,7 @@ use Rattle.flips.specs.Flip.{Stands, Flip, Flips, NoEdge, Blocked}
 use Rattle.flips.specs.Undo.{put-rows, Undone}
 use Rattle.flips.specs.InnerUndoable.{Undoable}
 use Rattle.flips.proofs.Places.{stands-in, in-stands, stands-one, stands-place, set-new, set-other, set-back-two, NewOrOld, Swapped, set-two}
-use Rattle.flips.proofs.Flipped.{Exchanged, flipped, no-ab, used-old, used-new}
+use Rattle.flips.proofs.Flipped.{Exchanged, exchanged-stage, no-ab, used-old, used-new}
 
 -- a row (a, b, c) is no row (b, a, d)
 not-one : {r z : Row} {a b c d : ℕ} → a ≢ b → c ≢ a → c ≢ b → Turned r a b c → Turned z b a d → r ≢ z
@@ -73,7 +73,7 @@ module _ {n : ℕ} {T : List Row} {a b : ℕ} {k : Flip} {T′ : List Row} (s : 
 
   -- a flip leaves a stage
   pub flip-stage : Stage n T′
-  flip-stage = flipped s exchanged
+  flip-stage = exchanged-stage s exchanged
 
   -- which uses the same corners
   pub flip-used : {v : ℕ} → Used T v ↔ Used T′ v
@@ -287,7 +287,7 @@ module _ {n : ℕ} {T′ : List Row} {k : Flip} (s : Stage n T′) (l : Undoable
   pub undone : Undone n T′ k (put-rows k T′)
   undone = record {
     is = refl;
-    stage = flipped s back;
+    stage = exchanged-stage s back;
     a = a;
     b = b;
     flips = record {

@@ -11,9 +11,12 @@ use Rattle.surface.specs.Stage.{Stage}
 use Rattle.surface.specs.Euler.{Euler}
 
 -- "a closed oriented skin with the same corners and Euler number": a stage before and after, of as many rows
-pub record SkinKept (n : ℕ) (T T′ : List Row) : Type 0 where
+pub record StageKept (n : ℕ) (T T′ : List Row) : Type 0 where
   pub before : Stage n T
   pub after : Stage n T′
   pub size : length T′ ≡ length T
   pub used : {v : ℕ} → Used T v ↔ Used T′ v
-  pub euler : {χ : ℤ} → Euler T χ → Euler T′ χ
+  -- the Euler number is there, and the same
+  pub χ : ℤ
+  pub euler-before : Euler T χ
+  pub euler-after : Euler T′ χ

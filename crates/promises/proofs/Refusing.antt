@@ -79,7 +79,7 @@ use Rattle.flipped.specs.declared.FlipRefusal.the-variants.{EdgeMissing, EdgeBl
 use Rattle.flipped.specs.declared.Flipped.{Flipped}
 use Rattle.flipped.specs.declared.Flipped.the-variants as flipped
 use Rattle.flipped.specs.Number.{number}
-use Rattle.flipped.specs.Answer as flips
+use Rattle.flipped.specs.Answer as flip-answer
 use Rattle.flipped.proofs.Telling.{flipped-apart, stopping-other, stops as flip-stops}
 use Rattle.fliplog.specs.Layout.{flip-log}
 use Rattle.flip.specs.Refused.{FlipRefused, missing, blocked}
@@ -103,12 +103,12 @@ replay-same {a = regrown.Done k} w r p = absurd (refused-done r (sym p))
 replay-same {a = regrown.Stopped k} w r p = absurd (failing-other k r p)
 replay-same {a = regrown.Refused e} w r p = replays.refused-same w
 
-flip-same : {n : ℕ} {t edges l : List ℕ} {a : Flipped} {t′ l′ : List ℕ} → FlippedAs n t edges l a t′ l′ → (r : Refusal) → flips.told a ≡ refused r → (t′ ≡ t) × (l′ ≡ l)
+flip-same : {n : ℕ} {t edges l : List ℕ} {a : Flipped} {t′ l′ : List ℕ} → FlippedAs n t edges l a t′ l′ → (r : Refusal) → flip-answer.told a ≡ refused r → (t′ ≡ t) × (l′ ≡ l)
 flip-same {a = flipped.Done k} w r p = absurd (refused-done r (sym p))
 flip-same {a = flipped.Stopped q k} w r p = absurd (stopping-other q k r p)
 flip-same {a = flipped.Refused e} w r p = lists.refused-same w
 
-undo-same : {n : ℕ} {t log : List ℕ} {a : Flipped} {t′ : List ℕ} → UndoneAs n t log a t′ → (r : Refusal) → flips.told a ≡ refused r → t′ ≡ t
+undo-same : {n : ℕ} {t log : List ℕ} {a : Flipped} {t′ : List ℕ} → UndoneAs n t log a t′ → (r : Refusal) → flip-answer.told a ≡ refused r → t′ ≡ t
 undo-same {a = flipped.Done k} w r p = absurd (refused-done r (sym p))
 undo-same {a = flipped.Stopped q k} w r p = absurd (stopping-other q k r p)
 undo-same {a = flipped.Refused e} w r p = undoes.refused-same w
@@ -148,15 +148,15 @@ undo-by n t log (all w e) = absurd (flipped-apart .finished-stopped (sym e))
 undo-by n t log (some done i rest q w f e) = sym (stopped-at e) ∙ f .1
 
 flip-fails : {n : ℕ} {t edges l : List ℕ} {a : Flipped} {t′ l′ : List ℕ} → FlippedAs n t edges l a t′ l′ → (r : FlipRefusal) →
-    FailsOf (number r) (flip-refusals n t edges l) (λ k s. Followed (flipping n t edges l) (flipped.Stopped r k) s) (λ s. (t′ ≡ flat (s .table)) × (l′ ≡ in-front flip-log (s .log) l)) (flips.told a)
+    FailsOf (number r) (flip-refusals n t edges l) (λ k s. Followed (flipping n t edges l) (flipped.Stopped r k) s) (λ s. (t′ ≡ flat (s .table)) × (l′ ≡ in-front flip-log (s .log) l)) (flip-answer.told a)
 flip-fails {n} {t} {edges} {l} {a} w r =
-    let f = stops-exactly (flipping n t edges l) (λ e g. g) (λ h. h .0) flipped-apart (w .outcome) (λ a₂ b x. lists.flipped-one w (record { outcome = x }) .0) flips.told r (λ k. refl) (flip-stops a r) in
+    let f = stops-exactly (flipping n t edges l) (λ e g. g) (λ h. h .0) flipped-apart (w .outcome) (λ a₂ b x. lists.flipped-one w (record { outcome = x }) .0) flip-answer.told r (λ k. refl) (flip-stops a r) in
     record { when = f .when; only = λ k p. (let z = f .only k p in (z .0, z .1, z .2, (ap (λ (b : TableAndLog). b .table) (z .3), ap (λ (b : TableAndLog). b .log) (z .3)))) }
 
 undo-fails : {n : ℕ} {t log : List ℕ} {a : Flipped} {t′ : List ℕ} → UndoneAs n t log a t′ → (r : FlipRefusal) →
-    FailsOf (number r) (undo-refusals n t log) (λ k T. Followed (undoing n t log) (flipped.Stopped r k) T) (λ T. t′ ≡ flat T) (flips.told a)
+    FailsOf (number r) (undo-refusals n t log) (λ k T. Followed (undoing n t log) (flipped.Stopped r k) T) (λ T. t′ ≡ flat T) (flip-answer.told a)
 undo-fails {n} {t} {log} {a} w r =
-    stops-exactly (undoing n t log) (λ e g. g) (λ h. h .0) flipped-apart (w .outcome) (λ a₂ b x. undoes.undid-one w (record { outcome = x }) .0) flips.told r (λ k. refl) (flip-stops a r)
+    stops-exactly (undoing n t log) (λ e g. g) (λ h. h .0) flipped-apart (w .outcome) (λ a₂ b x. undoes.undid-one w (record { outcome = x }) .0) flip-answer.told r (λ k. refl) (flip-stops a r)
 
 -- an exact sum
 exact-refuses : {xs : List ℤ} {t : List ℕ} {a : Told} → ExactReport xs t a → Refuses (refusals-at false xs t) a
@@ -292,11 +292,11 @@ demand-one = record {
     λ k p. recover-stopped k (rw (recovers.told-stopped a p) at w) cut,
   );
   job = λ w. job-refuses w;
-  flip-list = λ {n} {t} {edges} {l} {a} w. follows-refuse flips.flipped flips.told (λ e. refl) (λ k. refl) stopping-other a (outcome-did (flipping n t edges l) (w .outcome));
+  flip-list = λ {n} {t} {edges} {l} {a} w. follows-refuse flip-answer.flipped flip-answer.told (λ e. refl) (λ k. refl) stopping-other a (outcome-did (flipping n t edges l) (w .outcome));
   flip-same = λ w r p. flip-same w r p;
   flip-fails = λ w r. flip-fails w r;
   flip-only = λ {n} {t} {edges} {l} w r k p. flip-by n t edges l (flip-fails w r .only k p .2);
-  undo-flips = λ {n} {t} {log} {a} w. follows-refuse flips.flipped flips.told (λ e. refl) (λ k. refl) stopping-other a (outcome-did (undoing n t log) (w .outcome));
+  undo-flips = λ {n} {t} {log} {a} w. follows-refuse flip-answer.flipped flip-answer.told (λ e. refl) (λ k. refl) stopping-other a (outcome-did (undoing n t log) (w .outcome));
   undo-same = λ w r p. undo-same w r p;
   undo-fails = λ w. undo-fails w UndoFails;
   undo-only = λ {n} {t} {log} w r k p. undo-by n t log (undo-fails w r .only k p .2);

@@ -68,7 +68,7 @@ use Rattle.flipped.specs.declared.FlipRefusal.the-variants.{EdgeMissing, EdgeBl
 use Rattle.flipped.specs.declared.Flipped.{Flipped}
 use Rattle.flipped.specs.declared.Flipped.the-variants as flipped
 use Rattle.flipped.specs.Number.{number}
-use Rattle.flipped.specs.Answer as flips
+use Rattle.flipped.specs.Answer as flip-answer
 use Rattle.fliplog.specs.Layout.{flip-log}
 use Rattle.fliplist.specs.Outcome.{flip-refusals, flipping, FlippedAs}
 use Rattle.undoflips.specs.Outcome.{undo-refusals, undoing, UndoneAs}
@@ -79,7 +79,7 @@ use Rattle.logrecords.specs.Outcome.{open-refusals, OpenedLog, LineStands, Next
 use Rattle.logreader.specs.declared.Reader.{Reader}
 use Rattle.logreader.specs.Outcome.{Asked, each-refusals, EachRecord}
 
--- the number i and a count are told exactly when no refusal of the list holds and the items that a call follows stop after so many; what these led to is left
+-- the number i and a count are told exactly when none in the list of refusals holds and the items that a call follows stop after so many; what these led to is left
 pub record FailsOf {S : Type 0} (i : ℕ) (l : Refusals) (Stops : ℕ → S → Type 0) (Left : S → Type 0) (v : Told) : Type 0 where
   pub when : (k : ℕ) (s : S) → First l Passes → Stops k s → v ≡ stopped-as i k
   pub only : (k : ℕ) → v ≡ stopped-as i k → First l Passes × (s : S) × Stops k s × Left s
@@ -136,20 +136,20 @@ pub record DemandOne : Type 0 where
       × ((k : ℕ) → recoveries.told a ≡ recoveries.fails-after k → First (recover-refusals (asked o) xs t (length l) b) Passes × (T : List Row) × Followed (replaying (corners xs) t log) (Stopped k) T
       × (t′ ≡ zeroed T t) × (l′ ≡ take (room-for k) log ++ drop (room-for k) l))
   pub job : {b : List ℕ} {a : Job} → JobAnswered b a → RefusesJob (job-refusals b) (jobs.told a)
-  -- flipping a list: 30 and 31 are told with the flips done, and are no refusals of the list
-  pub flip-list : {n : ℕ} {t edges l : List ℕ} {a : Flipped} {t′ l′ : List ℕ} → FlippedAs n t edges l a t′ l′ → Refuses (flip-refusals n t edges l) (flips.told a)
-  pub flip-same : {n : ℕ} {t edges l : List ℕ} {a : Flipped} {t′ l′ : List ℕ} → FlippedAs n t edges l a t′ l′ → (r : Refusal) → flips.told a ≡ refused r → (t′ ≡ t) × (l′ ≡ l)
-  -- each exactly when no refusal of the list holds and the listed edges stop by it after so many flips; the rows reached and the records are left
+  -- flipping a list of edges: 30 and 31 are told with the flips done, and are not in the list of refusals
+  pub flip-list : {n : ℕ} {t edges l : List ℕ} {a : Flipped} {t′ l′ : List ℕ} → FlippedAs n t edges l a t′ l′ → Refuses (flip-refusals n t edges l) (flip-answer.told a)
+  pub flip-same : {n : ℕ} {t edges l : List ℕ} {a : Flipped} {t′ l′ : List ℕ} → FlippedAs n t edges l a t′ l′ → (r : Refusal) → flip-answer.told a ≡ refused r → (t′ ≡ t) × (l′ ≡ l)
+  -- each exactly when none in the list of refusals holds and the list of edges stops by it after so many flips; the rows reached and the records are left
   pub flip-fails : {n : ℕ} {t edges l : List ℕ} {a : Flipped} {t′ l′ : List ℕ} → FlippedAs n t edges l a t′ l′ → (r : FlipRefusal) →
-      FailsOf (number r) (flip-refusals n t edges l) (λ k s. Followed (flipping n t edges l) (flipped.Stopped r k) s) (λ s. (t′ ≡ flat (s .table)) × (l′ ≡ in-front flip-log (s .log) l)) (flips.told a)
+      FailsOf (number r) (flip-refusals n t edges l) (λ k s. Followed (flipping n t edges l) (flipped.Stopped r k) s) (λ s. (t′ ≡ flat (s .table)) × (l′ ≡ in-front flip-log (s .log) l)) (flip-answer.told a)
   -- and no other number is told with a count
-  pub flip-only : {n : ℕ} {t edges l : List ℕ} {a : Flipped} {t′ l′ : List ℕ} → FlippedAs n t edges l a t′ l′ → (r : FlipRefusal) (k : ℕ) → flips.told a ≡ flips.stopped r k → (r ≡ EdgeMissing) ⊎ (r ≡ EdgeBlocked)
-  -- undoing a flip log: 32 is told with the records undone, and is no refusal of the list
-  pub undo-flips : {n : ℕ} {t log : List ℕ} {a : Flipped} {t′ : List ℕ} → UndoneAs n t log a t′ → Refuses (undo-refusals n t log) (flips.told a)
-  pub undo-same : {n : ℕ} {t log : List ℕ} {a : Flipped} {t′ : List ℕ} → UndoneAs n t log a t′ → (r : Refusal) → flips.told a ≡ refused r → t′ ≡ t
+  pub flip-only : {n : ℕ} {t edges l : List ℕ} {a : Flipped} {t′ l′ : List ℕ} → FlippedAs n t edges l a t′ l′ → (r : FlipRefusal) (k : ℕ) → flip-answer.told a ≡ flip-answer.stopped r k → (r ≡ EdgeMissing) ⊎ (r ≡ EdgeBlocked)
+  -- undoing a flip log: 32 is told with the records undone, and is not in the list of refusals
+  pub undo-flips : {n : ℕ} {t log : List ℕ} {a : Flipped} {t′ : List ℕ} → UndoneAs n t log a t′ → Refuses (undo-refusals n t log) (flip-answer.told a)
+  pub undo-same : {n : ℕ} {t log : List ℕ} {a : Flipped} {t′ : List ℕ} → UndoneAs n t log a t′ → (r : Refusal) → flip-answer.told a ≡ refused r → t′ ≡ t
   pub undo-fails : {n : ℕ} {t log : List ℕ} {a : Flipped} {t′ : List ℕ} → UndoneAs n t log a t′ →
-      FailsOf 32 (undo-refusals n t log) (λ k T. Followed (undoing n t log) (flipped.Stopped UndoFails k) T) (λ T. t′ ≡ flat T) (flips.told a)
-  pub undo-only : {n : ℕ} {t log : List ℕ} {a : Flipped} {t′ : List ℕ} → UndoneAs n t log a t′ → (r : FlipRefusal) (k : ℕ) → flips.told a ≡ flips.stopped r k → r ≡ UndoFails
+      FailsOf 32 (undo-refusals n t log) (λ k T. Followed (undoing n t log) (flipped.Stopped UndoFails k) T) (λ T. t′ ≡ flat T) (flip-answer.told a)
+  pub undo-only : {n : ℕ} {t log : List ℕ} {a : Flipped} {t′ : List ℕ} → UndoneAs n t log a t′ → (r : FlipRefusal) (k : ℕ) → flip-answer.told a ≡ flip-answer.stopped r k → r ≡ UndoFails
   pub open-log : {b : List ℕ} {a : Opened} → OpenedLog b a → Refuses (open-refusals b) (told-opened a)
   -- 12 exactly where a byte follows the place and no record's line stands there; by a reader too, at its own place
   pub next-record : {b : List ℕ} {at : ℕ} {a : Next} → NextRecord b at a → (at < length b → ((ns : List ℕ) → ¬ LineStands b at ns) → told-next a ≡ refused-as 12)

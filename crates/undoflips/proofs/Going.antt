@@ -1,5 +1,5 @@
 -- The records of a flip log undone one by one, the last first: after so many, the table is that reached, and the chains are its own.
-use mathlib.Core.Path.{_≡_, refl, sym, _∙_}
+use mathlib.Core.Path.{_≡_, refl, _∙_}
 use mathlib.Core.Bool.{true, false}
 use mathlib.Core.List.{List, reverse}
 use Prim.Native.Nat.{ℕ, _+_, _-_, _*_, _≤_, _<_}
@@ -7,17 +7,17 @@ use native.Mathlib.Omega.{arith}
 use lib.ListN.{length, drop, length-reverse}
 use Rattle.follow.proofs.Leading.{leads-keep}
 use Rattle.follow.proofs.Upto.{Upto, upto-none, upto-all, upto-fails, upto-more}
-use Rattle.surface.specs.Rows.{rows, flat}
+use Rattle.surface.specs.Rows.{rows}
 use Rattle.surface.specs.Stage.{Stage}
 use Rattle.surface.specs.InnerStageTable.{StageTable}
-use Rattle.surface.proofs.Flat.{flat-rows}
 use Rattle.flips.specs.Flip.{Flip}
 use Rattle.flips.proofs.Flips.{undone, not-undone}
-use Rattle.slots.proofs.Slots.{whole-rows}
 use Rattle.neighbours.specs.Around.{Charted}
 use Rattle.laid.specs.Laid.{count, items}
 use Rattle.laid.proofs.Laws.{first-length, items-back}
 use Rattle.chart.specs.Chart.{InChains}
+use Rattle.chart.proofs.Looking.{chained-flat}
+use Rattle.flip.proofs.Flipping.{stage-charted}
 use Rattle.flipped.specs.declared.FlipRefusal.the-variants.{UndoFails}
 use Rattle.flipped.specs.declared.Flipped.the-variants.{Done, Stopped}
 use Rattle.fliplog.specs.Layout.{width, flip-in, flip-log}
@@ -30,10 +30,6 @@ pub record Going (t log : List ℕ) (done : ℕ) (t′ last prev : List ℕ) : T
   pub upto : (n : ℕ) → StageTable n t → Upto (undoing n t log) done (rows t′)
   pub size : length t′ ≡ length t
   pub chains : InChains t′ last prev
-
--- a whole table is its rows' numbers
-chained-flat : {t last prev : List ℕ} → InChains t last prev → t ≡ flat (rows t)
-chained-flat {t} k = sym (flat-rows (length (rows t)) t (sym (whole-rows t (k .whole .threes))))
 
 module _ (t log : List ℕ) (g : AnyStage t) where
   many-items : length (reverse (items flip-log log)) ≡ count flip-log log
@@ -48,11 +44,7 @@ module _ (t log : List ℕ) (g : AnyStage t) where
     stage n s = leads-keep (Stage n) (λ T T₁ k z u. u .stage) (s .stage) (w .upto n s .led)
 
     pub charted : Charted t′ last prev
-    charted = record {
-      corners = g .corners;
-      table = record { count = sym (whole-rows t′ (w .chains .whole .threes)); stage = stage (g .corners) (g .table) };
-      chained = w .chains .chained;
-    }
+    charted = stage-charted (stage (g .corners) (g .table)) (w .chains)
 
     pub done-all : count flip-log log ≤ done → UndoneOn t log (Done done) t′
     done-all h = record { followed = λ n s. record { state = rows t′; reached = upto-all (undoing n t log) (w .upto n s) (omega (arith, many-items, h)); left = chained-flat (w .chains) } }

@@ -24,7 +24,7 @@ use Rattle.flipped.specs.declared.Flipped.the-variants.{Refused}
 use Rattle.flipped.specs.Answer.{told, FlipsTold}
 use Rattle.flipped.proofs.Telling.{flipped-apart, did}
 use Rattle.fliplog.specs.Layout.{flip-log}
-use Rattle.flips.specs.Kept.{SkinKept}
+use Rattle.flips.specs.Kept.{StageKept}
 use Rattle.flips.proofs.Keeping.{kept-none, kept-on, undo-keeps}
 use Rattle.fliplist.proofs.Keeping.{whole-table, kept-flat}
 use Rattle.undoflips.specs.Outcome.{UndoFits, undo-refusals, undoing, UndoneAs}
@@ -62,7 +62,7 @@ passed-table n t log f = whole-table n t (λ m. passed verdicts _ _ f .0 (λ k. 
 pub undone-left : {n : ℕ} {t log : List ℕ} {a : Flipped} {t′ : List ℕ} → UndoneAs n t log a t′ → {k : ℕ} → FlipsTold k (told a) → UndoneLeft n t log k t′
 undone-left {n} {t} {log} {a} {t′} w {k} d =
     let o = outcome-upto (undoing n t log) flipped-apart (did a d) (w .outcome) in
-    let s : SkinKept n (rows t) (o .1) = leads-keep (SkinKept n (rows t)) (λ T T′ i m u. kept-on m (undo-keeps u)) (kept-none (o .0 .1)) (o .2 .led) in
+    let s : StageKept n (rows t) (o .1) = leads-keep (StageKept n (rows t)) (λ T T′ i m u. kept-on m (undo-keeps u)) (kept-none (o .0 .1)) (o .2 .led) in
     let e = kept-flat s (passed-table n t log (o .0 .0)) (o .3) in
     record {
       logged = let h = o .2 .within in let i = length-reverse (items flip-log log) in let j = first-length flip-log (count flip-log log) log in omega arith;

@@ -8,7 +8,7 @@ use Rattle.surface.specs.Rows.{rows}
 use Rattle.flips.specs.Undo.{Undone}
 use Rattle.laid.specs.Laid.{count, items}
 use Rattle.fliplog.specs.Layout.{flip-log}
-use Rattle.flips.specs.Kept.{SkinKept}
+use Rattle.flips.specs.Kept.{StageKept}
 
 -- what k records undone leave in the table t
 pub record UndoneLeft (n : ℕ) (t log : List ℕ) (k : ℕ) (t′ : List ℕ) : Type 0 where
@@ -16,4 +16,4 @@ pub record UndoneLeft (n : ℕ) (t log : List ℕ) (k : ℕ) (t′ : List ℕ) :
   -- the last k records are undone, the last first, which leads from t to t′
   pub undone : Leads (Undone n) (rows t) (take k (reverse (items flip-log log))) (rows t′)
   pub same-table : length t′ ≡ length t
-  pub kept : SkinKept n (rows t) (rows t′)
+  pub kept : StageKept n (rows t) (rows t′)
