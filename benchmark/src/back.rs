@@ -9,7 +9,7 @@ use flaxglimmer::Refusal::{CountsOutside, RoomShort};
 use flaxglimmer::Unfinished::{self, Refused, Stopped};
 
 /// The third corner of a row that has the directed edge.
-fn third(row: &[u32], from: u32, to: u32) -> Option<u32> {
+pub fn third(row: &[u32], from: u32, to: u32) -> Option<u32> {
     (0..3).find(|&k| row[k] == from && row[(k + 1) % 3] == to).map(|k| row[(k + 2) % 3])
 }
 

@@ -15,7 +15,7 @@ const SMALLER: usize = 1_000;
 const ROOMY: usize = 8;
 
 /// Damage at any place: a number changed, a row dropped, turned over or repeated, a corner of two rows exchanged, a corner put on another.
-fn spoil(table: &mut Vec<u32>, corners: usize, chance: &mut Chance) {
+pub fn spoil(table: &mut Vec<u32>, corners: usize, chance: &mut Chance) {
     let (at, other) = (chance.below(table.len()), chance.below(table.len()));
     let row = 3 * chance.below(table.len() / 3);
     match chance.below(6) {

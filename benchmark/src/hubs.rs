@@ -132,7 +132,7 @@ impl Asked {
 
 /// A sphere on which corner 0 has so many neighbours, and corner 1, one of them, so many. Where the corners suffice two of the latter's neighbours are
 /// common to both, so that the edge may be contracted; else nearly all of them are. With three and three there is the tetrahedron alone.
-fn hub(kept: usize, removed: usize) -> Vec<Row> {
+pub fn hub(kept: usize, removed: usize) -> Vec<Row> {
     let more = removed - 3;
     if kept == 3 && more == 0 {
         return tetrahedron();

@@ -1,13 +1,15 @@
 //! The benchmark: each proved call beside the same loops in ordinary Rust, in one process, on the same input; check, volume and log sheets also
-//! beside quick Rust, and the link test by itself also beside Rust that compares all with all. The samples of the sides take turns, and a median
-//! stands for each. The sides' answers are compared before anything is timed; with `compare` nothing else is done, and it goes on to damaged tables
-//! and logs, and to the link test of every edge.
+//! beside quick Rust, the link test by itself also beside Rust that compares all with all, and flips beside Rust that looks through the table. The
+//! samples of the sides take turns, and a median stands for each. The sides' answers are compared before anything is timed; with `compare` nothing
+//! else is done, and it goes on to damaged tables, logs and lists of edges, and to the link test of every edge.
 
 mod back;
 mod check;
 mod damage;
+mod damaged_flips;
 mod damaged_logs;
 mod figures;
+mod flips;
 mod hubs;
 mod logs;
 mod mailed;
@@ -16,6 +18,7 @@ mod quick_logs;
 mod sheet;
 mod skins;
 mod thin;
+mod turned;
 mod work;
 
 use apart::make::Skin;
@@ -126,8 +129,9 @@ fn refusal(unfinished: Unfinished) -> Refusal {
 struct Measured {
     call: &'static str,
     rows: usize,
-    /// In microseconds.
+    /// Of the samples the median, and the least, in microseconds.
     times: Sides<f64>,
+    least: Sides<f64>,
     work: Counted,
     quick_slots: Option<usize>,
 }
@@ -362,13 +366,14 @@ impl<'a> Sampled<'a> {
 
     fn measured(self) -> Measured {
         let Sampled { rows, call: Call { name, work, quick_slots, .. }, samples } = self;
-        Measured { call: name, rows, times: samples.map(|samples| median(samples.each)), work, quick_slots }
+        let sorted = samples.map(|samples| {
+            let mut each = samples.each;
+            each.sort_unstable_by(f64::total_cmp);
+            each
+        });
+        let times = sorted.clone().map(|each| each[each.len() / 2]);
+        Measured { call: name, rows, times, least: sorted.map(|each| each[0]), work, quick_slots }
     }
-}
-
-fn median(mut samples: Vec<f64>) -> f64 {
-    samples.sort_unstable_by(f64::total_cmp);
-    samples[samples.len() / 2]
 }
 
 /// Every call at every size: calls and sizes take turns too, so that a slow spell of the machine falls on all of them.
@@ -419,9 +424,9 @@ fn greatest<'a>(figures: impl Iterator<Item = (f64, &'a Measured)>) -> String {
     format!("{figure:.2} ({}, {} rows)", of.call, of.rows)
 }
 
-/// The targets against what was measured: the greatest ratio of all and of the link test at hubs, and the greatest growth of each call on shafts. No
-/// target stands for quick Rust, which does other work, nor for records one by one, each of which crosses the boundary by itself.
-fn close(shafts: &[Measured], others: &[Measured], hubs: &[Measured]) {
+/// The targets against what was measured: the greatest ratio of all, of the link test at hubs and of flips, and the greatest growth of each call on
+/// shafts. No target stands for quick Rust, which does other work, nor for records one by one, each of which crosses the boundary by itself.
+fn close(shafts: &[Measured], others: &[Measured], hubs: &[Measured], turned: &[Measured]) {
     let all = || shafts.iter().chain(others);
     println!("\n### Targets\n\n| What | Target | Greatest |\n|---|--:|--:|");
     for (calls, target, apart) in [("", RATIO.to_string(), false), (", records one by one", "none".into(), true)] {
@@ -430,6 +435,8 @@ fn close(shafts: &[Measured], others: &[Measured], hubs: &[Measured]) {
     }
     let ratio = greatest(hubs.iter().map(|one| (one.ratio(), one)));
     println!("| ratio of the link test at hubs to Rust that marks | {RATIO} | {ratio} |");
+    let ratio = greatest(turned.iter().map(|one| (one.ratio(), one)));
+    println!("| ratio of flips to Rust that keeps chains | {RATIO} | {ratio} |");
     let log_sheets = |one: &&Measured| one.call.ends_with("log sheet");
     for (calls, of) in [("check and volume", false), ("log sheets", true)] {
         let of_calls = all().filter(|one| log_sheets(one) == of);
@@ -453,12 +460,13 @@ fn skins_of(kind: &str, make: fn(usize) -> Skin) -> [Skin; skins::SIZES.len()] {
     })
 }
 
-/// Compares the sides' answers on every input, on damaged tables and logs, and of the link test on every edge, and times nothing.
+/// Compares the sides' answers on every input, on damaged tables, logs and lists of edges, and of the link test on every edge, and times nothing.
 fn compare() {
     let skins: Vec<Skin> = skins::KINDS.iter().flat_map(|&(kind, make)| skins_of(kind, make)).collect();
     let inputs: Vec<Input> = skins.iter().map(Input::of).collect();
     let honest: usize = inputs.iter().map(|input| input.calls().len()).sum();
-    let more = damage::compare(&skins) + damaged_logs::compare(&inputs) + hubs::compare(&skins);
+    let damaged = damage::compare(&skins) + damaged_logs::compare(&inputs) + damaged_flips::compare(&skins);
+    let more = damaged + hubs::compare(&skins) + turned::compare();
     println!("{} passed, 0 failed", honest + more);
 }
 
@@ -476,9 +484,9 @@ fn time() {
         print(kind, &all);
         all
     });
-    let hubs = hubs::time();
+    let (hubs, turned) = (hubs::time(), turned::time());
     let shafts = std::mem::take(&mut measured[0]);
-    close(&shafts, &measured.concat(), &hubs);
+    close(&shafts, &measured.concat(), &hubs, &turned);
 }
 
 fn main() -> ExitCode {
