@@ -519,9 +519,10 @@ def flip(file, edges, sheet, log, **prepared):
     with named(edges):
         listed = flips.read_edges(files.bytes_of(edges, flips.MOST_LIST_BYTES))
     skin.check()
-    turned, done = flips.flip(skin, listed, edges)
-    told = turned_outcome(turned, len(listed.numbers), "done", flips.Flip.in_words)
-    return turned_written(told, turned, {sheet: files.sheet_text(turned.left()), log: flips.log_text(skin, done)})
+    led, done = flips.flip(skin, listed, edges)
+    told = led_outcome(led, len(listed.numbers), "done", flips.Flip.in_words)
+    texts = {log: flips.log_text(skin, done), sheet: files.sheet_text(led.left())}  # no flipped skin without its log
+    return led_written(told, led, "the flips before it", texts)
 
 
 @command("undo")
@@ -533,33 +534,38 @@ def undo(file, log, sheet, **prepared):
     apart([file, log], [sheet])
     skin = opened(file, **prepared)
     with named(log):
-        counts, listed = flips.read_log(files.bytes_of(log, flips.MOST_LOG_BYTES), log)
+        counts, listed = flips.read_log(files.bytes_of(log, flips.MOST_FLIP_LOG_BYTES), log)
     of_this_skin(log, counts, skin, flips.SAME)
     skin.check()
-    turned = flips.undo(skin, listed, log)
-    told = turned_outcome(turned, len(listed.numbers), "undone", flips.Flip.undone_in_words)
-    return turned_written(told, turned, {sheet: files.sheet_text(turned.left())})
+    led = flips.undo(skin, listed, log)
+    told = led_outcome(led, len(listed.numbers), "undone", flips.Flip.undone_in_words)
+    return led_written(told, led, "the flips behind it undone", {sheet: files.sheet_text(led.left())})
 
 
-def turned_outcome(turned: flips.Turned, listed: int, what: str, in_words) -> Outcome:
+def led_outcome(led: flips.Led, listed: int, what: str, in_words) -> Outcome:
     """The flips one by one, and the volume before and after them; of a refused one also why."""
-    skin, count, (first, last), change = turned.skin, len(turned.flips), turned.volumes(), turned.change()
-    told = refusal(turned.refused) if turned.refused else Outcome({"status": 0}, notes=told_of(skin, first))
-    of = f" of {listed:,}" if turned.refused else ""
+    skin, count, (first, last), change = led.skin, len(led.flips), led.volumes(), led.change()
+    told = refusal(led.refused) if led.refused else Outcome({"status": 0}, notes=told_of(skin, first))
+    of = f" of {listed:,}" if led.refused else ""
     told.lines = [f"{skin.name}: {counted(count, 'flip')} {what}{of}"]
-    told.lines += [f"flip {at}: {in_words(one)}" for at, one in turned.flips]
+    told.lines += [f"flip {at}: {in_words(one)}" for at, one in led.flips]
     told.lines += facts("before", "after", [("volume, cubic metres", first, last), ("change, cubic metres", None, change)])
-    told.answer.update(file=skin.name, listed=listed, flips=count, log=[{"flip": at, **one.told()} for at, one in turned.flips], volume=[first, last], change=change)
+    told.answer.update(file=skin.name, listed=listed, flips=count, log=[{"flip": at, **one.told()} for at, one in led.flips], volume=[first, last], change=change)
     return told
 
 
-def turned_written(told: Outcome, turned: flips.Turned, texts: dict) -> Outcome:
-    """Writes what was asked: where a flip is refused, that has those before it and no others."""
+def led_written(told: Outcome, led: flips.Led, what: str, texts: dict) -> Outcome:
+    """Writes what was asked, in this order; where a flip is refused, says which flips that has."""
     texts.pop(None, None)
+    written = []
     for path, text in texts.items():
-        write(path, text)
-    if turned.refused and texts:
-        told.notes.insert(0, f"{' and '.join(map(shown, texts))} {'has' if len(texts) == 1 else 'have'} the flips before it and no others")
+        try:
+            write(path, text)
+        except UsageFault as fault:
+            raise UsageFault("; ".join([str(fault), *(f"{one} was written" for one in written)])) from None
+        written.append(shown(path))
+    if led.refused and written:
+        told.notes.insert(0, f"{' and '.join(written)} {'has' if len(written) == 1 else 'have'} {what} and no others")
     return told
 
 

@@ -333,6 +333,10 @@ def _fields(line: bytes, at: int, word: bytes, count: int) -> list:
 
 
 def _answer(data: bytes) -> Log:
+    first = data.partition(b"\n")[0]
+    word = first.split(b"\t")[0]
+    if word in logs.OTHERS and word not in (b"OK", b"NO"):
+        raise FileFault(f"no log of a thinning but {logs.OTHERS[word]}: {quoted(first)}", 1)
     if len(data) > LIMITS.MOST_TEXT:
         raise FileFault(f"no answer of the desk: it has over {LIMITS.MOST_TEXT:,} bytes")
     if re.fullmatch(rb"NO\t\d{1,3}\n", data):

@@ -17,10 +17,12 @@ from .refusals import FileFault, LineFault, OurFault, Refused
 from .skins import Skin
 
 MOST_LIST_BYTES = 1 << 20  # of a list of edges
-MOST_LOG_BYTES = 1 << 24  # of a flip log: more than the flips of the longest list take
+MOST_FLIP_LOG_BYTES = 1 << 24  # more than the flips of the longest list take
 
 FIRST, RECORD = Line(b"FLIPS", 2), Line(b"F", LIMITS.FLIP_WIDTH)
-EDGE = re.compile(rb"(\d{1,10})(?:[ \t]*,[ \t]*|[ \t]+)(\d{1,10})")
+NUMBER = rb"0*(0|[1-9]\d*)"
+EDGE = re.compile(NUMBER + rb"(?:[ \t]*,[ \t]*|[ \t]+)" + NUMBER)
+MOST_NUMBER = 2**32 - 1  # that a list may have
 MARK = b"\xef\xbb\xbf"  # that some editors put in front of a text
 
 MENDED = "mended.flips"
@@ -50,13 +52,16 @@ class Listed(NamedTuple):
 
 
 def read_edges(data: bytes) -> Listed:
-    """The edges of a list: two corner numbers a line, parted by blanks, a tab or a comma; what follows a # is skipped, and so are blank lines."""
+    """The edges of a list: two corner numbers a line, parted by blanks, a tab or a comma; what follows a # is skipped, and so are blank lines, and white
+    space at either end of a line. A line ends in a newline."""
     if len(data) > MOST_LIST_BYTES:
         raise FileFault(f"no list of edges: it has over {MOST_LIST_BYTES:,} bytes")
     if data.startswith(WIDE):
         raise FileFault("the file has 16 bits a letter: save it as plain text")
     edges, lines, places, byte = [], [], [], 0
     for at, line in enumerate(data.split(b"\n"), 1):
+        if b"\r" in line.rstrip(b"\r"):  # a # would skip all that follows
+            raise FileFault(f"a carriage return within the line, and lines end in newlines: {quoted(line)}", at)
         text = line.removeprefix(MARK if at == 1 else b"").partition(b"#")[0].strip()
         if text:
             edges.append(_edge(text, at))
@@ -70,8 +75,10 @@ def _edge(text: bytes, at: int) -> tuple[int, int]:
     typed, word = EDGE.fullmatch(text), text.split()[0]
     if at == 1 and word in (*OTHERS, FIRST.word):
         raise FileFault(f"no list of edges but {OTHERS.get(word, 'a flip log, which `flaxglimmer undo` reads')}: {quoted(text)}", at)
-    if not typed or max(map(int, typed.groups())) >= 2**32:
-        raise FileFault(f"not two corner numbers of 32 bits, parted by blanks, a tab or a comma: {quoted(text)}", at)
+    if not typed:
+        raise FileFault(f"not two corner numbers from 0, parted by blanks, a tab or a comma: {quoted(text)}", at)
+    if max(map(len, typed.groups())) > len(str(MOST_NUMBER)) or max(map(int, typed.groups())) > MOST_NUMBER:
+        raise FileFault(f"a corner number over {MOST_NUMBER:,}, which is too large: {quoted(text)}", at)
     return int(typed[1]), int(typed[2])
 
 
@@ -84,8 +91,8 @@ def log_text(skin: Skin, log) -> str:
 
 def read_log(data: bytes, path) -> tuple[tuple[int, int], Listed]:
     """The counts that a flip log tells, corners and rows, and its records."""
-    if len(data) > MOST_LOG_BYTES:
-        raise FileFault(f"no flip log: it has over {MOST_LOG_BYTES:,} bytes")
+    if len(data) > MOST_FLIP_LOG_BYTES:
+        raise FileFault(f"no flip log: it has over {MOST_FLIP_LOG_BYTES:,} bytes")
     *lines, tail = data.split(b"\n")
     found, places, byte = [], [], 0
     for at, line in enumerate(lines + [tail] if tail or not lines else lines, 1):
@@ -153,7 +160,7 @@ def _turns(row) -> list[tuple]:
 
 
 def meant(record) -> list[Flip]:
-    """The flips that may have this record: its two rows are the two sides of an edge. Of one that was done there is no other."""
+    """The flips that may have this record: its two rows are the two sides of an edge, and c and d differ. Of one that was done there is no other."""
     first, *rows = record.tolist()
     before, second = (tuple(rows[:3]), tuple(rows[4:])), rows[3]
     back = {(b, a): d for b, a, d in _turns(before[1])}
@@ -161,7 +168,7 @@ def meant(record) -> list[Flip]:
 
 
 @dataclass
-class Turned:
+class Led:
     """A skin, and the rows that flips or their undoing led to; the flips that were done or undone, in that order, each by its number; and the refusal of
     the one that stopped it, None where none did."""
 
@@ -183,14 +190,14 @@ class Turned:
     def hold(self, back) -> None:
         """The rows are a first table over the skin's corners, and this act leads from them back to the skin's."""
         try:
-            led = back()
+            reached = back()
         except Refused as refused:
             raise OurFault(f"what flips did is not taken back: {refused}") from None
-        if calls.check(self.rows, self.skin.corners) or not np.array_equal(led, self.skin.rows):
+        if calls.check(self.rows, self.skin.corners) or not np.array_equal(reached, self.skin.rows):
             raise OurFault("what flips did does not lead back to the skin's rows")
 
 
-def flip(skin: Skin, listed: Listed, path) -> tuple[Turned, np.ndarray]:
+def flip(skin: Skin, listed: Listed, path) -> tuple[Led, np.ndarray]:
     """The skin with the listed edges flipped up to the first that is refused, and the log of those flips."""
     refused = None
     try:
@@ -202,12 +209,12 @@ def flip(skin: Skin, listed: Listed, path) -> tuple[Turned, np.ndarray]:
     done = [_one(record) for record in log]
     if refused:
         refused.faults, refused.notes = (_refused_edge(refused, skin, listed, done, path),), skin.told()
-    turned = Turned(skin, rows, list(enumerate(done)), refused)
-    turned.hold(lambda: calls.undo_flips(rows, len(skin.corners), log))
-    return turned, log
+    led = Led(skin, rows, list(enumerate(done)), refused)
+    led.hold(lambda: calls.undo_flips(rows, len(skin.corners), log))
+    return led, log
 
 
-def undo(skin: Skin, listed: Listed, path) -> Turned:
+def undo(skin: Skin, listed: Listed, path) -> Led:
     """The skin with the flips of a log undone, the last first, up to the first that is refused."""
     log, refused = listed.numbers, None
     try:
@@ -218,16 +225,16 @@ def undo(skin: Skin, listed: Listed, path) -> Turned:
         rows, undone, refused = stop.rows, stop.records, stop
         refused.faults, refused.notes = (_refused_record(refused, skin, listed, path),), skin.told()
     flips = [(at, _one(log[at])) for at in range(len(log) - 1, len(log) - 1 - undone, -1)]
-    turned = Turned(skin, rows, flips, refused)
-    turned.hold(lambda: calls.flip_list(rows, len(skin.corners), [(one.a, one.b) for _, one in reversed(flips)])[0])
-    return turned
+    led = Led(skin, rows, flips, refused)
+    led.hold(lambda: calls.flip_list(rows, len(skin.corners), [(one.a, one.b) for _, one in reversed(flips)])[0])
+    return led
 
 
 def _one(record) -> Flip:
     """The flip of a record that was done or undone."""
     found = meant(record)
     if len(found) != 1:
-        raise OurFault(f"a flip whose rows are not the two sides of one edge: {record.tolist()}")
+        raise OurFault(f"a record that is not of one flip: {record.tolist()}")
     return found[0]
 
 
@@ -254,15 +261,15 @@ def _before(count: int, what: str) -> str:
 
 def _missing(finder: Finder, a: int, b: int, done: list[Flip]) -> tuple[list[int], str]:
     """Why an edge is missing, and its corners."""
-    if a == b:
-        return [a], f"its two corners are one, {finder.corner(a)}"
-    unused = [corner for corner in (a, b) if corner not in finder.rows]
+    unused = [corner for corner in dict.fromkeys((a, b)) if corner not in finder.rows]
     if unused:
         return unused, f"corner {unused[0]} is in no row, and there are {len(finder.corners)} corners, counted from 0"
+    if a == b:
+        return [a], f"its two corners are one, {finder.corner(a)}"
     if (a, b) in finder.directed():
         raise OurFault("the library refuses by 30, and no place of it is found")
-    turned = next((f"; flip {at} made it {one.c} {one.d}" for at, one in _last(done) if {one.a, one.b} == {a, b}), "")
-    return [a, b], f"no row has both {finder.corner(a)} and {finder.corner(b)}{turned}"
+    became = next((f"; flip {at} made it {one.c} {one.d}" for at, one in _last(done) if {one.a, one.b} == {a, b}), "")
+    return [a, b], f"no row has both {finder.corner(a)} and {finder.corner(b)}{became}"
 
 
 def _blocked(finder: Finder, a: int, b: int, done: list[Flip]) -> tuple[list[int], str]:
@@ -293,8 +300,9 @@ def _not_undone(finder: Finder, record) -> str:
     if past:
         return f"it has place {past[0]}, and there are {len(rows)} rows, counted from 0"
     if not found:
-        first, second = (_row(record[start : start + 3].tolist()) for start in (1, 5))
-        return f"its rows {first} and {second} are not the two sides of an edge"
+        first, second = (record[start : start + 3].tolist() for start in (1, 5))
+        why = "have the same corners" if sorted(first) == sorted(second) else "are not the two sides of an edge"
+        return f"its rows {_row(first)} and {_row(second)} {why}"
     for one in found:
         if all(rows[place] == row for place, row in zip(one.places, one.after)):
             if (one.a, one.b) not in finder.directed():

@@ -383,6 +383,8 @@ LISTS = [
     (b"# \xc3\xa9 \xff\n0 1 # \xc3\xa9\n", [(0, 1)], [2]),
     (b"4294967295 0\n", [(2**32 - 1, 0)], [1]),
     (b"007 8\n", [(7, 8)], [1]),
+    (b"0" * 5000 + b"7, " + b"0" * 5000 + b"\n", [(7, 0)], [1]),
+    (b"\r\n\r\r\n 0 1 #\r\n\x0b2 5\x0c\r", [(0, 1), (2, 5)], [3, 4]),
 ]  # fmt: skip
 
 
@@ -393,7 +395,8 @@ def test_an_edge_a_line_parted_by_blanks_a_tab_or_a_comma(data, edges, lines):
     assert listed.bytes == [sum(len(line) + 1 for line in data.split(b"\n")[: line - 1]) for line in lines]
 
 
-PARTED = "not two corner numbers of 32 bits, parted by blanks, a tab or a comma"
+PARTED = "not two corner numbers from 0, parted by blanks, a tab or a comma"
+LARGE = "a corner number over 4,294,967,295, which is too large"
 NO_LISTS = [
     (b"0\n", 1, f"{PARTED}: '0'"),
     (b"0 1\n2 5 3\n", 2, f"{PARTED}: '2 5 3'"),
@@ -402,12 +405,14 @@ NO_LISTS = [
     (b"0,1,\n", 1, PARTED),
     (b"0 -1\n", 1, f"{PARTED}: '0 -1'"),
     (b"0 1.0\n", 1, PARTED),
-    (b"0 4294967296\n", 1, PARTED),
-    (b"0 99999999999\n", 1, PARTED),
+    (b"0 4294967296\n", 1, f"{LARGE}: '0 4294967296'"),
+    (b"099999999999 0\n", 1, f"{LARGE}: '099999999999 0'"),
+    (b"0 " + b"9" * 5000 + b"\n", 1, LARGE),
     (b"edge 0 1\n", 1, PARTED),
     ("٠ ١\n".encode(), 1, PARTED),
     (b"\x1b[31m\n", 1, f"{PARTED}: '\\x1b[31m'"),
-    (b"0 1\r2 5\r", 1, f"{PARTED}: '0 1\\r2 5'"),
+    (b"0 1\r2 5\r", 1, "a carriage return within the line, and lines end in newlines: '0 1\\r2 5\\r'"),
+    (b"# two\r0 1\r2 5\r", 1, "a carriage return within the line"),
     ("0 1\n".encode("utf-16"), None, "the file has 16 bits a letter"),
     (b"#" * (2**20 + 1), None, "no list of edges: it has over 1,048,576 bytes"),
     (O_FLIPS, 1, "no list of edges but a flip log, which `flaxglimmer undo` reads: 'FLIPS\\t6\\t8'"),
@@ -444,7 +449,7 @@ def test_a_long_list_and_the_log_of_the_longest(tmp_path, run):
     # no list has more edges than one of four bytes a line, and no line of a flip log is longer than that of the last places and corners
     place, corner = LIMITS.MOST_ROWS - 1, LIMITS.MOST_CORNERS - 1
     longest = flips.RECORD.text([place, corner, corner, corner] * 2)
-    assert len("FLIPS\t999999\t999999\n") + flips.MOST_LIST_BYTES // 4 * len(longest) <= flips.MOST_LOG_BYTES
+    assert len("FLIPS\t999999\t999999\n") + flips.MOST_LIST_BYTES // 4 * len(longest) <= flips.MOST_FLIP_LOG_BYTES
 
 
 # Refused edges
@@ -456,7 +461,7 @@ REFUSED = [  # list, number, flips before it, its line and byte, corners, and wh
     (b"# twice\n0 1\n\n1,0\n", 30, 1, 4, 13, [1, 0], f"edge 1, counted from 0, is 1 0: no row has both corner 1 at {AT[1]} cm and corner 0 at {AT[0]} cm; flip 0 made it 2 4; 1 flip was done before it"),
     (b"0 1\n2 5\n0 1 # again\n", 30, 2, 3, 8, [0, 1], f"edge 2, counted from 0, is 0 1: no row has both corner 0 at {AT[0]} cm and corner 1 at {AT[1]} cm; flip 0 made it 2 4; 2 flips were done before it"),
     (b"0 1\n3 3\n", 30, 1, 2, 4, [3], f"edge 1, counted from 0, is 3 3: its two corners are one, corner 3 at {AT[3]} cm; 1 flip was done before it"),
-    (b"9 9\n", 30, 0, 1, 0, [9], "edge 0, counted from 0, is 9 9: its two corners are one, corner 9; 0 flips were done before it"),
+    (b"9 9\n", 30, 0, 1, 0, [9], "edge 0, counted from 0, is 9 9: corner 9 is in no row, and there are 6 corners, counted from 0; 0 flips were done before it"),
     (b"0 1\n0 6\n2 5\n", 30, 1, 2, 4, [6], "edge 1, counted from 0, is 0 6: corner 6 is in no row, and there are 6 corners, counted from 0; 1 flip was done before it"),
     (b"4294967295 7\n", 30, 0, 1, 0, [2**32 - 1, 7], "edge 0, counted from 0, is 4294967295 7: corner 4294967295 is in no row, and there are 6 corners"),
     (b"0 1\n5 3\n2 5\n", 31, 1, 2, 4, [2, 4], f"edge 1, counted from 0, is 5 3: corner 2 at {AT[2]} cm and corner 4 at {AT[4]} cm, opposite to it, are neighbours already, since flip 0; 1 flip was done before it"),
@@ -471,7 +476,7 @@ def test_a_refused_edge_is_told_and_the_flips_before_it_are_written(data, number
     told = run(*asked)
     lines = told.err.splitlines()
     assert told.exit == 1 and len(lines) == 4 and lines[0].startswith(f"refused, {number}: ") and lines[1].startswith(f"  a.edges, line {line}, byte {byte}: {why}")
-    assert lines[2] == "  out.sheet and out.flips have the flips before it and no others" and lines[3] == f"  hint: {faults.HINTS[number]}"
+    assert lines[2] == "  out.flips and out.sheet have the flips before it and no others" and lines[3] == f"  hint: {faults.HINTS[number]}"
     assert told.out.splitlines()[: before + 1] == [f"o.sheet: {before} flip{'' if before == 1 else 's'} done of {listed}", *DONE[:before]]
     rows = (tuples(O_ROWS), AFTER_ONE, AFTER_TWO)[before]
     assert volumes(told) == [1, 1, (0, 0, -1)[before]]
@@ -522,7 +527,9 @@ NOT_UNDONE = [  # log, flips undone, its line and byte, and why; the lines begin
     (LINES[0] + LINES[1][:-2] + b"5\n" + LINES[2], 1, 2, 10, "flip 0, counted from 0: its rows (0, 1, 2) and (0, 4, 5) are not the two sides of an edge; 1 flip was undone before it"),
     (O_FLIPS + LINES[2], 1, 3, 28, "flip 1, counted from 0: place 5 has row (5, 3, 2), where its flip left (3, 2, 1); 1 flip was undone before it"),
     (LINES[0] + LINES[1] + LINES[1] + LINES[2], 2, 2, 10, "flip 0, counted from 0: place 0 has row (0, 1, 2), where its flip left (2, 0, 4); 2 flips were undone before it"),
-    (LINES[0] + b"F\t0\t0\t1\t2\t3\t2\t1\t0\n", 0, 2, 10, "flip 0, counted from 0: its rows (0, 1, 2) and (2, 1, 0) are not the two sides of an edge"),
+    (LINES[0] + b"F\t0\t0\t1\t2\t3\t2\t1\t0\n", 0, 2, 10, "flip 0, counted from 0: its rows (0, 1, 2) and (2, 1, 0) have the same corners; 0 flips"),
+    (LINES[0] + b"F\t0\t0\t1\t2\t3\t1\t0\t2\n", 0, 2, 10, "flip 0, counted from 0: its rows (0, 1, 2) and (1, 0, 2) have the same corners; 0 flips"),
+    (LINES[0] + b"F" + b"\t0" * 8 + b"\n", 0, 2, 10, "flip 0, counted from 0: its rows (0, 0, 0) and (0, 0, 0) have the same corners; 0 flips"),
     (LINES[0] + b"F\t999999" + b"\t0" * 7 + b"\n", 0, 2, 10, "flip 0, counted from 0: it has place 999999, and there are 8 rows"),
 ]  # fmt: skip
 
@@ -535,7 +542,7 @@ def test_a_record_that_is_not_undone_is_told_and_those_undone_are_written(data, 
     assert told.exit == 1 and len(lines) == 4 and lines[0] == "refused, 32: a flip's record that is not undone"
     assert told.out.splitlines()[0] == f"f.sheet: {before} flip{'' if before == 1 else 's'} undone of {records}" and [line.partition(": ")[2] for line in told.out.splitlines()[1:-3]] == [line.partition(": ")[2] for line in UNDONE[:before]]
     assert (folder / "out.sheet").read_bytes() == sheet_of((AFTER_TWO, AFTER_ONE, O_ROWS)[before])
-    assert lines[1].startswith(f"  a.flips, line {line}, byte {byte}: {why}") and lines[2] == "  out.sheet has the flips before it and no others" and lines[3] == f"  hint: {faults.HINTS[32]}"
+    assert lines[1].startswith(f"  a.flips, line {line}, byte {byte}: {why}") and lines[2] == "  out.sheet has the flips behind it undone and no others" and lines[3] == f"  hint: {faults.HINTS[32]}"
     told = run(*asked, "--json").told
     (fault,) = told["faults"]
     assert (told["exit"], told["status"], told["flips"], len(told["log"]), fault["line"], fault["byte"]) == (1, 32, before, before, line, byte)
@@ -573,10 +580,10 @@ def test_every_record_that_is_not_undone_has_its_words(seed, field, more):
     assert counts == (corners, len(rows)) and listed.numbers.tolist() == log
     if calls.check(skin.rows, skin.corners):
         return  # a corner that no row uses: the command says so first
-    turned = flips.undo(skin, listed, "a.flips")
-    assert tuples(turned.rows) == left and len(turned.flips) == count and (turned.refused is None) == (status == 0)
+    led = flips.undo(skin, listed, "a.flips")
+    assert tuples(led.rows) == left and len(led.flips) == count and (led.refused is None) == (status == 0)
     if status:
-        (fault,) = turned.refused.faults
+        (fault,) = led.refused.faults
         assert fault.text.startswith(f"a.flips, line {len(log) + 1 - count}, byte {fault.byte}: flip {len(log) - 1 - count}, ") and text[fault.byte :].startswith(b"F\t")
 
 
@@ -684,6 +691,7 @@ def test_any_bytes_end_in_a_line_and_no_traceback(data):
     (["undo", "f.sheet", "o.flips", "--sheet", "f.sheet"], "never written over"),
     (["undo", "f.sheet", "o.flips", "--sheet", "link"], "never written over"),
     (["flip", "o.sheet", "o.edges", "--log", "none/new"], "cannot be written"),
+    (["flip", "o.sheet", "o.edges", "--sheet", "new.sheet", "--log", "none/new"], "new cannot be written: No such file or directory\n"),
     (["flip", "a.off", "o.edges"], "a.off: the file does not tell its unit"),
 ])  # fmt: skip
 def test_wrong_usage_ends_with_2_and_writes_nothing(arguments, message, folder, run, monkeypatch):
@@ -694,6 +702,12 @@ def test_wrong_usage_ends_with_2_and_writes_nothing(arguments, message, folder, 
     told = run(*arguments)
     assert told.exit == 2 and told.out == "" and message in told.err and "Traceback" not in told.err
     assert {path: path.read_bytes() for path in folder.iterdir()} == before
+
+
+def test_a_log_without_its_sheet_is_told(folder, run):
+    told = run("flip", folder / "o.sheet", folder / "o.edges", "--sheet", folder / "none" / "new.sheet", "--log", folder / "new.flips")
+    assert told.exit == 2 and told.out == "" and told.err == "flaxglimmer: new.sheet cannot be written: No such file or directory; new.flips was written\n"
+    assert (folder / "new.flips").read_bytes() == O_FLIPS
 
 
 def test_files_that_cannot_be_read_end_with_3(folder, run):
@@ -749,8 +763,12 @@ def test_other_commands_say_what_a_flip_log_is(folder, run):
     told = run("log", folder / "o.flips")
     assert told.exit == 1 and "it is no log sheet but a flip log, which `flaxglimmer undo` reads" in told.err
     assert "it is no job sheet but a flip log" in run("job", folder / "o.flips").err
-    told = run("replay", folder / "o.sheet", folder / "o.flips")
-    assert told.exit == 3 and "o.flips: line 1: a log begins with LOG" in told.err
+    assert "a flip log, which `flaxglimmer undo` reads" in run("recover", folder / "o.sheet", folder / "o.flips", "--limit", "none").err
+    put(folder, O_FLIPS * 100_000, "long.flips")
+    for command, *more in (["replay"], ["volume"], ["grow-back"], ["change"], ["shift", 0]):
+        for log in ("o.flips", "long.flips"):
+            told = run(command, folder / "o.sheet", folder / log, *more)
+            assert told.exit == 3 and told.out == "" and told.err == f"flaxglimmer: {log}: line 1: no log of a thinning but a flip log, which `flaxglimmer undo` reads: 'FLIPS\\t6\\t8'\n"
 
 
 def test_json_of_a_refused_flip_is_one_object(folder, run):

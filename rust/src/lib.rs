@@ -89,7 +89,7 @@ impl Length {
     }
 }
 
-/// Why a log was not done whole: the records before one that fails, or another refusal, which leaves all as it was.
+/// Why a log was not done whole: the records done or undone before one that fails, or another refusal, which leaves all as it was.
 #[derive(Clone, Copy, Debug, PartialEq, Eq)]
 pub enum Unfinished {
     Stopped(usize),
