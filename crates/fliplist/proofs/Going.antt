@@ -68,7 +68,7 @@ module _ (t edges l : List ℕ) (g : FlipReady t edges l) where
     stands = ap rows (w .table) ∙ rows-flat (w .state .table)
 
     pub charted : Charted t′ last prev
-    charted = stage-charted (rw stands (w .stage)) (w .chains)
+    charted = stage-charted {n = n} (rw stands (w .stage)) (w .chains)
 
     -- the log keeps its length
     pub same-log : length l′ ≡ length l

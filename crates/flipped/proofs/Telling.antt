@@ -3,13 +3,13 @@ use mathlib.Core.Path.{_≡_, refl, sym, _∙_, ap}
 use mathlib.Core.List.{List, [], _∷_}
 use Prim.Native.Nat.{ℕ, _-_, _<_}
 use native.Mathlib.Omega.{arith}
-use lib.IntN.{pos, natAbs}
-use lib.ListN.{length, getD}
+use lib.IntN.{pos}
+use lib.ListN.{getD}
 use Rattle.follow.proofs.Following as following
 use Rattle.follow.proofs.Following.{Apart}
 use Rattle.refusal.specs.declared.Refusal.{Refusal}
 use Rattle.refusal.specs.Told.{Told, done, refused}
-use Rattle.refusal.proofs.Outcome.{refused-done}
+use Rattle.refusal.proofs.Outcome.{refused-done, counted, stopped-other}
 use Rattle.flipped.specs.declared.FlipRefusal.{FlipRefusal}
 use Rattle.flipped.specs.declared.FlipRefusal.the-variants.{EdgeMissing, EdgeBlocked, UndoFails}
 use Rattle.flipped.specs.declared.Flipped.{Flipped}
@@ -43,13 +43,9 @@ numbered UndoFails = (omega arith, refl)
 number-one : (r q : FlipRefusal) → number r ≡ number q → r ≡ q
 number-one r q e = sym (numbered r .1) ∙ ap (λ (n : ℕ). getD in-order (n - 30) EdgeMissing) e ∙ numbered q .1
 
--- the count that an answer carries
-counted : Told → ℕ
-counted v = natAbs (getD (v .values) 0 (pos 0))
-
 -- a stop carries its count, so it is no refusal of a list
 pub stopping-other : (r : FlipRefusal) (k : ℕ) (e : Refusal) → ¬ (stopped r k ≡ refused e)
-stopping-other r k e p = let n = ap (λ (v : Told). length (v .values)) p in omega arith
+stopping-other r k e = stopped-other (number r) k e
 
 -- nor is it done
 stopping-done : (r : FlipRefusal) (j k : ℕ) → ¬ (stopped r j ≡ done (pos k ∷ []))

@@ -3,14 +3,14 @@ use mathlib.Core.Path.{_≡_, refl, sym, _∙_, ap}
 use mathlib.Core.List.{List, [], _∷_}
 use Prim.Native.Nat.{ℕ, _-_, _<_}
 use native.Mathlib.Omega.{arith}
-use lib.IntN.{ℤ}
-use lib.ListN.{getD}
+use lib.IntN.{ℤ, pos, natAbs}
+use lib.ListN.{length, getD}
 use Rattle.refusal.specs.declared.Refusal.{Refusal}
 use Rattle.refusal.specs.declared.Refusal.the-variants.{LimitUnusable, CountsOutside, RoomShort, CoordinateOutOfRange, NumberNotBelow, NumberTwice, EdgeTwice, ReverseMissing, CornerUnused, RingsMany, NotConnected, SheetForm, RecordFails}
 use Rattle.refusal.specs.declared.Verdict.{Verdict}
 use Rattle.refusal.specs.declared.Verdict.the-variants.{Passes, Refused}
 use Rattle.refusal.specs.Number.{number}
-use Rattle.refusal.specs.Told.{Told, done, refused}
+use Rattle.refusal.specs.Told.{Told, done, refused, stopped-as}
 use Rattle.refusal.specs.Outcome.{outcome}
 
 -- the refusals in the order of their numbers, from 1 on
@@ -69,3 +69,11 @@ refusing vs e = rw e
 -- one verdict and the same values have one outcome
 pub outcome-one : (vs : List ℤ) {v w : Verdict} {a b : Told} → v ≡ w → a ≡ outcome v vs → b ≡ outcome w vs → a ≡ b
 outcome-one vs e p q = p ∙ ap (λ (v : Verdict). outcome v vs) e ∙ sym q
+
+-- the count that an answer carries
+unfoldable pub counted : Told → ℕ
+counted v = natAbs (getD (v .values) 0 (pos 0))
+
+-- what carries a count is no refusal's number alone
+pub stopped-other : (n k : ℕ) (r : Refusal) → ¬ (stopped-as n k ≡ refused r)
+stopped-other n k r p = let e = ap (λ (v : Told). length (v .values)) p in omega arith

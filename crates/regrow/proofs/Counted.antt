@@ -3,14 +3,14 @@ use mathlib.Core.Path.{_≡_, sym, ap}
 use mathlib.Core.List.{[], _∷_}
 use Prim.Native.Nat.{ℕ}
 use native.Mathlib.Omega.{arith}
-use lib.IntN.{pos, natAbs}
-use lib.ListN.{length, getD}
+use lib.IntN.{pos}
 use Rattle.follow.proofs.Following as following
 use Rattle.follow.proofs.Following.{Apart}
 use Rattle.refusal.specs.declared.Refusal.{Refusal}
 use Rattle.refusal.specs.declared.Refusal.the-variants.{RecordFails}
 use Rattle.refusal.specs.Told.{Told, done, refused}
-use Rattle.refusal.proofs.Outcome.{refused-done}
+use Rattle.refusal.specs.Number.{number}
+use Rattle.refusal.proofs.Outcome.{refused-done, counted, stopped-other}
 use Rattle.regrow.specs.declared.Regrown.{Regrown}
 use Rattle.regrow.specs.declared.Regrown.the-variants.{Done, Stopped, Refused}
 use Rattle.regrow.specs.Answer.{told, fails-after, CountTold, all-done, some-done}
@@ -29,13 +29,9 @@ regrown-apart = record {
   stopped-one = λ e. cc;
 }
 
--- the count that an answer carries
-counted : Told → ℕ
-counted v = natAbs (getD (v .values) 0 (pos 0))
-
 -- 13 carries its count, so it is no refusal of a list
 pub failing-other : (k : ℕ) (r : Refusal) → ¬ (fails-after k ≡ refused r)
-failing-other k r p = let e = ap (λ (v : Told). length (v .values)) p in omega arith
+failing-other k r = stopped-other (number RecordFails) k r
 
 -- 13 and a number tell that the records stopped there
 pub stops : (a : Regrown) (k : ℕ) → told a ≡ fails-after k → a ≡ Stopped k

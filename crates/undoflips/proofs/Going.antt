@@ -44,7 +44,7 @@ module _ (t log : List ℕ) (g : AnyStage t) where
     stage n s = leads-keep (Stage n) (λ T T₁ k z u. u .stage) (s .stage) (w .upto n s .led)
 
     pub charted : Charted t′ last prev
-    charted = stage-charted (stage (g .corners) (g .table)) (w .chains)
+    charted = stage-charted {n = g .corners} (stage (g .corners) (g .table)) (w .chains)
 
     pub done-all : count flip-log log ≤ done → UndoneOn t log (Done done) t′
     done-all h = record { followed = λ n s. record { state = rows t′; reached = upto-all (undoing n t log) (w .upto n s) (omega (arith, many-items, h)); left = chained-flat (w .chains) } }
