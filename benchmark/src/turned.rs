@@ -131,7 +131,7 @@ impl Undoing {
 
     fn refused(unfinished: Unfinished) -> Refusal {
         match unfinished {
-            Unfinished::Stopped(_) => Refusal::FlipFails,
+            Unfinished::Stopped(_) => Refusal::UndoFails,
             Unfinished::Refused(refusal) => refusal,
         }
     }
