@@ -185,6 +185,7 @@ static void empty(void)
     uint64_t a, b, c;
     exact_sum("the tetrahedron's exact sum", table, 12, at, 12);
     counted("no log to thin", flaxglimmer_thin(FLAXGLIMMER_NO_LIMIT, 0, table, 12, at, 12, NULL, 0));
+    counted("no log to thin by the plain engine", flaxglimmer_thin_plain(FLAXGLIMMER_NO_LIMIT, 0, table, 12, at, 12, NULL, 0));
     counted("no log to grow back", flaxglimmer_grow_back(4, 4, table, 12, NULL, 0));
     counted("no log to replay", flaxglimmer_replay(4, table, 12, NULL, 0));
     counted("no edges to flip", flaxglimmer_flip_list(4, table, 12, NULL, 0, NULL, 0));
@@ -206,6 +207,7 @@ static void empty(void)
     printf("no log to recover %" PRIu64 " %" PRIu64 " %" PRIu64 "\n", status, a, b);
 
     counted("nothing to thin", flaxglimmer_thin(FLAXGLIMMER_NO_LIMIT, 0, NULL, 0, NULL, 0, NULL, 0));
+    counted("nothing to thin by the plain engine", flaxglimmer_thin_plain(FLAXGLIMMER_NO_LIMIT, 0, NULL, 0, NULL, 0, NULL, 0));
     counted("nothing to grow back", flaxglimmer_grow_back(4, 4, NULL, 0, NULL, 0));
     counted("nothing to replay", flaxglimmer_replay(4, NULL, 0, NULL, 0));
     counted("nothing to flip", flaxglimmer_flip_list(4, NULL, 0, NULL, 0, NULL, 0));
@@ -256,6 +258,11 @@ int main(void)
     counted("thin", flaxglimmer_thin(FLAXGLIMMER_NO_LIMIT, 0, table, 24, corners, 18, log, 20));
     numbers("rows", table, 12, 3);
     numbers("records", log, 20, 10);
+    memcpy(table, first, sizeof first);
+    memset(log, 0, sizeof log);
+    counted("thin by the plain engine", flaxglimmer_thin_plain(FLAXGLIMMER_NO_LIMIT, 0, table, 24, corners, 18, log, 20));
+    numbers("rows", table, 12, 3);
+    numbers("records", log, 20, 10);
     measure("volume", flaxglimmer_volume(first, 24, corners, 18));
     exact_sum("exact sum", first, 24, corners, 18);
     measure("change", flaxglimmer_change(first, 24, table, 12, corners, 18));
@@ -281,6 +288,7 @@ int main(void)
     limit("another unit", 5, 0.3);
     counted("another unit's limit", flaxglimmer_thin(5, 0.3, table, 24, corners, 18, log, 20));
     counted("a short log", flaxglimmer_thin(FLAXGLIMMER_FEET, 1, table, 24, corners, 18, log, 19));
+    counted("a short log", flaxglimmer_thin_plain(FLAXGLIMMER_FEET, 1, table, 24, corners, 18, log, 19));
     empty();
 
     uint64_t from, to;

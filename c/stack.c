@@ -53,6 +53,13 @@ static void thin_under_a_limit(void)
                               FLAXGLIMMER_WIDTH * now->corners).status;
 }
 
+static void thin_plain(void)
+{
+    memcpy(now->table, now->first, sizeof now->first);
+    status = flaxglimmer_thin_plain(FLAXGLIMMER_FEET, 4.75, now->table, 3 * now->rows, now->coordinates, 3 * now->corners, now->written,
+                                    FLAXGLIMMER_WIDTH * now->corners).status;
+}
+
 static void grow_back(void)
 {
     memcpy(now->table, now->last, sizeof now->last);
@@ -345,6 +352,7 @@ int main(void)
 
     int over = told("thin", thin, &table_limits, FLAXGLIMMER_STACK_THIN);
     over |= told("thin, under a limit", thin_under_a_limit, &table_limits, FLAXGLIMMER_STACK_THIN);
+    over |= told("thin by the plain engine, under a limit", thin_plain, &table_limits, FLAXGLIMMER_STACK_THIN_PLAIN);
     over |= told("grow back", grow_back, &table_limits, FLAXGLIMMER_STACK_GROW_BACK);
     over |= told("replay", replay, &table_limits, FLAXGLIMMER_STACK_REPLAY);
     over |= told("volume", volume, &table_limits, FLAXGLIMMER_STACK_VOLUME);

@@ -75,11 +75,13 @@ extern "C" {
 #define FLAXGLIMMER_MOST_TEXT 65536
 
 /* How many bytes of stack a call takes at most; a call that has no name here takes FLAXGLIMMER_STACK_OTHER. No proof bounds a stack: these are
- * what c/stack.c measured on Arm, and on x86-64 under the kit's emulator, the calls of log sheets, recovery, jobs and flips on x86-64 alone, on
- * skins, logs and jobs at the limits, with at least an eighth more and rounded up to 16 KiB; tests/bridge measures again and compares.
+ * what c/stack.c measured on Arm, and on x86-64 under the kit's emulator, the calls of log sheets, recovery, jobs, flips and the plain engine on
+ * x86-64 alone, on skins, logs and jobs at the limits, with at least an eighth more and rounded up to 16 KiB; tests/bridge measures again and
+ * compares.
  * The arrays on the stack have the length of the limits whatever is lent, and no function calls itself but by the digits of a number, and by the
  * nesting of a job, which FLAXGLIMMER_MOST_DEPTH bounds. */
 #define FLAXGLIMMER_STACK_THIN 114688
+#define FLAXGLIMMER_STACK_THIN_PLAIN 114688
 #define FLAXGLIMMER_STACK_GROW_BACK 81920
 #define FLAXGLIMMER_STACK_REPLAY 114688
 #define FLAXGLIMMER_STACK_VOLUME 81920
@@ -165,6 +167,11 @@ struct flaxglimmer_stored {
  * FLAXGLIMMER_LEAST_CORNERS, so none for that many; written. */
 struct flaxglimmer_counted flaxglimmer_thin(uint32_t unit, double figure, uint32_t *table, size_t table_length, const int32_t *corners,
                                             size_t corners_length, uint32_t *log, size_t log_length);
+
+/* The same by the plain engine, which looks for the least edge again after each step. Where there is no limit flaxglimmer_thin takes a quick one, which
+ * finishes one corner before the next; with a limit it takes the plain one too. They answer and leave the same, number for number. */
+struct flaxglimmer_counted flaxglimmer_thin_plain(uint32_t unit, double figure, uint32_t *table, size_t table_length, const int32_t *corners,
+                                                  size_t corners_length, uint32_t *log, size_t log_length);
 
 /* Grows a log back, the last record first, on the rows that stand in front of a room, over so many corners. Each record adds two rows; what lies
  * past the grown rows stays as it was.

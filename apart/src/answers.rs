@@ -19,7 +19,8 @@ pub fn answer(request: &Request) -> Response {
         return refused(request, number);
     }
     match request.call {
-        THIN => thinned(request),
+        // Either engine is asked for the same: the least edge, until none qualifies.
+        THIN | THIN_PLAIN => thinned(request),
         GROW_BACK => grown_back(request),
         REPLAY => replayed(request),
         VOLUME => volume(request),
@@ -49,7 +50,7 @@ pub fn answer(request: &Request) -> Response {
 pub fn questions(request: &Request) -> Vec<Question<'_>> {
     match request.call {
         // Recovery is given the first skin, the room and the order as thinning is, at the same places.
-        THIN | RECOVER => thin_questions(request),
+        THIN | THIN_PLAIN | RECOVER => thin_questions(request),
         GROW_BACK => grow_questions(request),
         REPLAY => replay_questions(request),
         VOLUME | EXACT_SUM => stage_questions(request, &[0], 1),

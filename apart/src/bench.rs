@@ -4,7 +4,7 @@ use crate::answers::answer;
 use crate::chance::Chance;
 use crate::desk;
 use crate::pipe::{Driven, LATE};
-use crate::protocol::{bytes_of, Request, Response, Word, EXACT_SUM, JOB, VOLUME};
+use crate::protocol::{bytes_of, Request, Response, Word, EXACT_SUM, JOB, THIN, THIN_PLAIN, VOLUME};
 use crate::tally::{difference, written, Tally};
 use std::collections::VecDeque;
 use std::rc::Rc;
@@ -131,19 +131,23 @@ impl Bench {
     }
 
     /// Compares a call with what it must answer; the response where they agree. Wherever a volume is asked, the exact sum
-    /// of the same stage is asked too.
+    /// of the same stage is asked too, and wherever a thinning is, the plain engine is asked for the same.
     pub fn try_call(&mut self, kind: &str, request: &Request) -> Option<Response> {
         if request.call == VOLUME {
             self.try_call(kind, &Request { call: EXACT_SUM, ..request.clone() });
         }
-        if self.enough() || !self.drives(request.call) {
+        let thinning = request.call == THIN && self.drives(THIN_PLAIN);
+        if self.enough() || !(thinning || self.drives(request.call)) {
             return None;
         }
         self.try_against(kind, request, &answer(request))
     }
 
-    /// Compares a call with a response worked out elsewhere.
+    /// Compares a call with a response worked out elsewhere, and a thinning by the plain engine with the same.
     pub fn try_against(&mut self, kind: &str, request: &Request, expected: &Response) -> Option<Response> {
+        if request.call == THIN {
+            self.try_against(kind, &Request { call: THIN_PLAIN, ..request.clone() }, expected);
+        }
         if self.enough() || !self.drives(request.call) {
             return None;
         }

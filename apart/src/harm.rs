@@ -86,7 +86,7 @@ pub fn asked(call: usize) -> Vec<Harm> {
     let form = [SheetSize, SheetFirstLine, Counts, SheetLines];
     let rings = [Rings, Connected];
     match call {
-        THIN => [&[Limit, Counts, Room, Coordinate], &rows[..], &[Unused], &rings].concat(),
+        THIN | THIN_PLAIN => [&[Limit, Counts, Room, Coordinate], &rows[..], &[Unused], &rings].concat(),
         GROW_BACK => [&[Counts, Room], &rows[..], &rings, &[Log]].concat(),
         REPLAY => [&[Counts], &rows[..], &rings, &[Log]].concat(),
         VOLUME | EXACT_SUM | CHANGE => [&[Counts, Coordinate], &rows[..], &rings].concat(),
@@ -163,7 +163,7 @@ impl Input {
         let [count, told] = self.counts().map(|n| n as Word);
         let (unit, bits) = (self.order.0, self.order.1 as Word);
         let arguments = match call {
-            THIN | RECOVER => {
+            THIN | THIN_PLAIN | RECOVER => {
                 let need = WIDTH as i64 * (self.coordinates.len() as i64 / 3 - FEWEST as i64);
                 let room = scribble(need + self.spare, chance);
                 let sheet = (call == RECOVER).then(|| self.log_sheet(&OF_CUT_LOG_SHEETS, chance));
@@ -295,7 +295,7 @@ pub fn harm(input: &mut Input, call: usize, harm: Harm, chance: &mut Chance) {
     let on_sheet = matches!(call, READ_SHEET | DESK_ANSWER);
     // Recovery is given a skin in lists and a log on a sheet.
     let counts_on_sheet = call != RECOVER && call_of(call).is_some_and(Call::reads_sheet);
-    let first_table = on_sheet || matches!(call, THIN | RECOVER);
+    let first_table = on_sheet || matches!(call, THIN | THIN_PLAIN | RECOVER);
     let count = input.coordinates.len() as u32 / 3;
     match harm {
         Limit => input.order = typed::unusable(chance),
@@ -425,10 +425,10 @@ fn add_tetrahedron(input: &mut Input, new: u32, chance: &mut Chance) {
 
 /// A length or count outside its limits, by one of the ways the call has.
 fn harm_counts(input: &mut Input, call: usize, chance: &mut Chance) {
-    let lists = matches!(call, THIN | VOLUME | EXACT_SUM | CHANGE | SHIFT | RECOVER);
+    let lists = matches!(call, THIN | THIN_PLAIN | VOLUME | EXACT_SUM | CHANGE | SHIFT | RECOVER);
     let logs = matches!(call, GROW_BACK | REPLAY | SHIFT | WRITE_LOG_SHEET);
     let told = matches!(call, GROW_BACK | WRITE_LOG_SHEET);
-    let tables = matches!(call, THIN | REPLAY | VOLUME | EXACT_SUM | CHANGE | RECOVER | FLIP | UNDO);
+    let tables = matches!(call, THIN | THIN_PLAIN | REPLAY | VOLUME | EXACT_SUM | CHANGE | RECOVER | FLIP | UNDO);
     loop {
         match chance.below(11) {
             0 if tables => drop(input.table.split_off(input.table.len() - 1 - chance.below(2))),

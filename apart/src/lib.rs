@@ -8,6 +8,7 @@ pub mod counts;
 pub mod cuts;
 pub mod desk;
 pub mod ends;
+pub mod engine_sweeps;
 pub mod figures;
 pub mod flip;
 pub mod flip_kinds;

@@ -6,8 +6,10 @@ use apart::chance::Chance;
 use apart::protocol::{bytes_of, call_of, Request, CALLS};
 use apart::spoil::Spoiler;
 use apart::tally::{difference, words_of};
-use apart::{answers, counts, cuts, desk, ends, flip_sweeps, job_sheets, lines, log_sheets, order, recovery, round};
-use apart::{serve, sheets, sums, sweep, trial};
+use apart::{
+    answers, counts, cuts, desk, ends, engine_sweeps, flip_sweeps, job_sheets, lines, log_sheets, order, recovery,
+};
+use apart::{round, serve, sheets, sums, sweep, trial};
 use std::io::Read;
 use std::process::ExitCode;
 
@@ -94,7 +96,7 @@ type Part = fn(&mut Bench, u64);
 /// The parts after the lines of `trials`: 01's cases, the order of refusals, the sweeps, the ends, then rounds of
 /// chance up to the count. Those behind them come to so many calls that few would be left to the rounds: a whole run
 /// makes them beside its count.
-const PARTS: [(&str, Part); 16] = [
+const PARTS: [(&str, Part); 17] = [
     ("trial", |bench, seed| trial::run(bench, &mut own(seed, 0))),
     ("alone", |bench, seed| order::alone(bench, &mut own(seed, 1))),
     ("order", |bench, seed| order::run(bench, 3, &mut own(seed, 2))),
@@ -105,8 +107,12 @@ const PARTS: [(&str, Part); 16] = [
     ("log-sheets", |bench, seed| log_sheets::run(bench, &mut own(seed, 10))),
     ("ends", |bench, seed| ends::run(bench, &mut own(seed, 7))),
     ("returning", |bench, seed| round::returning(bench, &mut own(seed, 8))),
-    ("greatest", |bench, seed| round::greatest(bench, &mut own(seed, 9))),
+    ("greatest", |bench, seed| {
+        round::greatest(bench, &mut own(seed, 9));
+        engine_sweeps::greatest(bench, &mut own(seed, 16));
+    }),
     ("rounds", rounds),
+    ("engines", |bench, seed| engine_sweeps::run(bench, &mut own(seed, 15))),
     ("flips", |bench, seed| flip_sweeps::run(bench, &mut own(seed, 14))),
     ("jobs", |bench, seed| job_sheets::run(bench, &mut own(seed, 13))),
     ("recovery", |bench, seed| recovery::run(bench, &mut own(seed, 11))),

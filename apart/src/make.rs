@@ -194,10 +194,34 @@ pub fn roughened(start: &[Row], rows: usize, flips: usize, chance: &mut Chance) 
     Weave::new(start).roughen(rows, flips, chance)
 }
 
-/// Renumbers the corners by chance, in rows and coordinates alike.
+/// A table each of whose rows is split round a corner of its own.
+pub fn each_row_split(rows: &[Row]) -> Vec<Row> {
+    let mut weave = Weave::new(rows);
+    (0..rows.len()).for_each(|place| weave.split(place));
+    weave.rows
+}
+
+/// Renumbers the corners by chance.
 pub fn relabel(skin: &mut Skin, chance: &mut Chance) {
     let mut names: Vec<u32> = (0..skin.corners.len() as u32).collect();
     chance.shuffle(&mut names);
+    rename(skin, &names);
+}
+
+/// Numbers the corners from the last to the first.
+pub fn reverse(skin: &mut Skin) {
+    rename(skin, &(0..skin.corners.len() as u32).rev().collect::<Vec<u32>>());
+}
+
+/// Exchanges the numbers of two corners.
+pub fn exchange(skin: &mut Skin, one: u32, other: u32) {
+    let mut names: Vec<u32> = (0..skin.corners.len() as u32).collect();
+    names.swap(one as usize, other as usize);
+    rename(skin, &names);
+}
+
+/// Gives each corner the name at its number, in rows and coordinates alike.
+fn rename(skin: &mut Skin, names: &[u32]) {
     let old = skin.corners.clone();
     for (from, &to) in names.iter().enumerate() {
         skin.corners[to as usize] = old[from];

@@ -107,6 +107,7 @@ pub const RECOVER: usize = 16;
 pub const JOB: usize = 17;
 pub const FLIP: usize = 18;
 pub const UNDO: usize = 19;
+pub const THIN_PLAIN: usize = 20;
 pub const OPEN_LOG_SHEET: usize = 24;
 pub const RECORD_AT: usize = 25;
 pub const EXACT_SUM: usize = 26;
@@ -114,20 +115,18 @@ pub const LOG_SHEET_CALLS: [usize; 5] = [WRITE_LOG_SHEET, READ_LOG_SHEET, READ_R
 
 use Kind::*;
 
+/// What a thinning is given, by either engine.
+const THINNING: [Argument; 5] = [
+    read("unit", OrderUnit),
+    read("bits", Whole),
+    lent("table", Numbers),
+    read("corners", Coordinates),
+    lent("log", Numbers),
+];
+
 /// The calls in the order of their numbers; the numbers between are kept for later requests.
-pub static CALLS: [Call; 22] = [
-    call(
-        THIN,
-        "thin",
-        2,
-        &[
-            read("unit", OrderUnit),
-            read("bits", Whole),
-            lent("table", Numbers),
-            read("corners", Coordinates),
-            lent("log", Numbers),
-        ],
-    ),
+pub static CALLS: [Call; 23] = [
+    call(THIN, "thin", 2, &THINNING),
     call(
         GROW_BACK,
         "grow back",
@@ -178,6 +177,7 @@ pub static CALLS: [Call; 22] = [
         &[read("corner count", Whole), lent("table", Numbers), read("edges", Numbers), lent("flip log", Numbers)],
     ),
     call(UNDO, "undo flips", 2, &[read("corner count", Whole), lent("table", Numbers), read("flip log", Numbers)]),
+    call(THIN_PLAIN, "thin by the plain engine", 2, &THINNING),
     call(OPEN_LOG_SHEET, "open a log sheet", 4, &[read("bytes", Bytes)]),
     call(RECORD_AT, "the record at a place", 3 + WIDTH, &[read("bytes", Bytes), read("place", Whole)]),
     call(EXACT_SUM, "exact sum of a stage", 3, &[read("table", Numbers), read("corners", Coordinates)]),

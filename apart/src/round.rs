@@ -38,7 +38,7 @@ struct Round {
 
 static ROUNDS: [Round; 31] = [
     Round { share: 12, calls: &[THIN], run: whole_run },
-    Round { share: 20, calls: &[THIN], run: thinned },
+    Round { share: 20, calls: &[THIN, THIN_PLAIN], run: thinned },
     Round { share: 12, calls: &DAMAGED, run: damaged },
     Round { share: 8, calls: &[GROW_BACK], run: grown },
     Round { share: 8, calls: &[REPLAY], run: replayed },

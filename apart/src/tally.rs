@@ -33,7 +33,7 @@ pub struct Tally {
 }
 
 /// What a whole run must have met at least once, besides every refusal and the kinds of flips.
-const MUST_MEET: [&str; 61] = [
+const MUST_MEET: [&str; 73] = [
     "a sphere",
     "a torus",
     "genus 2",
@@ -95,6 +95,18 @@ const MUST_MEET: [&str; 61] = [
     "a flipped skin thinned",
     "a thinned skin flipped",
     "a flipped skin run down to its end",
+    "a hub numbered first",
+    "a hub numbered in the middle",
+    "a hub numbered last",
+    "a hub of several hundred neighbours",
+    "corners of three neighbours by the hundred",
+    "shuffled numbers on the most rows",
+    "several handles on many rows",
+    "both engines under a limit",
+    "both engines down to a tetrahedron",
+    "both engines down to handles",
+    "recovery without limit from a part of a log",
+    "recovery without limit where numbers are unused",
 ];
 
 impl Tally {
@@ -150,7 +162,9 @@ impl Tally {
             }
             _ => {}
         }
-        if [LIMIT, THIN].contains(&request.call) && [FEET, INTERNATIONAL_FEET].contains(&request.arguments[0][0]) {
+        if [LIMIT, THIN, THIN_PLAIN].contains(&request.call)
+            && [FEET, INTERNATIONAL_FEET].contains(&request.arguments[0][0])
+        {
             self.note_feet(request, status);
         }
     }
@@ -311,7 +325,7 @@ impl Tally {
 fn rows_worked(request: &Request) -> usize {
     let length = |at: usize| request.arguments[at].len() / 3;
     match request.call {
-        THIN | RECOVER => length(2),
+        THIN | THIN_PLAIN | RECOVER => length(2),
         GROW_BACK => (request.arguments[0][0] as usize).saturating_add(2 * (request.arguments[3].len() / WIDTH)),
         REPLAY | FLIP | UNDO => length(1),
         VOLUME | EXACT_SUM => length(0),

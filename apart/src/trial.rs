@@ -1,5 +1,5 @@
 //! 01's own cases: its trial skins, its slips, its limits and its sheet; its O as the log sheet of 02, cut and
-//! recovered; the feet, the jobs and the flips of 02. What is expected here is copied from them, or worked by hand, and both the
+//! recovered; the feet, the jobs, the flips and the engines of 02. What is expected here is copied from them, or worked by hand, and both the
 //! driven programs and this program's own rules are held to it.
 
 use crate::answers::answer;
@@ -31,6 +31,7 @@ const REQUEST_3: &str = "02, request 3";
 const REQUEST_4: &str = "02, request 4";
 const REQUEST_5: &str = "02, request 5";
 const REQUEST_6: &str = "02, request 6";
+const REQUEST_7: &str = "02, request 7";
 /// `LOG`, corners, rows; then O's two `K` lines, as 01 has them.
 const O_LOG_SHEET: &str = "LOG\t6\t8\nK\t0\t1\t0\t0\t1\t2\t3\t0\t4\t1\nK\t0\t2\t0\t0\t2\t3\t2\t5\t2\t0\n";
 const O_TEXT: &str = "OK\t4\t2\t1\t0\nR\t0\t3\t4\nR\t5\t3\t0\nR\t5\t4\t3\nR\t5\t0\t4\n\
@@ -54,6 +55,7 @@ pub fn run(bench: &mut Bench, chance: &mut Chance) {
     flips_undone(bench);
     flips_not_undone(bench);
     flips_measured(bench);
+    engines(bench, chance);
 }
 
 pub fn coordinates(corners: &[Corner]) -> Vec<Word> {
@@ -106,6 +108,46 @@ fn thinning(bench: &mut Bench, chance: &mut Chance) {
     let replay = Request { call: REPLAY, arguments: vec![vec![6], words(&o.concat()), words(&O_LOG.concat())] };
     let left = [words(&O_LEFT.concat()), vec![0; 12]].concat();
     hold(bench, "O replayed", &replay, &Response { answer: vec![0, 2], lent: vec![left] });
+}
+
+/// A corner that lets none of its edges go before one that does, and corners of three neighbours; by either engine.
+fn engines(bench: &mut Bench, chance: &mut Chance) {
+    let places: Vec<Corner> = (0..8).map(|n| [n, n * n, -n]).collect();
+    // T's row (1,3,2) given corner 4. 0 and 1 have the neighbours 2 and 3 in common, which are opposite: 1 goes, with the
+    // rows (0,1,2) and (0,3,1). A tetrahedron is left.
+    let stacked = [[0, 1, 2], [0, 2, 3], [0, 3, 1], [1, 3, 4], [3, 2, 4], [2, 1, 4]];
+    let left = [[0, 2, 3], [0, 3, 4], [3, 2, 4], [2, 0, 4]];
+    hold_engines(
+        bench,
+        "T with a corner more",
+        &stacked,
+        &places[..5],
+        ([0, 1, 0, 0, 1, 2, 2, 0, 3, 1], &left),
+        chance,
+    );
+    // M's row (1,2,4) given corner 7. Any two of M's corners have the five others in common, so that none of 0's edges may
+    // go; 1 and 7 have 2 and 4: 7 goes, with the rows (1,2,7) and (4,1,7). M is left, which lets none go.
+    let m = seven_corner_torus();
+    let given = [&m[..2], &[[1, 2, 7]], &m[3..], &[[2, 4, 7], [4, 1, 7]]].concat();
+    let left = [&m[..2], &m[3..], &[[2, 4, 1]]].concat();
+    hold_engines(bench, "M with a corner more", &given, &places, ([1, 7, 2, 1, 2, 7, 15, 4, 1, 7], &left), chance);
+}
+
+/// Holds the thinning of a skin to the one record that it writes and the rows that it leaves.
+fn hold_engines(
+    bench: &mut Bench,
+    name: &str,
+    rows: &[Row],
+    corners: &[Corner],
+    (record, left): (Record, &[Row]),
+    chance: &mut Chance,
+) {
+    for order in [(0, 0.0), (CENTIMETRES, 200_000.0)] {
+        let request = thin(order, rows, corners, chance);
+        let table = [words(&left.concat()), vec![0; 6]].concat();
+        let log = [&words(&record), &request.arguments[4][WIDTH..]].concat();
+        hold_to(bench, REQUEST_7, name, &request, &Response { answer: vec![0, 1], lent: vec![table, log] });
+    }
 }
 
 fn refusals(bench: &mut Bench, chance: &mut Chance) {

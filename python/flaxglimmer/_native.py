@@ -34,6 +34,7 @@ class Stored(c.Structure):
 
 SIGNATURES = {  # name: (result, arguments)
     "thin": (Counted, [u32, c.c_double, lent, size, lent, size, lent, size]),
+    "thin_plain": (Counted, [u32, c.c_double, lent, size, lent, size, lent, size]),
     "grow_back": (Counted, [size, size, lent, size, lent, size]),
     "replay": (Counted, [size, lent, size, lent, size]),
     "volume": (Measure, [lent, size, lent, size]),

@@ -42,11 +42,12 @@ def _log_room(corners) -> np.ndarray:
     return np.empty(max(0, LIMITS.WIDTH * (corners.size // 3 - LIMITS.LEAST_CORNERS)), np.uint32)
 
 
-def thin(rows, corners, limit) -> tuple[np.ndarray, np.ndarray]:
-    """The last stage and the log, (k, 3) and (r, width). `limit` is None or 'none', a text as '0.8 m', or ('m', 0.8)."""
+def thin(rows, corners, limit, plain: bool = False) -> tuple[np.ndarray, np.ndarray]:
+    """The last stage and the log, (k, 3) and (r, width). `limit` is None or 'none', a text as '0.8 m', or ('m', 0.8). `plain` asks the plain engine, whatever
+    the limit; both come to the same."""
     table, corners = np.array(_rows(rows)).reshape(-1), _corners(corners)
     log = _log_room(corners)
-    records = lent.thin(table, corners, log, limit)
+    records = (lent.thin_plain if plain else lent.thin)(table, corners, log, limit)
     return _stage(table, records), _records(log, records)
 
 

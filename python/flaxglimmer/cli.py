@@ -244,9 +244,10 @@ def with_order(function):
 @command("thin")
 @with_file
 @with_order
-def thin(file, limit, **asked):
+@click.option("--plain", is_flag=True, help="By the plain engine, which comes to the same; without a limit it takes longer.")
+def thin(file, limit, plain, **asked):
     """Thin the skin in FILE under a limit."""
-    return thinning([file], limit, lambda skin: skins.thin(skin, limit), **asked)
+    return thinning([file], limit, lambda skin: skins.thin(skin, limit, plain), **asked)
 
 
 @command("recover")

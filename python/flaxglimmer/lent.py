@@ -55,11 +55,20 @@ def _done(status: int, records: int = 0) -> None:
 
 
 def thin(table, corners, log, limit) -> int:
-    """Thins the table under a limit; how many records stand in front of the log."""
+    """Thins the table under a limit, by the quick engine where there is none; how many records stand in front of the log."""
+    return _thinned("thin", table, corners, log, limit)
+
+
+def thin_plain(table, corners, log, limit) -> int:
+    """The same by the plain engine, which leaves the same."""
+    return _thinned("thin_plain", table, corners, log, limit)
+
+
+def _thinned(call: str, table, corners, log, limit) -> int:
     _array(corners, np.int32, "corners")
     _written(log, np.uint32, "log", corners)
     _written(table, np.uint32, "table", corners, log)
-    answer = library().flaxglimmer_thin(*order(limit), *_over(table, corners, log))
+    answer = getattr(library(), "flaxglimmer_" + call)(*order(limit), *_over(table, corners, log))
     _done(answer.status)
     return answer.records
 

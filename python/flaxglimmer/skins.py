@@ -131,10 +131,10 @@ class Recovered(Thinned):
         return f"{self.name} was begun under another order or over other coordinates: least edge, limit and shift bound are claimed {added}{afresh}"
 
 
-def thin(skin: Skin, limit) -> Thinned:
-    """Thins a skin under a limit: 'none', or a figure and its unit as '0.8 m'. Refused has the places."""
+def thin(skin: Skin, limit, plain: bool = False) -> Thinned:
+    """Thins a skin under a limit: 'none', or a figure and its unit as '0.8 m'; by the plain engine where it is asked for. Refused has the places."""
     try:
-        rows, log = calls.thin(skin.rows, skin.corners, limit)
+        rows, log = calls.thin(skin.rows, skin.corners, limit, plain)
     except Refused as refused:
         raise skin.placed(refused, limit)
     return Thinned(skin, rows, log, *_limit(limit))

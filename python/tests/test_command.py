@@ -149,6 +149,21 @@ def test_thin_tells_writes_and_ends_with_0(run, folder):
     assert "<svg" in (folder / "r.html").read_text()
 
 
+@pytest.mark.parametrize("limit", ["none", "1.5 m"])
+def test_the_plain_engine_tells_and_writes_the_same(run, folder, monkeypatch, limit):
+    asked, thin_plain = [], fg.lent.thin_plain
+    monkeypatch.setattr(fg.lent, "thin_plain", lambda *lent: asked.append(lent) or thin_plain(*lent))
+    log, answer = folder / "s.log", folder / "s.answer"
+
+    def told(*more):
+        came = run("thin", folder / "shaft.off", "--unit", "m", "--limit", limit, "--log", log, "--answer", answer, *more)
+        return came.exit, came.out, came.err, log.read_bytes(), answer.read_bytes()
+
+    quick = told()
+    assert quick[0] == 0 and not asked
+    assert told("--plain") == quick and len(asked) == 1
+
+
 def test_json_of_thin(run, folder):
     arguments = ["thin", folder / "shaft.off", "--unit", "m", "--limit", "1.5 m", "--length", "30 m", "--mean-at-least", "2 m", "--json"]
     told = run(*arguments).told

@@ -152,9 +152,11 @@ def test_the_library_is_the_pipe_in_every_number_of_every_buffer(pipe, part):
         table, log = rows.reshape(-1).copy(), np.full(max(0, 10 * (len(corners) - 4)) + seed % 3, 77, np.uint32)
         unit, typed = (0, None) if seed % 2 else (1, ("m", 0.5 + seed % 9))
         bits = struct.unpack("<q", struct.pack("<d", typed[1] if typed else 0.0))[0]
-        over = pipe.ask(1, unit, bits, table.tolist(), corners.reshape(-1).tolist(), log.tolist(), lists=2)
+        asked, plain = (unit, bits, table.tolist(), corners.reshape(-1).tolist(), log.tolist()), (table.copy(), log.copy())
+        over = pipe.ask(1, *asked, lists=2)
         thinned = lent_answer(fg.lent.thin, table, corners, log, typed)
         assert over == [thinned, table.tolist(), log.tolist()]
+        assert over == pipe.ask(20, *asked, lists=2) == [lent_answer(fg.lent.thin_plain, plain[0], corners, plain[1], typed), *(one.tolist() for one in plain)]
         assert pipe.ask(4, rows.reshape(-1).tolist(), corners.reshape(-1).tolist(), lists=0) == [lent_answer(fg.lent.volume, rows, corners)]
         done = thinned[1]
         records = log[: 10 * done] if seed % 4 else log[: len(log) // 10 * 10]

@@ -41,8 +41,12 @@ mod proved {
         pub number: u64,
     }
 
+    /// Thinning by either engine.
+    pub type Thin = unsafe extern "C" fn(u32, f64, *mut u32, usize, *const i32, usize, *mut u32, usize) -> Counted;
+
     extern "C" {
         pub fn flaxglimmer_thin(unit: u32, figure: f64, table: *mut u32, table_length: usize, corners: *const i32, corners_length: usize, log: *mut u32, log_length: usize) -> Counted;
+        pub fn flaxglimmer_thin_plain(unit: u32, figure: f64, table: *mut u32, table_length: usize, corners: *const i32, corners_length: usize, log: *mut u32, log_length: usize) -> Counted;
         pub fn flaxglimmer_grow_back(rows: usize, corners: usize, room: *mut u32, room_length: usize, log: *const u32, log_length: usize) -> Counted;
         pub fn flaxglimmer_replay(corners: usize, table: *mut u32, table_length: usize, log: *const u32, log_length: usize) -> Counted;
         pub fn flaxglimmer_volume(table: *const u32, table_length: usize, corners: *const i32, corners_length: usize) -> Measure;
@@ -168,8 +172,18 @@ fn counted(a: proved::Counted) -> Result<usize, Unfinished> {
 /// Thins a first table under a limit or none; answers how many records were written to the front of the log, which needs `WIDTH` numbers for
 /// each corner past `LEAST_CORNERS`. The last stage is left in front of the table and zeros behind it.
 pub fn thin(table: &mut [u32], corners: &[i32], limit: Option<Length>, log: &mut [u32]) -> Result<usize, Refusal> {
+    thin_by(proved::flaxglimmer_thin, table, corners, limit, log)
+}
+
+/// The same by the plain engine, which looks for the least edge again after each step. `thin` takes a quick one where there is no limit; both answer and
+/// leave the same.
+pub fn thin_plain(table: &mut [u32], corners: &[i32], limit: Option<Length>, log: &mut [u32]) -> Result<usize, Refusal> {
+    thin_by(proved::flaxglimmer_thin_plain, table, corners, limit, log)
+}
+
+fn thin_by(call: proved::Thin, table: &mut [u32], corners: &[i32], limit: Option<Length>, log: &mut [u32]) -> Result<usize, Refusal> {
     let (unit, figure) = limit.map_or((0, 0.0), Length::crossing);
-    let a = unsafe { proved::flaxglimmer_thin(unit, figure, table.as_mut_ptr(), table.len(), corners.as_ptr(), corners.len(), log.as_mut_ptr(), log.len()) };
+    let a = unsafe { call(unit, figure, table.as_mut_ptr(), table.len(), corners.as_ptr(), corners.len(), log.as_mut_ptr(), log.len()) };
     answered(a.status, a.records as usize)
 }
 

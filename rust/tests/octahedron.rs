@@ -22,6 +22,22 @@ fn thins_to_four_rows_and_two_records() {
 }
 
 #[test]
+fn the_plain_engine_leaves_the_same() {
+    let (mut table, mut log) = (TABLE, [7; 20]);
+    assert_eq!(thin_plain(&mut table, &CORNERS, None, &mut log), Ok(2));
+    assert_eq!((table, log), thinned());
+    for (figure, records) in [(141.0, 0), (142.0, 2)] {
+        let thinned_by = |call: fn(&mut [u32], &[i32], Option<Length>, &mut [u32]) -> Result<usize, Refusal>| {
+            let (mut table, mut log) = (TABLE, [7; 20]);
+            (call(&mut table, &CORNERS, Some(Length::Centimetres(figure)), &mut log), table, log)
+        };
+        assert_eq!(thinned_by(thin_plain), thinned_by(thin));
+        assert_eq!(thinned_by(thin_plain).0, Ok(records));
+    }
+    assert_eq!(thin_plain(&mut table, &CORNERS, None, &mut log[..19]), Err(Refusal::RoomShort));
+}
+
+#[test]
 fn grows_back_to_the_first_table() {
     let (mut room, log) = thinned();
     assert_eq!(grow_back(&mut room, 4, 6, &log), Ok(2));

@@ -1,8 +1,12 @@
 -- Each function that crosses answers as its call does, and has no second outcome.
-use mathlib.Core.Path.{sym, _∙_}
+use mathlib.Core.Path.{_≡_, sym, _∙_}
 use mathlib.Core.List.{List}
 use Prim.Native.Nat.{ℕ}
+use lib.IntN.{ℤ}
+use lib.Ieee.{Float}
 use denote.Ref.{RefT}
+use Rattle.thin.specs.declared.Thinning.{Thinning}
+use Rattle.thin.specs.Thin.{Thinned}
 use Rattle.thin.specs.Answer as thin-answer
 use Rattle.thin.proofs.Main.{thinned-one}
 use Rattle.regrow.specs.Answer as regrow-answer
@@ -33,7 +37,12 @@ use Rattle.recover.proofs.Main.{recovered-one}
 use Rattle.ring.proofs.Rule.{trial-one}
 use Rattle.link.proofs.Laws.{chosen-one}
 use Rattle.catchup.proofs.One.{SamePart, caught-up-one}
+use Rattle.across.specs.declared.Counted.{Counted}
+use Rattle.across.specs.Units.{order-of}
+use Rattle.across.specs.Says.{Says}
+use Rattle.across.specs.Fields.{of-counted}
 use Rattle.bridge.specs.declared.Part.{Part}
+use Rattle.bridge.specs.Calls.{ThinShown}
 use Rattle.bridge.specs.Lent.{Places, nothing, of-second, of-first}
 use Rattle.bridge.specs.Crossing.{Crossing}
 use Rattle.across.proofs.Saying.{said}
@@ -45,9 +54,14 @@ places-same e (nothing h k) = nothing (sym (e .1) ∙ h) k
 places-same e (of-second n lt p k) = of-second (λ z. n (e .1 ∙ z)) lt (record { place = sym (e .0) ∙ p .place; holds = sym (e .1) ∙ p .holds }) k
 places-same e (of-first n lt p k) = of-first (λ z. n (e .1 ∙ z)) lt (record { place = sym (e .0) ∙ p .place; holds = sym (e .1) ∙ p .holds }) k
 
+-- thinning by either engine
+thin-as-told : (u : ℕ) (v : Float) {xs : List ℤ} {t l : List ℕ} {r : Counted} {t₁ t₂ l₁ l₂ : List ℕ} {a : Thinning} → ThinShown u v xs t l r t₁ l₁ → Thinned (order-of u v) xs t l a t₂ l₂ →
+    Says (thin-answer.told a) (of-counted r) × (t₁ ≡ t₂) × (l₁ ≡ l₂)
+thin-as-told u v p w = let e = thinned-one w (p .gives) in (said thin-answer.told (e .0) (p .says), sym (e .1), sym (e .2))
+
 pub crossing : Crossing
 crossing = record {
-  thin = λ u v p w. let e = thinned-one w (p .gives) in (said thin-answer.told (e .0) (p .says), sym (e .1), sym (e .2));
+  thin = λ u v p w. thin-as-told u v p w;
   thin-one = λ u v p q. thin-crosses u v p q;
   grow-back = λ p w. let e = grown-one w (p .gives) in (said regrow-answer.told (e .0) (p .says), sym (e .1));
   grow-back-one = λ p q. grow-crosses p q;
@@ -85,6 +99,8 @@ crossing = record {
   flip-list-one = λ p q. flip-crosses p q;
   undo-flips = λ p w. let e = undid-one w (p .gives) in (said flip-answer.told (e .0) (p .says), sym (e .1));
   undo-flips-one = λ p q. undo-crosses p q;
+  thin-plain = λ u v p w. thin-as-told u v p w;
+  thin-plain-one = λ u v p q. thin-crosses u v p q;
   open-log = λ p w. said told-opened (opened-one w (p .gives)) (p .says);
   open-log-one = λ p q. open-log-crosses p q;
   next-record = λ p w. said told-next (next-one w (p .shown .gives)) (p .shown .says);

@@ -70,7 +70,7 @@ use Rattle.across.specs.Fields.{of-counted, of-measure, of-exact, of-stand-in, 
 use Rattle.bridge.specs.Calls.{ThinShown, GrowShown, ReplayShown, VolumeShown, ChangeShown, ExactShown, ShiftShown, LimitShown, SheetShown, JobShown, FlipShown, UndoShown, ReplyShown, WriteLogShown, ReadLogShown, EachShown, RecoverShown, OpenShown, NextShown}
 use Rattle.bridge.specs.Lent.{TrialShown, Which, RingShown, Places, PartShown}
 
--- the calls in the order of their numbers over a pipe: 1 to 19, 24 to 26
+-- the calls in the order of their numbers over a pipe: 1 to 20, 24 to 26
 pub record Crossing : Type 0 where
   -- what is said is what the call answers, and what is left is what the call leaves
   pub thin : (u : ℕ) (v : Float) {xs : List ℤ} {t l : List ℕ} {r : Counted} {t₁ t₂ l₁ l₂ : List ℕ} {a : Thinning} → ThinShown u v xs t l r t₁ l₁ → Thinned (order-of u v) xs t l a t₂ l₂ →
@@ -117,6 +117,10 @@ pub record Crossing : Type 0 where
   pub flip-list-one : {n : ℕ} {t edges l : List ℕ} {r q : Counted} {t₁ t₂ l₁ l₂ : List ℕ} → FlipShown n t edges l r t₁ l₁ → FlipShown n t edges l q t₂ l₂ → (r ≡ q) × (t₁ ≡ t₂) × (l₁ ≡ l₂)
   pub undo-flips : {n : ℕ} {t log : List ℕ} {r : Counted} {t₁ t₂ : List ℕ} {a : Flipped} → UndoShown n t log r t₁ → UndoneAs n t log a t₂ → Says (flip-answer.told a) (of-counted r) × (t₁ ≡ t₂)
   pub undo-flips-one : {n : ℕ} {t log : List ℕ} {r q : Counted} {t₁ t₂ : List ℕ} → UndoShown n t log r t₁ → UndoShown n t log q t₂ → (r ≡ q) × (t₁ ≡ t₂)
+  -- by the plain engine, in the words of the first
+  pub thin-plain : (u : ℕ) (v : Float) {xs : List ℤ} {t l : List ℕ} {r : Counted} {t₁ t₂ l₁ l₂ : List ℕ} {a : Thinning} → ThinShown u v xs t l r t₁ l₁ → Thinned (order-of u v) xs t l a t₂ l₂ →
+      Says (thin-answer.told a) (of-counted r) × (t₁ ≡ t₂) × (l₁ ≡ l₂)
+  pub thin-plain-one : (u : ℕ) (v : Float) {xs : List ℤ} {t l : List ℕ} {r q : Counted} {t₁ t₂ l₁ l₂ : List ℕ} → ThinShown u v xs t l r t₁ l₁ → ThinShown u v xs t l q t₂ l₂ → (r ≡ q) × (t₁ ≡ t₂) × (l₁ ≡ l₂)
   pub open-log : {b : List ℕ} {r : LogOpened} {a : Opened} → OpenShown b r → OpenedLog b a → Says (told-opened a) (of-log-opened r)
   pub open-log-one : {b : List ℕ} {r q : LogOpened} → OpenShown b r → OpenShown b q → r ≡ q
   pub next-record : {b : List ℕ} {at : ℕ} {r : Asked} {a : Next} → NextShown b at r → NextRecord b at a → Says (told-next a) (of-asked r)

@@ -44,7 +44,7 @@ fn part_of<'a>(first: &'a [u32], second: &'a [u32]) -> Part
 
 // ---- the calls
 
-// Thins a first table under an order.
+// Thins a first table under an order, by the quick engine where there is no limit.
 #[no_mangle]
 pub extern "C" fn flaxglimmer_thin(
     unit: u32,
@@ -56,6 +56,20 @@ pub extern "C" fn flaxglimmer_thin(
     ensures { λ r. ⌜ ThinShown unit figure (now (corners .entry)) (now (table .entry)) (now (log .entry)) r (now (table .exit)) (now (log .exit)) ⌝ }
 {
     across::counted_thinning(thin::thin(table, corners, across::order_of(unit, figure), log))
+}
+
+// The same by the plain engine, whatever the order.
+#[no_mangle]
+pub extern "C" fn flaxglimmer_thin_plain(
+    unit: u32,
+    figure: f64,
+    table: &mut [u32],
+    corners: &[i32],
+    log: &mut [u32],
+) -> Counted
+    ensures { λ r. ⌜ ThinShown unit figure (now (corners .entry)) (now (table .entry)) (now (log .entry)) r (now (table .exit)) (now (log .exit)) ⌝ }
+{
+    across::counted_thinning(thin::thin_plain(table, corners, across::order_of(unit, figure), log))
 }
 
 // Grows a log back on the rows that stand in a room.

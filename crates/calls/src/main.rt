@@ -1,5 +1,6 @@
 // Every public call over a pipe: a request is read, its call made, the response written, until the requests end. Those that answer in numbers
 // go through the C boundary.
+use across::Counted;
 use ring::Trial;
 
 // The numbers of the trial ring.
@@ -7,6 +8,11 @@ const RING: usize = 384;
 
 // The greatest unit of a limit; 0 stands for no limit.
 const LAST_UNIT: u64 = 4;
+
+// The numbers of two calls that take an order, as the first does.
+const RECOVER: u64 = 16;
+
+const THIN_PLAIN: u64 = 20;
 
 // The figure of a pattern. A NaN's has an exponent of ones and digits that are not all 0; every NaN is one figure here.
 fn figure_of(bits: u64) -> f64 {
@@ -22,8 +28,9 @@ fn figure_of(bits: u64) -> f64 {
 // ---- requests: what is read is lent to the call, and what was lent to be written is written back after its answer. Each tells whether the next
 // request may be read; none may once a word was missing or not of its kind.
 
-// A thinning, or a recovery: unit and bits of the limit; table; corners; log; to recover, bytes too.
-fn call_ordered(recover: bool) -> bool {
+// The call of a number that takes an order, a thinning by either engine or a recovery: unit and bits of the limit; table; corners; log; to recover,
+// bytes too.
+fn call_ordered(number: u64) -> bool {
     let mut ok = true;
     let unit = words::take_word(&mut ok);
     if LAST_UNIT < unit {
@@ -39,7 +46,7 @@ fn call_ordered(recover: bool) -> bool {
     if !ok {
         return false;
     }
-    if recover {
+    if number == RECOVER {
         return recover_lent(
             unit as u32,
             figure_of(bits),
@@ -49,6 +56,7 @@ fn call_ordered(recover: bool) -> bool {
         );
     }
     thin_lent(
+        number == THIN_PLAIN,
         unit as u32,
         figure_of(bits),
         &mut table[..t],
@@ -57,12 +65,20 @@ fn call_ordered(recover: bool) -> bool {
     )
 }
 
-fn thin_lent(unit: u32, figure: f64, table: &mut [u32], corners: &[i32], log: &mut [u32]) -> bool {
-    let a = bridge::flaxglimmer_thin(unit, figure, table, corners, log);
-    if !words::answer_two(a.status, a.records) {
-        return false;
+fn thin_lent(
+    plain: bool,
+    unit: u32,
+    figure: f64,
+    table: &mut [u32],
+    corners: &[i32],
+    log: &mut [u32],
+) -> bool {
+    if plain {
+        let a = bridge::flaxglimmer_thin_plain(unit, figure, table, corners, log);
+        return counted_lent(a, table, log);
     }
-    write_both(table, log)
+    let a = bridge::flaxglimmer_thin(unit, figure, table, corners, log);
+    counted_lent(a, table, log)
 }
 
 // The bytes are the last argument, and read here.
@@ -92,6 +108,14 @@ fn recover_lent(
         &mut records,
     );
     if !words::answer_three(status, kept, records) {
+        return false;
+    }
+    write_both(table, log)
+}
+
+// The answer, and then table and log.
+fn counted_lent(a: Counted, table: &[u32], log: &[u32]) -> bool {
+    if !words::answer_two(a.status, a.records) {
         return false;
     }
     write_both(table, log)
@@ -184,13 +208,7 @@ fn call_flips() -> bool {
 
 fn flip_lent(corners: usize, table: &mut [u32], edges: &[u32], log: &mut [u32]) -> bool {
     let a = bridge::flaxglimmer_flip_list(corners, table, edges, log);
-    if !words::answer_two(a.status, a.records) {
-        return false;
-    }
-    if !words::write_numbers(table) {
-        return false;
-    }
-    words::write_numbers(log)
+    counted_lent(a, table, log)
 }
 
 // A volume, or an exact sum: table; corners.
@@ -382,7 +400,7 @@ fn ring_number(i: usize) -> u32 {
 // The call of a number.
 fn call(number: u64) -> bool {
     if number == 1 {
-        return call_ordered(false);
+        return call_ordered(number);
     }
     if number == 2 {
         return call_grow();
@@ -435,8 +453,8 @@ fn call_of_logs(number: u64) -> bool {
     if number == 15 {
         return logcalls::call_each();
     }
-    if number == 16 {
-        return call_ordered(true);
+    if number == RECOVER {
+        return call_ordered(number);
     }
     if number == 24 {
         return logcalls::call_open();
@@ -465,6 +483,14 @@ fn call_of_flips(number: u64) -> bool {
     }
     if number == 19 {
         return call_log(true);
+    }
+    call_of_engines(number)
+}
+
+// Thinning by the plain engine.
+fn call_of_engines(number: u64) -> bool {
+    if number == THIN_PLAIN {
+        return call_ordered(number);
     }
     false
 }

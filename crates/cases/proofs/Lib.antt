@@ -2,6 +2,7 @@ pub mod Skinned
 pub mod Starred
 pub mod Impostors
 pub mod Returns
+pub mod ByDegree
 pub mod Backward
 pub mod Mailed
 pub mod Recovered

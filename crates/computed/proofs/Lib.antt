@@ -1,4 +1,5 @@
 pub mod Passing
+pub mod Near
 pub mod Linking
 pub mod Running
 pub mod Using

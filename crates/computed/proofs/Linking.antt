@@ -1,8 +1,7 @@
 -- A test of the link condition that computes, and says neither too much nor too little.
-use mathlib.Core.Path.{_≡_}
 use mathlib.Core.Logic.{_⊎_, inl, inr}
 use mathlib.Core.Bool.{Bool, true, false, _&&_, _||_, not}
-use mathlib.Core.List.{List, map, Memᴰ·map, Memᴰ·of-map}
+use mathlib.Core.List.{List}
 use Prim.Native.Nat.{ℕ}
 use lib.Dec.{T as So, eqb, eqb→eq, eqb-refl, T-not, not-T}
 use Rattle.surface.specs.Rows.{Row}
@@ -10,19 +9,8 @@ use Rattle.surface.specs.Lists.{_∈_}
 use Rattle.surface.specs.Table.{Arrow, _⇒_, Follows, Edge, edges}
 use Rattle.surface.specs.Link.{Meets, Link}
 use Rattle.surface.proofs.Testing.{and-l, and-r, and-in, or-in, or-l, or-r, every, every-at, every-in, among, among-sound, among-whole, arrow-eq, arrow-sound, arrow-whole}
-use Rattle.surface.proofs.Round.{round, round-sound, round-whole, source-of}
-
-abbrev near : ℕ → List Row → List ℕ
-near v T = map source-of (round v T)
-
-near-sound : (v w : ℕ) (T : List Row) → w ∈ near v T → Edge T v w
-near-sound v w T m = let r = Memᴰ·of-map source-of (round v T) m in go (r .0) (r .1) (r .2)
-  where
-    go : (a : Arrow) → a ∈ round v T → source-of a ≡ w → Edge T v w
-    go (p ⇒ q) m e = (q, rw e at (round-sound {v = v} {p = p} {q = q} T m))
-
-near-whole : (v w : ℕ) (T : List Row) → Edge T v w → w ∈ near v T
-near-whole v w T e = Memᴰ·map source-of (round-whole T (e .1))
+use Rattle.surface.proofs.Round.{round, round-sound, round-whole}
+use Rattle.computed.proofs.Near.{near, near-sound, near-whole}
 
 abbrev same-num : ℕ → List ℕ → Bool
 same-num w l = among eqb w l

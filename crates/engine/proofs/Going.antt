@@ -22,7 +22,7 @@ use Rattle.record.proofs.Log.{numbers-length, log-length, log-append}
 use Rattle.record.specs.Front.{front-rows}
 use Rattle.step.specs.Front.{SteppedFront, Fallen}
 use Rattle.step.proofs.Front.{fallen-none, front-replays, fallen-on, fallen-left}
-use Rattle.engine.specs.Engine.{CanGoOn, WentOn}
+use Rattle.going.specs.Going.{CanGoOn, WentOn}
 
 -- the table t with r rows in front, the log l with k records: what the steps from t₀ have made
 pub record Going (P : ℕ → ℕ → Type 0) (n : ℕ) (t₀ : List ℕ) (r₀ : ℕ) (l₀ : List ℕ) (d : ℕ) (t l : List ℕ) (r k : ℕ) : Type 0 where

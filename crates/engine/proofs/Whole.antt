@@ -18,7 +18,7 @@ use Rattle.slots.proofs.Slots.{whole-rows}
 use Rattle.run.specs.Run.{Run}
 use Rattle.record.specs.Layout.{width, log-of, room-for}
 use Rattle.record.specs.Front.{front-rows, zeroed}
-use Rattle.engine.specs.Engine.{CanGoOn, WentOn}
+use Rattle.going.specs.Going.{CanGoOn, WentOn}
 
 -- no more corners are used than there are
 pub used-most : {n v : ℕ} {T : List Row} → Stage n T → Exactly (Used T) v → v ≤ n

@@ -10,7 +10,7 @@ ghost use Rattle.neighbours.specs.Around.{Unmarked};
 ghost use Rattle.least.specs.Limited.{Allowed};
 ghost use Rattle.least.specs.Inner.{Measurable};
 ghost use Rattle.least.specs.InnerSearch.{FoundLeast};
-ghost use Rattle.engine.specs.Engine.{CanGoOn, WentOn};
+ghost use Rattle.going.specs.Going.{CanGoOn, WentOn};
 
 // The least edge of a stage that qualifies. The chains round its corners are built anew for each step; the rest is the search's scratch.
 fn next_edge(

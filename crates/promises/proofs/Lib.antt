@@ -7,3 +7,4 @@ pub mod Mailing
 pub mod Recovering
 pub mod Stations
 pub mod Flipping
+pub mod Engines

@@ -31,7 +31,8 @@ use Rattle.thin.specs.declared.Asked.{Asked}
 use Rattle.thin.specs.declared.Thinning.{Thinning}
 use Rattle.thin.specs.declared.Thinning.the-variants as thinning
 use Rattle.thin.specs.Answer as thinnings
-use Rattle.thin.specs.Thin.{Thinned}
+use Rattle.thin.specs.Order.{asked}
+use Rattle.thin.specs.Thin.{thin-refusals, Thinned}
 use Rattle.thin.proofs.Main as thins
 use Rattle.regrow.specs.declared.Regrown.{Regrown}
 use Rattle.regrow.specs.declared.Regrown.the-variants as regrown
@@ -88,6 +89,9 @@ use Rattle.fliplist.proofs.Main as lists
 use Rattle.undoflips.specs.Outcome.{undo-refusals, undoing, UndoneAs}
 use Rattle.undoflips.proofs.Main as undoes
 use Rattle.promises.specs.Refusing.{FailsOf, RefusesJob, DemandOne}
+
+thin-refuses : (o : Order) {xs : List ℤ} {t l : List ℕ} {a : Thinning} {t′ l′ : List ℕ} → Thinned o xs t l a t′ l′ → Refuses (thin-refusals (asked o) xs t (length l)) (thinnings.told a)
+thin-refuses o w = elim (thins.thin-told w) [ inl x ↦ exactly (inl x) | inr x ↦ exactly (inr (x .0, not-refused (x .3))) ]
 
 thin-same : (o : Order) {xs : List ℤ} {t l : List ℕ} {a : Thinning} {t′ l′ : List ℕ} → Thinned o xs t l a t′ l′ → (r : Refusal) → thinnings.told a ≡ refused r → (t′ ≡ t) × (l′ ≡ l)
 thin-same o {a = thinning.Done k} w r p = absurd (refused-done r (sym p))
@@ -253,7 +257,7 @@ next-refuses (other h none e) = ((λ k n. ap told-next e), λ r p. (h, none))
 
 pub demand-one : DemandOne
 demand-one = record {
-  thin = λ o w. elim (thins.thin-told w) [ inl x ↦ exactly (inl x) | inr x ↦ exactly (inr (x .0, not-refused (x .3))) ];
+  thin = λ o w. thin-refuses o w;
   thin-same = λ o w r p. thin-same o w r p;
   grow-back = λ {n} {m} {room} {log} {a} w. follows-refuse regrown-answers regrowths.told (λ e. refl) (λ k. refl) (λ r k e. failing-other k e) a (outcome-did (growing n m room log) (w .outcome));
   grow-same = λ w r p. grow-same w r p;
@@ -300,6 +304,8 @@ demand-one = record {
   undo-same = λ w r p. undo-same w r p;
   undo-fails = λ w. undo-fails w UndoFails;
   undo-only = λ {n} {t} {log} w r k p. undo-by n t log (undo-fails w r .only k p .2);
+  thin-plain = λ o w. thin-refuses o w;
+  thin-plain-same = λ o w r p. thin-same o w r p;
   open-log = λ w. open-refuses w;
   next-record = λ w. next-refuses w;
   reader = λ w. next-refuses (w .answer);

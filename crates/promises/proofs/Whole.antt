@@ -49,6 +49,7 @@ nothing-left = record {
   job = λ p q. one-answer p q;
   flip-list = λ p q. flipped-one p q;
   undo-flips = λ p q. undid-one p q;
+  thin-plain = λ o p q. thinned-one p q;
   open-log = λ p q. opened-one p q;
   next-record = λ p q. next-one p q;
   exact-sum = λ a b p q. exact-sum-one a b p q;

@@ -44,7 +44,7 @@ use Rattle.logreader.specs.Outcome.{Asked, AnsweredAt, EachRecord}
 use Rattle.recover.specs.declared.Recovered.{Recovered}
 use Rattle.recover.specs.Outcome.{RecoveredBy}
 
--- the calls in the order of their numbers over a pipe, 1 to 19, 24 to 26, then the reader's own functions; each line names the relation that the call's `ensures` states
+-- the calls in the order of their numbers over a pipe, 1 to 20, 24 to 26, then the reader's own functions; each line names the relation that the call's `ensures` states
 pub record NothingLeft : Type 0 where
   -- the answer, the table and the log
   pub thin : (o : Order) {xs : List ℤ} {t l : List ℕ} {a b : Thinning} {t₁ t₂ l₁ l₂ : List ℕ} → Thinned o xs t l a t₁ l₁ → Thinned o xs t l b t₂ l₂ → (a ≡ b) × (t₁ ≡ t₂) × (l₁ ≡ l₂)
@@ -75,6 +75,8 @@ pub record NothingLeft : Type 0 where
   -- the answer, the table and the log; the answer and the table
   pub flip-list : {n : ℕ} {t edges l : List ℕ} {a b : Flipped} {t₁ t₂ l₁ l₂ : List ℕ} → FlippedAs n t edges l a t₁ l₁ → FlippedAs n t edges l b t₂ l₂ → (a ≡ b) × (t₁ ≡ t₂) × (l₁ ≡ l₂)
   pub undo-flips : {n : ℕ} {t log : List ℕ} {a b : Flipped} {t₁ t₂ : List ℕ} → UndoneAs n t log a t₁ → UndoneAs n t log b t₂ → (a ≡ b) × (t₁ ≡ t₂)
+  -- by the plain engine: the answer, the table and the log
+  pub thin-plain : (o : Order) {xs : List ℤ} {t l : List ℕ} {a b : Thinning} {t₁ t₂ l₁ l₂ : List ℕ} → Thinned o xs t l a t₁ l₁ → Thinned o xs t l b t₂ l₂ → (a ≡ b) × (t₁ ≡ t₂) × (l₁ ≡ l₂)
   pub open-log : {b : List ℕ} {a₁ a₂ : Opened} → OpenedLog b a₁ → OpenedLog b a₂ → a₁ ≡ a₂
   pub next-record : {b : List ℕ} {at : ℕ} {a₁ a₂ : Next} → NextRecord b at a₁ → NextRecord b at a₂ → a₁ ≡ a₂
   pub exact-sum : {xs : List ℤ} {t : List ℕ} (a b : ExactSum) → ExactReport xs t (volumes.told-exact a) → ExactReport xs t (volumes.told-exact b) → a ≡ b

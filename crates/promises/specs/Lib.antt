@@ -6,3 +6,4 @@ pub mod Mailing
 pub mod Recovery
 pub mod Stations
 pub mod Flipping
+pub mod Engines

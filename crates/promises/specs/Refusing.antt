@@ -150,6 +150,9 @@ pub record DemandOne : Type 0 where
   pub undo-fails : {n : ℕ} {t log : List ℕ} {a : Flipped} {t′ : List ℕ} → UndoneAs n t log a t′ →
       FailsOf 32 (undo-refusals n t log) (λ k T. Followed (undoing n t log) (flipped.Stopped UndoFails k) T) (λ T. t′ ≡ flat T) (flip-answer.told a)
   pub undo-only : {n : ℕ} {t log : List ℕ} {a : Flipped} {t′ : List ℕ} → UndoneAs n t log a t′ → (r : FlipRefusal) (k : ℕ) → flip-answer.told a ≡ flip-answer.stopped r k → r ≡ UndoFails
+  -- thinning by the plain engine, in the words of the first
+  pub thin-plain : (o : Order) {xs : List ℤ} {t l : List ℕ} {a : Thinning} {t′ l′ : List ℕ} → Thinned o xs t l a t′ l′ → Refuses (thin-refusals (asked o) xs t (length l)) (thinnings.told a)
+  pub thin-plain-same : (o : Order) {xs : List ℤ} {t l : List ℕ} {a : Thinning} {t′ l′ : List ℕ} → Thinned o xs t l a t′ l′ → (r : Refusal) → thinnings.told a ≡ refused r → (t′ ≡ t) × (l′ ≡ l)
   pub open-log : {b : List ℕ} {a : Opened} → OpenedLog b a → Refuses (open-refusals b) (told-opened a)
   -- 12 exactly where a byte follows the place and no record's line stands there; by a reader too, at its own place
   pub next-record : {b : List ℕ} {at : ℕ} {a : Next} → NextRecord b at a → (at < length b → ((ns : List ℕ) → ¬ LineStands b at ns) → told-next a ≡ refused-as 12)

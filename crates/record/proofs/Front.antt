@@ -9,8 +9,7 @@ use Rattle.surface.specs.Rows.{Row, rows, flat}
 use Rattle.surface.specs.Stage.{Stage}
 use Rattle.surface.specs.InnerStageTable.{StageTable}
 use Rattle.surface.proofs.Flat.{rows-flat, flat-length, flat-rows, rows-length}
-use Rattle.record.specs.Front.{front-rows, standing, filled, zeroed}
-use Rattle.record.specs.Inner.{lowered}
+use Rattle.record.specs.Front.{front-rows, standing, filled, zeroed, lowered}
 
 -- as many rows stand in front as are told
 pub standing-length : (m : ℕ) (room : List ℕ) → 3 * m ≤ length room → length (standing m room) ≡ m

@@ -19,3 +19,7 @@ filled T t = flat T ++ drop (3 * length T) t
 -- the rows T in front, and zeros in the rest of the table's length
 abbrev pub zeroed : List Row → List ℕ → List ℕ
 zeroed T t = flat T ++ replicate (length t - length (flat T)) 0
+
+-- the rows T in front, zeros to where m rows ended, and past that all as it was
+abbrev pub lowered : ℕ → List Row → List ℕ → List ℕ
+lowered m T t = flat T ++ (replicate (3 * m - length (flat T)) 0 ++ drop (3 * m) t)

@@ -19,13 +19,12 @@ use Rattle.faults.specs.Counts.{corners}
 use Rattle.run.specs.Run.{Run}
 use Rattle.run.proofs.Main.{replayed-stage, replayed-rows, replayed-corners, taken-replayed}
 use Rattle.record.specs.Layout.{count, records, log-of, room-for}
-use Rattle.record.specs.Front.{standing, zeroed}
-use Rattle.record.specs.Inner.{lowered}
+use Rattle.record.specs.Front.{standing, zeroed, lowered}
 use Rattle.record.proofs.Places.{records-length}
 use Rattle.record.proofs.Front.{front-stage, standing-front, zeroed-length, zeroed-again}
 use Rattle.least.specs.declared.Bound.{Bound}
 use Rattle.least.specs.Limited.{Allowed}
-use Rattle.engine.specs.Engine.{CanGoOn, WentOn}
+use Rattle.going.specs.Going.{CanGoOn, WentOn}
 use Rattle.engine.proofs.Whole.{used-most}
 use Rattle.regrow.specs.declared.Regrown.the-variants as following
 use Rattle.recover.specs.declared.Recovered.the-variants.{Done, Stopped}

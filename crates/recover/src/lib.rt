@@ -1,4 +1,5 @@
 // Recovery: a log sheet cut after any byte is followed on the skin that it began with, and thinning goes on from the stage handed over.
+use engines::Engine;
 use least::Bound;
 use length::Order;
 use logcut::Cut;
@@ -59,7 +60,16 @@ fn follow_on(
     let followed = hand_over(table, n, kept, log);
     match followed {
         Regrown::Done(k) => {
-            let all = engine::go_on(table, rows - 2 * k, n, corners, bound, log, k);
+            let all = engines::go_on(
+                Engine::Quick,
+                table,
+                rows - 2 * k,
+                n,
+                corners,
+                bound,
+                log,
+                k,
+            );
             Recovered::Done(k, all)
         }
         Regrown::Stopped(k) => Recovered::Stopped(k),

@@ -6,8 +6,7 @@ use Prim.Native.Nat.{ℕ}
 use Rattle.surface.specs.Rows.{Row, row}
 use Rattle.surface.specs.Record.{Placed, at, Record, Replays}
 use Rattle.record.specs.declared.Leaving.{Leaving}
-use Rattle.record.specs.Front.{standing}
-use Rattle.record.specs.Inner.{lowered}
+use Rattle.record.specs.Front.{standing, lowered}
 -- what is asked of the scratch that a caller lends
 pub use Rattle.neighbours.specs.Around.{Unmarked}
 

@@ -14,8 +14,7 @@ use Rattle.surface.specs.Record.{Record, Replays}
 use Rattle.run.proofs.Main.{replayed-stage, step-rows}
 use Rattle.refusal.specs.declared.Refusal.the-variants.{RecordFails}
 use Rattle.record.specs.Layout.{width, count, record-at, records}
-use Rattle.record.specs.Front.{front-rows, standing, zeroed}
-use Rattle.record.specs.Inner.{lowered}
+use Rattle.record.specs.Front.{front-rows, standing, zeroed, lowered}
 use Rattle.record.proofs.Log.{first-at}
 use Rattle.record.proofs.Places.{records-length}
 use Rattle.record.proofs.Front.{front-stage, standing-front, zeroed-whole, zeroed-length, zeroed-again}

@@ -19,7 +19,7 @@ use Rattle.wide.specs.Rounding.{figure}
 use Rattle.figure.proofs.Sizes.{stage-coordinates}
 use Rattle.least.specs.declared.Bound.the-variants.{Free}
 use Rattle.least.specs.Limited.{Allowed}
-use Rattle.engine.specs.Engine.{CanGoOn, WentOn}
+use Rattle.going.specs.Going.{CanGoOn, WentOn}
 use Rattle.engine.proofs.Whole.{Went, ready, went}
 use Rattle.lines.specs.Lines.{line}
 use Rattle.lines.specs.Kinds.{row-lines, record-lines}

@@ -1,4 +1,5 @@
 // The desk's answer to a sheet: read, checked once, thinned without limit, and told as text.
+use engines::Engine;
 use form::Form;
 use least::Bound;
 use refusal::Verdict;
@@ -21,7 +22,16 @@ fn thinned(table: &mut [u32], corners: &[i32], out: &mut [u8]) -> Answer
     let mut log = [0u32; LOG];
     let rows = table.len() / 3;
     let n = corners.len() / 3;
-    let k = engine::go_on(table, rows, n, corners, Bound::Free, &mut log, 0);
+    let k = engines::go_on(
+        Engine::Quick,
+        table,
+        rows,
+        n,
+        corners,
+        Bound::Free,
+        &mut log,
+        0,
+    );
     // a record takes two rows
     let left = table.len() - k * 6;
     let after = figure::volume_of(&table[..left], corners);

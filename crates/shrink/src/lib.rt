@@ -38,8 +38,8 @@ fn swapped(a: u32, b: u32, x: u32) -> u32
     if x == b { a } else { x }
 }
 
-// Writes a row's numbers from place j on.
-fn write_row(t: &mut [u32], j: usize, x: u32, y: u32, z: u32)
+// Inner: writes a row's numbers from place j on.
+pub fn write_row(t: &mut [u32], j: usize, x: u32, y: u32, z: u32)
     requires { ⌜ j + 3 ≤ length (now t) ⌝ }
     ensures { λ _. ⌜ now (t .exit) ≡ sets (now (t .entry)) j (x ∷ y ∷ z ∷ []) ⌝ }
 {
@@ -76,8 +76,8 @@ fn move_up(t: &mut [u32], a: u32, b: u32) -> usize
     j
 }
 
-// Zeros from place i to the end.
-fn clear(t: &mut [u32], i: usize)
+// Inner: zeros from place i to the end.
+pub fn clear(t: &mut [u32], i: usize)
     requires { ⌜ i ≤ length (now t) ⌝ }
     ensures { λ _. ⌜ now (t .exit) ≡ take i (now (t .entry)) ++ replicate (length (now (t .entry)) - i) 0 ⌝ }
 {

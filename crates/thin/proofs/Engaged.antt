@@ -19,7 +19,7 @@ use Rattle.least.specs.declared.Bound.{Bound}
 use Rattle.least.specs.declared.Bound.the-variants.{Free, Within}
 use Rattle.least.specs.Limited.{Allowed}
 use Rattle.least.specs.Inner.{Measurable}
-use Rattle.engine.specs.Engine.{CanGoOn, WentOn}
+use Rattle.going.specs.Going.{CanGoOn, WentOn}
 use Rattle.engine.proofs.Whole.{ready, went}
 use Rattle.thin.specs.declared.Asked.{Asked}
 use Rattle.thin.specs.declared.Asked.the-variants.{Under}

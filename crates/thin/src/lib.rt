@@ -1,4 +1,5 @@
-// Thinning: the call of document 01.
+// Thinning: the call of document 01, and the same by the plain engine.
+use engines::Engine;
 use least::Bound;
 use length::Length;
 use length::Order;
@@ -61,7 +62,7 @@ pub fn judge(table: &[u32], corners: &[i32], a: Asked, room: usize) -> Verdict
 }
 
 // Thinning from a first table, as asked.
-fn thin_as(table: &mut [u32], corners: &[i32], a: Asked, log: &mut [u32]) -> Thinning
+fn thin_as(by: Engine, table: &mut [u32], corners: &[i32], a: Asked, log: &mut [u32]) -> Thinning
     requires { ⌜ Fair a ⌝ }
     ensures { λ r. ⌜ ThinnedAs a (now (corners .entry)) (now (table .entry)) (now (log .entry)) r (now (table .exit)) (now (log .exit)) ⌝ }
 {
@@ -72,18 +73,39 @@ fn thin_as(table: &mut [u32], corners: &[i32], a: Asked, log: &mut [u32]) -> Thi
             Asked::NoUse => Thinning::Refused(Refusal::LimitUnusable),
             Asked::Under(b) => {
                 let rows = table.len() / 3;
-                Thinning::Done(engine::go_on(table, rows, corners.len() / 3, corners, b, log, 0))
+                let n = corners.len() / 3;
+                Thinning::Done(engines::go_on(by, table, rows, n, corners, b, log, 0))
             }
         },
     }
 }
 
-// Thins a first table under an order. The limit reader matches the length that a limit holds.
-pub fn thin(table: &mut [u32], corners: &[i32], order: Order, log: &mut [u32]) -> Thinning
+// Thinning under an order. The limit reader matches the length that a limit holds.
+fn thin_by(
+    by: Engine,
+    table: &mut [u32],
+    corners: &[i32],
+    order: Order,
+    log: &mut [u32],
+) -> Thinning
     ensures { λ r. ⌜ Thinned order (now (corners .entry)) (now (table .entry)) (now (log .entry)) r (now (table .exit)) (now (log .exit)) ⌝ }
 {
     match order {
-        Order::NoLimit => thin_as(table, corners, Asked::Under(Bound::Free), log),
-        Order::Limit(l) => thin_as(table, corners, asked_of(length::read_limit(l)), log),
+        Order::NoLimit => thin_as(by, table, corners, Asked::Under(Bound::Free), log),
+        Order::Limit(l) => thin_as(by, table, corners, asked_of(length::read_limit(l)), log),
     }
+}
+
+// Thins a first table under an order, by the quick engine where there is no limit.
+pub fn thin(table: &mut [u32], corners: &[i32], order: Order, log: &mut [u32]) -> Thinning
+    ensures { λ r. ⌜ Thinned order (now (corners .entry)) (now (table .entry)) (now (log .entry)) r (now (table .exit)) (now (log .exit)) ⌝ }
+{
+    thin_by(Engine::Quick, table, corners, order, log)
+}
+
+// Thins a first table under an order, by the plain engine.
+pub fn thin_plain(table: &mut [u32], corners: &[i32], order: Order, log: &mut [u32]) -> Thinning
+    ensures { λ r. ⌜ Thinned order (now (corners .entry)) (now (table .entry)) (now (log .entry)) r (now (table .exit)) (now (log .exit)) ⌝ }
+{
+    thin_by(Engine::Plain, table, corners, order, log)
 }

@@ -44,7 +44,7 @@ slice-reshare-prefix-volume-of c = search needs
 slice-aggregate-volume-of : tie.Need-slice-aggregate-volume-of
 slice-aggregate-volume-of c =
     let go-on = c .before .before .before .before .go-on in
-    let table = go-on .last .0 in
+    let table = go-on .last .1 .0 in
     sym (length-take-le (length table - go-on .result * 6) table (omega arith))
 
 volume-of-requires-2 : tie.Need-volume-of-requires-2
@@ -67,7 +67,7 @@ slice-reshare-prefix-tell-run c = search needs
 slice-aggregate-tell-run : tie.Need-slice-aggregate-tell-run
 slice-aggregate-tell-run c =
     let go-on = c .before .before .before .before .before .before .go-on in
-    let table = go-on .last .0 in
+    let table = go-on .last .1 .0 in
     sym (length-take-le (length table - go-on .result * 6) table (omega arith))
 
 array-share-prefix-log : tie.Need-array-share-prefix-log

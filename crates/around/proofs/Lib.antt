@@ -1,0 +1,3 @@
+pub mod Nears
+pub mod Walking
+pub mod Meeting

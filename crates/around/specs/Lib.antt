@@ -1,0 +1,2 @@
+pub mod InnerRing
+pub mod InnerMeeting

@@ -1,0 +1,3 @@
+pub mod InnerGround
+pub mod InnerRound
+pub mod InnerClose

@@ -1,0 +1,63 @@
+-- `fill_flight` meets its contract.
+use mathlib.Core.Path.{_≡_, _∙_}
+use Prim.Native.Nat.{_+_, _-_, _*_, _≤_, _/_}
+use lib.ListN.{length, length-set}
+use Rattle.ranks.specs.InnerRanks.{blocks}
+use Rattle.ranks.proofs.Filling.{Filled, fill-more}
+use native.Mathlib.Omega.{arith}
+use borrow.Author.Needs.{needs}
+use Rattle.ranks.proofs.fill_flight.Statement.{statement}
+use Rattle.ranks.proofs.fill_flight.Tie as tie
+
+abbrev Inv-loop : tie.InvT-loop
+Inv-loop flight₀ k₀ flight k = (k ≤ 2 * blocks) × (length flight ≡ 2 * blocks) × Filled (λ k. k / blocks) k flight
+
+abbrev μ-loop : tie.MeasureT-loop
+μ-loop flight₀ k₀ flight k = 2 * blocks - k
+
+loop-holds : tie.Need-loop-holds Inv-loop μ-loop
+loop-holds c = (omega arith, c .pre, λ j h. absurd (omega arith))
+
+mul-loop : tie.Need-mul-loop Inv-loop μ-loop
+mul-loop c = search needs
+
+cast-flight : tie.Need-cast-flight Inv-loop μ-loop
+cast-flight c = search needs
+
+mul-flight : tie.Need-mul-flight Inv-loop μ-loop
+mul-flight c = search needs
+
+slice-write-flight : tie.Need-slice-write-flight Inv-loop μ-loop
+slice-write-flight c = search needs
+
+add-k : tie.Need-add-k Inv-loop μ-loop
+add-k c = search needs
+
+loop-less : tie.Need-loop-less Inv-loop μ-loop
+loop-less c = search needs
+
+loop-again : tie.Need-loop-again Inv-loop μ-loop
+loop-again c = let loop = c .before .loop in let inv = loop .inv in let s = inv .1 in (omega arith, simp length-set s, fill-more (λ k. k / blocks) (loop .k) (loop .flight) (omega arith) (inv .2))
+
+same-length : tie.Need-same-length Inv-loop μ-loop
+same-length c = search needs
+
+returns : tie.Need-returns Inv-loop μ-loop
+returns c = let inv = c .before .loop .inv in record { size = inv .1; low = λ j h. inv .2 j (omega arith) ∙ omega arith; high = λ j h. inv .2 (blocks + j) (omega arith) ∙ omega arith }
+
+pub fill-flight-spec : {M : Type 1} → statement M
+fill-flight-spec =
+    tie.close
+    (tie.spec
+    Inv-loop
+    μ-loop
+    loop-holds
+    mul-loop
+    cast-flight
+    mul-flight
+    slice-write-flight
+    add-k
+    loop-less
+    loop-again
+    same-length
+    returns)

@@ -1,0 +1,6 @@
+pub mod Spots
+pub mod Live
+pub mod Held
+pub mod Counts
+pub mod Laying
+pub mod Closing

@@ -1,0 +1,2 @@
+pub mod Trapped
+pub mod ByCorner
