@@ -8,13 +8,16 @@ mod check;
 mod damage;
 mod damaged_flips;
 mod damaged_logs;
+mod engines;
 mod figures;
+mod finish;
 mod flips;
 mod hubs;
 mod logs;
 mod mailed;
 mod quick;
 mod quick_logs;
+mod quickest;
 mod sheet;
 mod skins;
 mod thin;
@@ -38,12 +41,13 @@ const SAMPLES: usize = 31;
 /// The most that a proved call may take of the time of the same loops.
 const RATIO: f64 = 1.2;
 /// The most that a call may grow on shafts when the rows double.
-const GROWTH: [(&str, f64); 8] = [
+const GROWTH: [(&str, f64); 9] = [
     ("check", 2.5),
     ("volume", 2.2),
     ("grow back", 4.5),
     ("replay", 4.5),
-    ("thin", 5.0),
+    ("thin", 2.5),
+    ("thin plain", 5.0),
     ("write log sheet", 2.5),
     ("read log sheet", 2.5),
     (ONE_BY_ONE, 2.5),
@@ -146,6 +150,38 @@ impl Measured {
     }
 }
 
+/// The engine that is asked for.
+#[derive(Clone, Copy)]
+enum Engine {
+    Plain,
+    Quick,
+}
+
+type Thin = fn(&mut [u32], &[i32], Option<Length>, &mut [u32]) -> Result<usize, Refusal>;
+
+impl Engine {
+    fn proved(self) -> Thin {
+        match self {
+            Engine::Plain => proved::thin_plain,
+            Engine::Quick => proved::thin,
+        }
+    }
+
+    fn same_loops(
+        self,
+        table: &mut [u32],
+        corners: &[i32],
+        limit: Option<u64>,
+        log: &mut [u32],
+        work: &mut impl work::Work,
+    ) -> Result<usize, Refusal> {
+        match (self, limit) {
+            (Engine::Quick, None) => finish::call(table, corners, log, work),
+            _ => thin::thin(table, corners, limit, log, work),
+        }
+    }
+}
+
 /// What a skin gives to measure: its first table, and its full log with the last stage.
 #[derive(Default)]
 struct Input {
@@ -185,8 +221,9 @@ impl Input {
     fn calls(&self) -> Vec<Call<'_>> {
         let mut calls = vec![
             self.check(),
-            self.thin("thin", None),
-            self.thin("thin under a limit", Some(self.limit)),
+            self.thin("thin", None, Engine::Quick),
+            self.thin("thin plain", None, Engine::Plain),
+            self.thin("thin under a limit", Some(self.limit), Engine::Quick),
             self.grow_back(),
             self.replay("replay", &self.log),
             self.volume(),
@@ -212,23 +249,25 @@ impl Input {
         })
     }
 
-    fn thin(&self, call: &'static str, limit: Option<u64>) -> Call<'_> {
+    /// By the engine that goes on without a limit; with one it is the plain engine, whichever is asked for.
+    fn thin(&self, call: &'static str, limit: Option<u64>, engine: Engine) -> Call<'_> {
         let length = limit.map(|limit| Length::Centimetres(limit as f64));
         let fresh = || (self.table.clone(), vec![0; WIDTH * (self.count() - FEWEST)]);
         let ((mut table, mut log), mut work) = (fresh(), Counted::default());
-        let answer = thin::thin(&mut table, &self.corners, limit, &mut log, &mut work);
+        let answer = engine.same_loops(&mut table, &self.corners, limit, &mut log, &mut work);
         let ((mut here, mut mine), (mut there, mut theirs)) = (fresh(), fresh());
-        assert_eq!(proved::thin(&mut here, &self.corners, length, &mut mine), answer, "{call}");
+        let proved_thin = engine.proved();
+        assert_eq!(proved_thin(&mut here, &self.corners, length, &mut mine), answer, "{call}");
         assert!((&here, &mine) == (&table, &log), "{call}: the two sides differ");
         let proved = move || {
             here.copy_from_slice(&self.table);
-            black_box(proved::thin(&mut here, &self.corners, length, &mut mine)).ok();
+            black_box(proved_thin(&mut here, &self.corners, length, &mut mine)).ok();
         };
-        let plain = move || {
+        let same = move || {
             there.copy_from_slice(&self.table);
-            black_box(thin::thin(&mut there, &self.corners, limit, &mut theirs, &mut Uncounted)).ok();
+            black_box(engine.same_loops(&mut there, &self.corners, limit, &mut theirs, &mut Uncounted)).ok();
         };
-        Call::new(call, answer.err(), work, proved, plain)
+        Call::new(call, answer.err(), work, proved, same)
     }
 
     fn grow_back(&self) -> Call<'_> {
@@ -401,7 +440,7 @@ fn print(kind: &str, all: &[Measured]) {
         let growth = |time: fn(&Sides<f64>) -> f64| {
             told(before.map(|before| time(&one.times) / time(&before.times)), |growth| format!("{growth:.2}"))
         };
-        let Counted { slots, link_tests, ring_entries, rows, bytes } = one.work;
+        let Counted { slots, link_tests, ring_entries, rows, bytes, .. } = one.work;
         println!(
             "| {} | {} | {:.1} | {:.1} | {:.2} | {} | {} | {} | {} | {slots} | {} | {link_tests} | {ring_entries} | {rows} | {bytes} |",
             one.call,
@@ -466,7 +505,7 @@ fn compare() {
     let inputs: Vec<Input> = skins.iter().map(Input::of).collect();
     let honest: usize = inputs.iter().map(|input| input.calls().len()).sum();
     let damaged = damage::compare(&skins) + damaged_logs::compare(&inputs) + damaged_flips::compare(&skins);
-    let more = damaged + hubs::compare(&skins) + turned::compare();
+    let more = damaged + hubs::compare(&skins) + turned::compare() + engines::compare();
     println!("{} passed, 0 failed", honest + more);
 }
 
@@ -487,6 +526,7 @@ fn time() {
     let (hubs, turned) = (hubs::time(), turned::time());
     let shafts = std::mem::take(&mut measured[0]);
     close(&shafts, &measured.concat(), &hubs, &turned);
+    engines::time();
 }
 
 fn main() -> ExitCode {
@@ -494,8 +534,17 @@ fn main() -> ExitCode {
     match arguments.iter().map(String::as_str).collect::<Vec<_>>()[..] {
         [] => time(),
         ["compare"] => compare(),
+        ["engines"] => engines::time(),
+        ["work"] => engines::count(),
+        ["run", side, kind, rows, times] => {
+            let [rows, times] = [rows, times].map(|number| number.parse().unwrap_or(0));
+            if let Err(why) = engines::run(side, kind, rows, times) {
+                eprintln!("bench: {why}");
+                return ExitCode::from(2);
+            }
+        }
         _ => {
-            eprintln!("usage: bench [compare]");
+            eprintln!("usage: bench [compare | engines | work | run SIDE KIND ROWS TIMES]");
             return ExitCode::from(2);
         }
     }

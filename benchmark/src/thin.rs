@@ -220,6 +220,7 @@ pub fn contract(table: &mut [u32], kept: u32, removed: u32, work: &mut impl Work
         for (slot, corner) in row.into_iter().enumerate() {
             table[to + slot] = if corner == removed { kept } else { corner };
         }
+        work.renamed(usize::from(holds(&row, removed)));
         to += 3;
     }
     work.rows(table.len() / 3);
@@ -241,6 +242,17 @@ pub fn thin(
         return Err(Refusal::RoomShort);
     }
     check::with_coordinates(table, corners, true, work)?;
+    Ok(thin_checked(table, corners, most, log, work))
+}
+
+/// Thins a table that is checked: how many records were written.
+pub fn thin_checked(
+    table: &mut [u32],
+    corners: &[i32],
+    most: Option<u64>,
+    log: &mut [u32],
+    work: &mut impl Work,
+) -> usize {
     let mut scratch = Scratch::EMPTY;
     let (mut end, mut records) = (table.len(), 0);
     while let Some((kept, removed)) = least_edge(&table[..end], corners, most, &mut scratch, work) {
@@ -250,5 +262,5 @@ pub fn thin(
         end -= 3 * LEAVE;
         records += 1;
     }
-    Ok(records)
+    records
 }

@@ -9,6 +9,8 @@ pub trait Work {
     fn ring_entries(&mut self, count: usize);
     /// Rows that a step or a record passes over.
     fn rows(&mut self, count: usize);
+    /// Rows in which a step writes another number.
+    fn renamed(&mut self, count: usize);
     /// Bytes read or written.
     fn bytes(&mut self, count: usize);
 }
@@ -21,6 +23,7 @@ impl Work for Uncounted {
     fn link_test(&mut self) {}
     fn ring_entries(&mut self, _: usize) {}
     fn rows(&mut self, _: usize) {}
+    fn renamed(&mut self, _: usize) {}
     fn bytes(&mut self, _: usize) {}
 }
 
@@ -30,6 +33,7 @@ pub struct Counted {
     pub link_tests: usize,
     pub ring_entries: usize,
     pub rows: usize,
+    pub renamed: usize,
     pub bytes: usize,
 }
 
@@ -45,6 +49,9 @@ impl Work for Counted {
     }
     fn rows(&mut self, count: usize) {
         self.rows += count;
+    }
+    fn renamed(&mut self, count: usize) {
+        self.renamed += count;
     }
     fn bytes(&mut self, count: usize) {
         self.bytes += count;
