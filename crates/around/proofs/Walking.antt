@@ -1,7 +1,7 @@
 -- The walk along the list of a corner in the first table.
 use mathlib.Core.Path.{_≡_, refl, sym, _∙_, ap}
 use mathlib.Core.Logic.{_≢_, _⊎_, inl, inr}
-use mathlib.Core.List.{List, [], _∷_, _++_, map, map-append, List·Memᴰ·head, List·Memᴰ·not-nil, List·Memᴰ·eq-of-singleton, List·Memᴰ·append-cases, Memᴰ·append-left, Memᴰ·append-right}
+use mathlib.Core.List.{List, [], _∷_, _++_, map-append, List·Memᴰ·head, List·Memᴰ·not-nil, List·Memᴰ·eq-of-singleton, List·Memᴰ·append-cases, Memᴰ·append-left, Memᴰ·append-right}
 use Prim.Native.Nat.{ℕ, _+_, _*_, _≤_, _<_}
 use native.Mathlib.Decide.{ℕ-discrete}
 use native.Mathlib.Omega.{arith}
@@ -18,8 +18,8 @@ use Rattle.spots.specs.InnerHeld.{flat-of, wide, wides, HoldsSomeStage}
 use Rattle.spots.specs.InnerLists.{Mapped}
 use Rattle.spots.proofs.Held.{wide-inside, wide-one, after-at}
 use Rattle.spots.proofs.Live.{slot-below, clean-back, slot-one}
-use Rattle.around.specs.InnerRing.{SameBit, DifferBit, SlotsOf, next-to, MarkedIn, WalkedRound}
-use Rattle.around.proofs.Nears.{nears, nears-out, nears-distinct, next-to-wides}
+use Rattle.around.specs.InnerRing.{SameBit, DifferBit, next-to, MarkedIn, WalkedRound}
+use Rattle.around.proofs.Nears.{nears, nears-out, next-to-wides}
 
 -- a list with one number more
 one-on : {l : List ℕ} {x : ℕ} → Distinct l → ¬ (x ∈ l) → Distinct (l ++ (x ∷ []))

@@ -8,7 +8,6 @@ use lib.ListN.{length, take, drop, replicate}
 use Rattle.surface.specs.Rows.{Row, rows, flat}
 use Rattle.surface.specs.Stage.{Stage}
 use Rattle.surface.specs.Record as surface
-use Rattle.run.specs.Run.{Run}
 use Rattle.run.proofs.Main.{run-one}
 use Rattle.trapped.specs.Trapped.{Any}
 use Rattle.trapped.specs.ByCorner.{ByCorner}

@@ -1,21 +1,19 @@
 -- A first table laid down, and what is left closed up.
 use mathlib.Core.Path.{_≡_, refl, sym, _∙_, ap}
-use mathlib.Core.Logic.{_≢_, _⊎_, inl, inr}
-use mathlib.Core.List.{List, [], _∷_, _++_, append-assoc, map}
-use Prim.Native.Nat.{ℕ, zero, suc, _+_, _-_, _*_, _≤_, _<_, _/_, _%_}
+use mathlib.Core.Logic.{inl}
+use mathlib.Core.List.{List, [], _∷_, _++_, append-assoc}
+use Prim.Native.Nat.{ℕ, suc, _+_, _-_, _*_, _≤_, _<_, _/_, _%_}
 use native.Mathlib.Decide.{decLt}
 use native.Mathlib.Omega.{arith}
 use lib.ListN.{length, take, drop, getD, replicate, length-append, List·getD-eq-default}
 use lib.Seq.{take-at, length-take-le}
 use Rattle.surface.specs.Limits.{most-rows, most-corners}
-use Rattle.surface.specs.Rows.{Row, row, rows, flat}
+use Rattle.surface.specs.Rows.{row, rows, flat}
 use Rattle.surface.specs.InnerStageTable.{StageTable}
-use Rattle.surface.proofs.Flat.{rows-length}
-use Rattle.slots.specs.Slot.{Whole, Under}
+use Rattle.slots.specs.Slot.{Under}
 use Rattle.slots.proofs.Staged.{table-whole, table-under}
-use Rattle.record.specs.Layout.{room-for}
-use Rattle.record.specs.Front.{front-rows, zeroed}
-use Rattle.spots.specs.InnerSpots.{spot-of, living, live-rows, Slotted}
+use Rattle.record.specs.Front.{front-rows}
+use Rattle.spots.specs.InnerSpots.{living, live-rows}
 use Rattle.spots.specs.InnerHeld.{flat-of, held-rows, HoldsStage}
 use Rattle.spots.specs.InnerLists.{WideLists}
 use Rattle.spots.specs.InnerKept.{ClosedUp}
@@ -29,7 +27,7 @@ use Rattle.strike.specs.InnerStrike.{stands}
 use Rattle.strike.proofs.Striking.{stands-yes}
 use Rattle.trapped.specs.ByCorner.{ByCorner}
 use Rattle.going.specs.Going.{CanGoOn, WentBy}
-use Rattle.quick.specs.InnerGround.{gone-mark, ListsServe, MarksHold, BeforeCorner}
+use Rattle.quick.specs.InnerGround.{BeforeCorner}
 use Rattle.quick.specs.InnerRound.{AllDone}
 use Rattle.quick.specs.InnerClose.{RoomFor, ThinnedAll}
 

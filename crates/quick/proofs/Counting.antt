@@ -1,12 +1,12 @@
 -- Counts with one more, and with one less.
-use mathlib.Core.Path.{_≡_, refl, sym, _∙_, ap}
+use mathlib.Core.Path.{_≡_, refl, ap}
 use mathlib.Core.Logic.{_≢_, _⊎_, inl, inr}
-use mathlib.Core.List.{List, [], _∷_, filter, List·Memᴰ·head, List·Memᴰ·tail, List·Memᴰ·cases-cons}
-use Prim.Native.Nat.{ℕ, suc, _+_}
+use mathlib.Core.List.{List, _∷_, filter, List·Memᴰ·head, List·Memᴰ·tail, List·Memᴰ·cases-cons}
+use Prim.Native.Nat.{ℕ, suc}
 use native.Mathlib.Decide.{ℕ-discrete}
 use native.Mathlib.Omega.{arith}
 use lib.ListN.{length}
-use Rattle.surface.specs.Lists.{_∈_, Distinct, more, Exactly}
+use Rattle.surface.specs.Lists.{_∈_, more, Exactly}
 use Rattle.surface.proofs.Count.{distinct-filter}
 use Rattle.surface.proofs.Renumber.{filter-in, filter-out}
 use Rattle.surface.proofs.Main.{counts-one}

@@ -1,8 +1,8 @@
 -- A corner opened, tried out, and finished.
-use mathlib.Core.Path.{_≡_, refl, sym, _∙_, ap}
+use mathlib.Core.Path.{_≡_, refl, sym, _∙_}
 use mathlib.Core.Logic.{_≢_, _⊎_, inl, inr}
-use mathlib.Core.List.{List, [], _∷_, _++_, append-nil}
-use Prim.Native.Nat.{ℕ, suc, _+_, _-_, _*_, _≤_, _<_}
+use mathlib.Core.List.{List, [], _∷_, _++_}
+use Prim.Native.Nat.{ℕ, _+_, _-_, _*_, _≤_, _<_}
 use native.Mathlib.Decide.{ℕ-discrete}
 use native.Mathlib.Numerals.{add-one}
 use native.Mathlib.Omega.{arith}
@@ -13,19 +13,18 @@ use Rattle.follow.proofs.Leading.{leads-on}
 use Rattle.surface.specs.Limits.{most-corners}
 use Rattle.surface.specs.Lists.{_∈_}
 use Rattle.surface.specs.Table.{Edge}
-use Rattle.surface.specs.Link.{Meets}
 use Rattle.surface.specs.Record as surface
 use Rattle.record.specs.Layout.{width, numbers, room-for}
 use Rattle.neighbours.specs.Around.{Neighbours}
 use Rattle.spots.specs.InnerHeld.{held-rows}
-use Rattle.waiting.specs.InnerWaiting.{Waiting, Member, LeastOf, nobody, least, waiters}
+use Rattle.waiting.specs.InnerWaiting.{Member, LeastOf, nobody, least, waiters}
 use Rattle.waiting.proofs.Waiters.{waiters-most}
 use Rattle.around.specs.InnerRing.{RingOf, next-to}
 use Rattle.around.specs.InnerMeeting.{Met}
 use Rattle.around.proofs.Nears.{ring-neighbours, ring-listed}
 use Rattle.trapped.specs.Trapped.{NextAt}
-use Rattle.trapped.specs.ByCorner.{Steps, AtCorner, Corners, not-begun, next-corner}
-use Rattle.quick.specs.InnerGround.{gone-mark, MarksHold, Ground, BeforeCorner, Logged}
+use Rattle.trapped.specs.ByCorner.{not-begun, next-corner}
+use Rattle.quick.specs.InnerGround.{gone-mark, MarksHold, BeforeCorner}
 use Rattle.quick.specs.InnerRound.{AtOpenCorner, LeastWaits, Progress, Tried, CornerDone, AllDone}
 use Rattle.quick.proofs.Logging.{logged-none, logged-one, logged-on}
 use Rattle.quick.proofs.Grounds.{stage, ground-inside, ground-marked}

@@ -1,31 +1,24 @@
 -- The ground between the corners: the lists that serve, the room that is left, and the ground after a step.
-use mathlib.Core.Path.{_≡_, refl, sym, _∙_, ap}
+use mathlib.Core.Path.{_≡_, sym, _∙_}
 use mathlib.Core.Logic.{_≢_, _⊎_, inl, inr}
 use mathlib.Core.List.{List}
-use Prim.Native.Nat.{ℕ, _+_, _-_, _*_, _≤_, _<_}
-use native.Mathlib.Decide.{ℕ-discrete}
+use Prim.Native.Nat.{ℕ, _+_, _-_, _≤_, _<_}
 use native.Mathlib.Omega.{arith}
-use lib.ListN.{length, getD, set, length-set}
-use lib.Seq.{getD-set-same, getD-set-other}
-use Rattle.surface.specs.Limits.{least-corners, most-corners}
-use Rattle.surface.specs.Lists.{_∈_, Exactly}
+use lib.ListN.{length, getD}
+use Rattle.surface.specs.Limits.{most-corners}
 use Rattle.surface.specs.Rows.{Row}
-use Rattle.surface.specs.Table.{Edge, Used}
 use Rattle.surface.specs.Stage.{Stage}
-use Rattle.surface.specs.Link.{Meets, Opposite}
+use Rattle.surface.specs.Link.{Meets}
 use Rattle.surface.specs.Contract.{contract}
-use Rattle.surface.proofs.Linked.{opposite}
-use Rattle.surface.proofs.Counted.{used-old}
 use Rattle.surface.proofs.Main.{contraction, two-fewer, corners-there, one-fewer, four-used}
 use Rattle.run.proofs.Main.{step-corners}
 use Rattle.record.specs.declared.Record.{Record}
 use Rattle.record.specs.Layout.{width, room-for}
-use Rattle.spots.specs.InnerHeld.{flat-of, held-rows, HoldsStage, HoldsSomeStage}
+use Rattle.spots.specs.InnerHeld.{flat-of, held-rows, HoldsSomeStage}
 use Rattle.spots.specs.InnerLists.{Mapped}
 use Rattle.spots.proofs.Held.{flat-size}
-use Rattle.around.specs.InnerMeeting.{Met}
 use Rattle.strike.specs.InnerStrike.{Struck}
-use Rattle.quick.specs.InnerGround.{gone-mark, ListsServe, MarksHold, Ground}
+use Rattle.quick.specs.InnerGround.{gone-mark, MarksHold, Ground}
 
 module _ {n : ℕ} {h start list mark sub sup l : List ℕ} {lowest k total d : ℕ} (g : Ground n h start list mark sub sup l lowest k total d) where
   abbrev T : List Row

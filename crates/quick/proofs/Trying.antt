@@ -1,12 +1,12 @@
 -- One try at the corner u: the least corner that waits is blocked, or it is the least whose edge to u may be contracted, and goes into u.
-use mathlib.Core.Path.{_≡_, refl, sym, _∙_, ap}
+use mathlib.Core.Path.{_≡_, sym, _∙_}
 use mathlib.Core.Logic.{_≢_, _⊎_, inl, inr}
-use mathlib.Core.List.{List, [], _∷_, filter, List·Memᴰ·head, List·Memᴰ·tail, List·Memᴰ·cases-cons, List·Memᴰ·not-nil}
-use Prim.Native.Nat.{ℕ, suc, _+_, _-_, _*_, _≤_, _<_}
+use mathlib.Core.List.{List, [], _∷_, List·Memᴰ·head, List·Memᴰ·tail, List·Memᴰ·cases-cons, List·Memᴰ·not-nil}
+use Prim.Native.Nat.{ℕ, _+_, _-_, _*_, _≤_, _<_}
 use native.Mathlib.Decide.{ℕ-discrete}
 use native.Mathlib.Omega.{arith}
-use lib.ListN.{length, getD, set, take, length-set}
-use lib.Seq.{getD-set-same, getD-set-other, length-take-le}
+use lib.ListN.{length, getD, set, length-set}
+use lib.Seq.{getD-set-same, getD-set-other}
 use Rattle.surface.specs.Limits.{most-corners}
 use Rattle.surface.specs.Lists.{_∈_, Exactly}
 use Rattle.surface.specs.Rows.{Row}
@@ -22,17 +22,17 @@ use Rattle.record.specs.declared.Record.{Record}
 use Rattle.link.proofs.Tally.{exactly-same}
 use Rattle.neighbours.specs.Around.{Neighbours}
 use Rattle.spots.specs.InnerHeld.{held-rows}
-use Rattle.waiting.specs.InnerWaiting.{digit-of, Waiting, Member, Released}
-use Rattle.around.specs.InnerRing.{RingOf, next-to, MarkedIn, WalkedRound}
+use Rattle.waiting.specs.InnerWaiting.{digit-of, Member, Released}
+use Rattle.around.specs.InnerRing.{RingOf, next-to, MarkedIn}
 use Rattle.around.specs.InnerMeeting.{Met}
 use Rattle.around.proofs.Nears.{ring-neighbours, ring-listed, next-to-length}
 use Rattle.strike.specs.InnerStrike.{Struck}
 use Rattle.trapped.specs.Trapped.{NextAt, Spared, far, many}
 use Rattle.trapped.proofs.Flags.{spared}
-use Rattle.quick.specs.InnerGround.{gone-mark, MarksHold, Ground}
+use Rattle.quick.specs.InnerGround.{gone-mark, MarksHold}
 use Rattle.quick.specs.InnerRound.{AtOpenCorner, LeastWaits, Unchanged}
 use Rattle.quick.proofs.Counting.{one-over, one-less}
-use Rattle.quick.proofs.Grounds.{stage, ground-marked, ground-step}
+use Rattle.quick.proofs.Grounds.{stage, ground-step}
 
 member? : (bits : List ℕ) (w : ℕ) → w < most-corners → Dec (Member bits w)
 member? bits w h = go (ℕ-discrete (digit-of bits w) 1)
@@ -168,9 +168,6 @@ module _ {n : ℕ} {h start list mark bits tops sub sup l : List ℕ} {u total d
 
         not-self : {w : ℕ} → Edge T v w → w ≢ v
         not-self c q = S .apart (c .1) (sym q)
-
-        abbrev mark₂ : List ℕ
-        mark₂ = set mark₁ v gone-mark
 
         at-v : getD (set mark₁ v gone-mark) v 0 ≡ gone-mark
         at-v = let a = met .size in let b = v-small in let c = g .ground .marks .size in getD-set-same mark₁ v gone-mark 0 (omega arith)

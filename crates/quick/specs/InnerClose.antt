@@ -1,8 +1,8 @@
 -- The quick engine on a whole table: what it is asked for, and what it leaves.
 use mathlib.Core.Path.{_≡_}
-use mathlib.Core.List.{List, _++_}
-use Prim.Native.Nat.{ℕ, _+_, _≤_}
-use lib.ListN.{length, take, drop}
+use mathlib.Core.List.{List}
+use Prim.Native.Nat.{ℕ, _≤_}
+use lib.ListN.{length}
 use Rattle.surface.specs.Rows.{Row, rows, flat}
 use Rattle.surface.specs.Record as surface
 use Rattle.record.specs.Layout.{room-for}

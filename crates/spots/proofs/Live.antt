@@ -2,21 +2,20 @@
 use mathlib.Core.Path.{_≡_, refl, sym, _∙_, ap}
 use mathlib.Core.Logic.{_≢_, _⊎_, inl, inr, ite}
 use mathlib.Core.List.{List, [], _∷_, map, List·Memᴰ·head, List·Memᴰ·tail, List·Memᴰ·cases-cons, List·Memᴰ·not-nil}
-use Prim.Native.Nat.{ℕ, zero, suc, _+_, _-_, _*_, _≤_, _<_, _/_, _%_}
+use Prim.Native.Nat.{ℕ, zero, suc, _+_, _-_, _*_, _≤_, _<_, _/_}
 use native.Mathlib.Decide.{ℕ-discrete, decLt}
 use native.Mathlib.Omega.{arith}
 use lib.ListN.{length, getD}
 use Rattle.surface.specs.Limits.{most-corners}
 use Rattle.surface.specs.Lists.{_∈_}
 use Rattle.surface.specs.Rows.{Row, row, rows, Turned, turn-0, turn-1, turn-2}
-use Rattle.surface.specs.Table.{Follows, Edge}
-use Rattle.surface.specs.Stage.{Stage}
+use Rattle.surface.specs.Table.{Follows}
 use Rattle.surface.proofs.Flat.{rows-at, at-place}
 use Rattle.surface.proofs.Count.{length-map}
-use Rattle.surface.proofs.Once.{Once, once-none, once-more}
-use Rattle.surface.proofs.Following.{re, stage-once}
+use Rattle.surface.proofs.Once.{Once, once-more}
+use Rattle.surface.proofs.Following.{stage-once}
 use Rattle.slots.specs.Slot.{next-slot, At}
-use Rattle.slots.proofs.Slots.{next-0, next-1, next-2, Third, third-0, third-1, third-2, third, next-round, next-inside, whole-rows, follows-at, at-follows}
+use Rattle.slots.proofs.Slots.{next-0, next-1, next-2, Third, third-0, third-1, third-2, third, next-round, next-inside, whole-rows, follows-at}
 use Rattle.spots.specs.InnerSpots.{Spot, live, dead, spot-of, living, live-rows, Slotted}
 use Rattle.spots.proofs.Spots.{live-row, not-dead}
 
@@ -35,9 +34,6 @@ spot-dead i j k n = go (ℕ-discrete i most-corners)
     go : (d : Dec (i ≡ most-corners)) → ite {C = Spot} d dead (live (row i j k)) ≡ dead
     go (yes e) = refl
     go (no m) = absurd (m n)
-
-pub live-first : {r : Row} {i j k : ℕ} → r ≡ row i j k → spot-of r ≡ live r → i ≢ most-corners
-live-first {r} {i} {j} {k} e l h = not-dead (sym (spot-dead i j k h) ∙ ap spot-of (sym e) ∙ l)
 
 pub living-in : (S : List Spot) {r : Row} → live r ∈ S → r ∈ living S
 unfolding living

@@ -1,8 +1,8 @@
 -- The loops over a ring, and a row that leaves.
-use mathlib.Core.Path.{_≡_, refl, sym, _∙_, ap}
+use mathlib.Core.Path.{_≡_, refl, _∙_, ap}
 use mathlib.Core.Logic.{_≢_, _⊎_, inl, inr}
 use mathlib.Core.List.{List, List·Memᴰ·not-nil}
-use Prim.Native.Nat.{ℕ, _+_, _*_, _≤_, _<_, _/_, _%_}
+use Prim.Native.Nat.{ℕ, _+_, _*_, _≤_, _<_, _/_}
 use native.Mathlib.Decide.{ℕ-discrete}
 use native.Mathlib.Omega.{arith}
 use lib.ListN.{length, getD, set, take, length-set}
@@ -11,8 +11,8 @@ use Rattle.surface.specs.Limits.{most-corners}
 use Rattle.surface.specs.Lists.{_∈_}
 use Rattle.surface.proofs.Flat.{at-place, place-of}
 use Rattle.neighbours.proofs.Firsts.{first-split, first-old, first-new}
-use Rattle.spots.specs.InnerHeld.{own-place, after-place}
-use Rattle.strike.specs.InnerStrike.{Inside, Picks, BothBeside, SomeBeside, SlotsRenamed, Killed}
+use Rattle.spots.specs.InnerHeld.{own-place}
+use Rattle.strike.specs.InnerStrike.{Inside, Picks, SlotsRenamed, Killed}
 
 -- x is a number of l with the property P, or one with it stands in l from place i on
 pub data Sought (P : ℕ → Type 0) (l : List ℕ) (i x : ℕ) : Type 0 where

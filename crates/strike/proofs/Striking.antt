@@ -5,13 +5,13 @@ use mathlib.Core.List.{List, [], _∷_, map, Memᴰ·map}
 use Prim.Native.Nat.{ℕ, zero, suc, _+_, _-_, _*_, _≤_, _<_, _/_, _%_}
 use native.Mathlib.Decide.{ℕ-discrete, decLt}
 use native.Mathlib.Omega.{arith}
-use lib.ListN.{length, getD, take}
+use lib.ListN.{length, getD}
 use Rattle.surface.specs.Limits.{most-rows, most-corners}
 use Rattle.surface.specs.Lists.{_∈_}
 use Rattle.surface.specs.Rows.{Row, row, rows}
-use Rattle.surface.specs.Link.{Meets, Opposite}
+use Rattle.surface.specs.Link.{Opposite}
 use Rattle.surface.specs.Contract.{Holds, at-0, at-1, at-2, Stays, replace, renumber, contract}
-use Rattle.surface.specs.Record.{at, leaving, Replays}
+use Rattle.surface.specs.Record.{at, leaving}
 use Rattle.surface.proofs.Once.{turn}
 use Rattle.surface.proofs.Linked.{opposite}
 use Rattle.surface.proofs.Flat.{rows-at}
@@ -20,16 +20,15 @@ use Rattle.surface.proofs.Renumber.{replace-at, replace-off, turned-holds}
 use Rattle.surface.proofs.Main.{contraction}
 use Rattle.record.specs.declared.Leaving.{Leaving}
 use Rattle.record.specs.declared.Corner.{Corner}
-use Rattle.slots.specs.Slot.{next-slot, At, Whole}
+use Rattle.slots.specs.Slot.{next-slot, At}
 use Rattle.slots.proofs.Slots.{next-cases, next-round, next-inside, whole-rows}
 use Rattle.spots.specs.InnerSpots.{Spot, live, dead, spot-of, living, live-rows, rank, Slotted}
-use Rattle.spots.specs.InnerHeld.{flat-of, wide, own, wides, held-rows, HoldsStage, slot-at, after-place, own-place}
+use Rattle.spots.specs.InnerHeld.{flat-of, wide, own, held-rows, HoldsStage, after-place, own-place}
 use Rattle.spots.proofs.Spots.{not-dead, Changed, was-dead, left-it, renamed-it, spots-contract, spots-record}
-use Rattle.spots.proofs.Live.{spot-live, spot-dead, getD-spots, live-slot, spot-at, spot-stands, turned-at, live-at, live-follows, row-live, in-row, row-one-slot, slot-one}
-use Rattle.spots.proofs.Held.{flat-size, flat-threes, places, wide-inside, own-inside, after-at, own-at, own-one, narrow-wide, wide-three, wide-row}
-use Rattle.ranks.specs.InnerRanks.{how-many, without, CountsRows, CountsSome, TwoStand, TwoLeft}
+use Rattle.spots.proofs.Live.{spot-live, spot-dead, getD-spots, live-slot, spot-at, spot-stands, turned-at, live-follows, row-live, in-row, row-one-slot, slot-one}
+use Rattle.spots.proofs.Held.{flat-size, places, wide-inside, own-inside, after-at, own-at, own-one, narrow-wide, wide-three, wide-row}
+use Rattle.ranks.specs.InnerRanks.{how-many, without, TwoStand, TwoLeft}
 use Rattle.ranks.proofs.Sums.{counts-same, without-here, without-other}
-use Rattle.around.specs.InnerRing.{SlotsOf, RingOf}
 use Rattle.around.proofs.Nears.{map-out}
 use Rattle.strike.specs.InnerStrike.{stands, Tallied, Inside, BothBeside, SomeBeside, Ordered, SlotsRenamed, Killed, LeavingTold, Ready, Struck}
 

@@ -3,10 +3,9 @@ use record::Corner;
 use record::Leaving;
 use record::Place;
 use record::Record;
-ghost use mathlib.Core.Path.{_≡_};
 ghost use Prim.Native.Nat.{_+_, _*_, _≤_, _<_};
 ghost use lib.ListN.{length};
-ghost use Rattle.surface.specs.Limits.{most-rows, most-corners};
+ghost use Rattle.surface.specs.Limits.{most-rows};
 ghost use Rattle.ranks.specs.InnerRanks.{CountsSome, Stairs};
 ghost use Rattle.strike.specs.InnerStrike.{Inside, Picks, BothBeside, SomeBeside, Ordered, SlotsRenamed, Killed, LeavingTold, Ready, Struck};
 

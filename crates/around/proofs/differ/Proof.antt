@@ -1,8 +1,6 @@
 -- `differ` meets its contract.
 use mathlib.Core.Path.{refl}
 use mathlib.Core.Logic.{inl, inr}
-use native.Mathlib.Omega.{arith}
-use borrow.Author.Needs.{needs}
 use Rattle.around.proofs.differ.Statement.{statement}
 use Rattle.around.proofs.differ.Tie as tie
 

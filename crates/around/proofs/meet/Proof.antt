@@ -1,8 +1,7 @@
 -- Neighbour by neighbour (`Met`).
 use mathlib.Core.Path.{_≡_, refl, sym, _∙_}
-use Prim.Native.Nat.{ℕ, _+_, _-_, _*_, _≤_, _<_}
-use lib.ListN.{length, getD, take}
-use Rattle.surface.specs.Limits.{most-corners}
+use Prim.Native.Nat.{_-_, _≤_}
+use lib.ListN.{length, take}
 use Rattle.around.specs.InnerRing.{next-to}
 use Rattle.around.specs.InnerMeeting.{Met}
 use Rattle.around.proofs.Nears.{next-to-length, next-to-at}

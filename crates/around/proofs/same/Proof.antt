@@ -1,8 +1,6 @@
 -- `same` meets its contract.
 use mathlib.Core.Path.{refl}
 use mathlib.Core.Logic.{inl, inr}
-use native.Mathlib.Omega.{arith}
-use borrow.Author.Needs.{needs}
 use Rattle.around.proofs.same.Statement.{statement}
 use Rattle.around.proofs.same.Tie as tie
 

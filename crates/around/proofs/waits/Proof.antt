@@ -1,7 +1,6 @@
 -- `waits` meets its contract.
 use Rattle.refusal.proofs.Tells.{tells-true, tells-false}
 use native.Mathlib.Omega.{arith}
-use borrow.Author.Needs.{needs}
 use Rattle.around.proofs.waits.Statement.{statement}
 use Rattle.around.proofs.waits.Tie as tie
 

@@ -1,9 +1,7 @@
 -- The walk (`Walking`) goes along the list of the first table.
-use mathlib.Core.Path.{_≡_, refl, sym, _∙_}
-use Prim.Native.Nat.{ℕ, _+_, _-_, _*_, _≤_, _<_}
+use mathlib.Core.Path.{_≡_, refl, _∙_}
+use Prim.Native.Nat.{_+_, _-_}
 use lib.ListN.{length, getD, length-set}
-use Rattle.surface.specs.Limits.{most-corners}
-use Rattle.slots.specs.Slot.{most-slots}
 use Rattle.around.proofs.Walking.{Walking, walk-start, walk-places, place-held, place-small, list-short, ring-room, number-most, walk-more, walk-end, few-marked, same-there}
 use native.Mathlib.Omega.{arith}
 use borrow.Author.Needs.{needs}

@@ -1,6 +1,5 @@
 -- Each engine leaves its own run; the quick one's is the plain one's.
 use Rattle.engines.proofs.Same.{quick-as-plain, free}
-use native.Mathlib.Omega.{arith}
 use borrow.Author.Needs.{needs}
 use Rattle.engines.proofs.go_on.Statement.{statement}
 use Rattle.engines.proofs.go_on.Tie as tie

@@ -1,10 +1,9 @@
 -- v is blocked, or goes into u.
-use mathlib.Core.Path.{_≡_, refl, sym, _∙_}
+use mathlib.Core.Path.{refl, sym, _∙_}
 use mathlib.Core.Logic.{inl, inr}
-use Prim.Native.Nat.{ℕ, _+_, _-_, _*_, _≤_}
-use lib.ListN.{length, length-set, take}
+use Prim.Native.Nat.{_-_}
+use lib.ListN.{take}
 use lib.Seq.{length-take-le}
-use Rattle.surface.specs.Limits.{most-corners}
 use Rattle.waiting.proofs.Waiters.{waiters-fewer}
 use Rattle.around.proofs.Nears.{ring-listed}
 use Rattle.quick.proofs.Grounds.{held-stage, ground-room, ground-inside, mapped}

@@ -1,7 +1,7 @@
 -- u is passed by if it is gone; else its neighbours wait, and are tried until none waits.
 use mathlib.Core.Path.{_≡_, refl, sym, _∙_}
-use Prim.Native.Nat.{ℕ, _+_, _-_, _*_, _≤_}
-use lib.ListN.{length, take}
+use Prim.Native.Nat.{_+_, _-_, _*_, _≤_}
+use lib.ListN.{length}
 use lib.Seq.{length-take-le}
 use Rattle.surface.specs.Limits.{most-corners}
 use Rattle.slots.specs.Slot.{most-slots}
@@ -11,7 +11,6 @@ use Rattle.quick.specs.InnerRound.{AtOpenCorner, Progress}
 use Rattle.quick.proofs.Grounds.{held-stage, ground-inside, mapped}
 use Rattle.quick.proofs.Finishing.{progress-none, progress-on, corner-small, round-open, passed-by, next-of, none-left, fell-less}
 use native.Mathlib.Omega.{arith}
-use borrow.Author.Needs.{needs}
 use Rattle.quick.proofs.finish.Statement.{statement}
 use Rattle.quick.proofs.finish.Tie as tie
 use Rattle.around.proofs.meet.Reads as meet-reads

@@ -1,6 +1,6 @@
 -- Corner by corner (`AllDone`).
 use mathlib.Core.Path.{_≡_, refl, sym, _∙_}
-use Prim.Native.Nat.{ℕ, _+_, _-_, _*_, _≤_}
+use Prim.Native.Nat.{_-_, _≤_}
 use lib.ListN.{length}
 use Rattle.slots.specs.Slot.{most-slots}
 use Rattle.quick.specs.InnerGround.{BeforeCorner}

@@ -1,5 +1,5 @@
 -- The front of a lent table is thinned, what lies past it stays.
-use mathlib.Core.Path.{_≡_, refl, sym, _∙_}
+use mathlib.Core.Path.{sym}
 use Prim.Native.Nat.{ℕ, _*_}
 use lib.ListN.{replicate}
 use lib.Seq.{length-take-le}

@@ -1,8 +1,8 @@
 -- The table is laid down, thinned corner by corner, and closed up.
-use mathlib.Core.Path.{_≡_, refl, sym, _∙_, ap}
-use Prim.Native.Nat.{ℕ, _+_, _*_, _/_, _%_, _≤_}
-use lib.ListN.{length, getD, replicate}
-use Rattle.surface.specs.Limits.{most-rows, most-corners}
+use mathlib.Core.Path.{refl, _∙_}
+use Prim.Native.Nat.{_+_}
+use lib.ListN.{length}
+use Rattle.surface.specs.Limits.{most-corners}
 use Rattle.slots.proofs.Staged.{table-whole}
 use Rattle.slots.proofs.Marks.{no-mark}
 use Rattle.waiting.proofs.Members.{waiting-new, none-new}

@@ -1,7 +1,6 @@
 -- `unchanged` meets its contract.
 use mathlib.Core.Path.{refl}
 use mathlib.Core.Logic.{inl, inr}
-use native.Mathlib.Omega.{arith}
 use borrow.Author.Needs.{needs}
 use Rattle.quick.proofs.unchanged.Statement.{statement}
 use Rattle.quick.proofs.unchanged.Tie as tie

@@ -1,7 +1,6 @@
 -- Each of the two places is found, or still ahead (`Sought`).
-use mathlib.Core.Path.{_≡_, refl, sym, _∙_, ap}
-use mathlib.Core.Logic.{_≢_}
-use Prim.Native.Nat.{ℕ, _+_, _-_, _*_, _≤_, _<_}
+use mathlib.Core.Path.{_≡_, sym, _∙_, ap}
+use Prim.Native.Nat.{ℕ, _-_, _≤_}
 use lib.ListN.{length, getD}
 use Rattle.surface.proofs.Flat.{at-place}
 use Rattle.spots.specs.InnerHeld.{after-place}

@@ -2,7 +2,6 @@
 use mathlib.Core.Path.{refl}
 use mathlib.Core.Logic.{inl, inr}
 use native.Mathlib.Omega.{arith}
-use borrow.Author.Needs.{needs}
 use Rattle.strike.proofs.ordered.Statement.{statement}
 use Rattle.strike.proofs.ordered.Tie as tie
 

@@ -1,8 +1,6 @@
 -- `pick` meets its contract.
 use mathlib.Core.Path.{refl}
 use mathlib.Core.Logic.{inl, inr}
-use native.Mathlib.Omega.{arith}
-use borrow.Author.Needs.{needs}
 use Rattle.strike.proofs.pick.Statement.{statement}
 use Rattle.strike.proofs.pick.Tie as tie
 

@@ -1,7 +1,6 @@
 -- Slot by slot (`Renaming`).
-use mathlib.Core.Path.{_≡_, refl, sym, _∙_, ap}
-use Prim.Native.Nat.{ℕ, _+_, _-_, _*_, _≤_, _<_}
-use lib.ListN.{length, getD, set}
+use Prim.Native.Nat.{_-_, _≤_}
+use lib.ListN.{length}
 use Rattle.surface.proofs.Flat.{at-place}
 use Rattle.strike.proofs.Loops.{Renaming, rename-none, rename-more, rename-end}
 use native.Mathlib.Omega.{arith}

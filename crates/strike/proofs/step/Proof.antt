@@ -1,6 +1,5 @@
 -- Two rows leave, and the other slots of v hold u (`struck`).
-use mathlib.Core.Path.{_≡_, refl, sym, _∙_}
-use Prim.Native.Nat.{ℕ, _+_, _*_, _≤_, _<_}
+use mathlib.Core.Path.{refl}
 use Rattle.strike.proofs.Striking.{ring-inside, some-beside, fits-later, fits-earlier, small-later, small-earlier, both-stand, struck}
 use native.Mathlib.Omega.{arith}
 use borrow.Author.Needs.{needs}

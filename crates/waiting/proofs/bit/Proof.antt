@@ -1,8 +1,6 @@
 -- `bit` meets its contract.
 use mathlib.Core.Path.{refl}
 use Rattle.waiting.specs.InnerWaiting.{one, nought}
-use native.Mathlib.Omega.{arith}
-use borrow.Author.Needs.{needs}
 use Rattle.waiting.proofs.bit.Statement.{statement}
 use Rattle.waiting.proofs.bit.Tie as tie
 

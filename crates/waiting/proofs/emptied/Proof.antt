@@ -1,8 +1,6 @@
 -- `emptied` meets its contract.
 use mathlib.Core.Path.{refl}
 use mathlib.Core.Logic.{inl, inr}
-use native.Mathlib.Omega.{arith}
-use borrow.Author.Needs.{needs}
 use Rattle.waiting.proofs.emptied.Statement.{statement}
 use Rattle.waiting.proofs.emptied.Tie as tie
 

@@ -1,7 +1,6 @@
 -- `least` meets its contract.
 use Rattle.waiting.proofs.Members.{none-waits, word-inside, place-inside, least-corner, least-waits}
 use native.Mathlib.Omega.{arith}
-use borrow.Author.Needs.{needs}
 use Rattle.waiting.proofs.least.Statement.{statement}
 use Rattle.waiting.proofs.least.Tie as tie
 
