@@ -1,4 +1,6 @@
 // Whether a record is accepted at a stage, by the local rule: it looks round the kept corner alone.
+#![tactic(auto)]
+
 ghost use Rattle.std.specs.Prelude.{◌≤◌, length};
 ghost use Rattle.surface.specs.Limits.{most_rows};
 ghost use Rattle.surface.specs.Rows.{rows};

@@ -2,6 +2,8 @@
 // The status is 0 for done, else the refusal's number; a refused call has 0 for every value, but 13 carries the records done, and 30, 31 and 32 the flips.
 // Two numbers cross as a struct. Of more, the first is the result and the rest go into lent numbers: a larger struct is handed back through a
 // pointer that each processor keeps in another register.
+#![tactic(auto)]
+
 ghost use Rattle.std.specs.Prelude.{◌≡◌, length};
 ghost use Rattle.refusal.specs.declared.Refusal.TheVariants.{RecordFails};
 ghost use Rattle.refusal.specs.Number.{number};
@@ -41,7 +43,7 @@ use volume::{ExactSum, Measured};
 
 // What thinning, growing back, replay, flipping and undoing answer: the status, and how many records or flips were done.
 #[repr(C)]
-#[derive(Drop)]
+#[derive(Clone, Copy)]
 pub struct Counted {
     pub status: u64,
     pub records: u64,
@@ -49,14 +51,14 @@ pub struct Counted {
 
 // What a volume, a change or a job answers: the status, and the figure in cubic metres.
 #[repr(C)]
-#[derive(Drop)]
+#[derive(Clone, Copy)]
 pub struct Measure {
     pub status: u64,
     pub figure: i64,
 }
 
 // What an exact sum answers: the status, the whole part and the rest. Does not cross as a struct.
-#[derive(Drop)]
+#[derive(Clone, Copy)]
 pub struct Exact {
     pub status: u64,
     pub whole: i64,
@@ -64,7 +66,7 @@ pub struct Exact {
 }
 
 // What a shift report answers: the status, stand_in, count and squared distance. Does not cross as a struct.
-#[derive(Drop)]
+#[derive(Clone, Copy)]
 pub struct StandIn {
     pub status: u64,
     pub corner: u64,
@@ -74,14 +76,14 @@ pub struct StandIn {
 
 // What the limit reader answers: the status, and whole centimetres.
 #[repr(C)]
-#[derive(Drop)]
+#[derive(Clone, Copy)]
 pub struct Centimetres {
     pub status: u64,
     pub whole: u64,
 }
 
 // What the sheet reader answers: the status, corner count and row count. Does not cross as a struct.
-#[derive(Drop)]
+#[derive(Clone, Copy)]
 pub struct Counts {
     pub status: u64,
     pub corners: u64,
@@ -90,14 +92,14 @@ pub struct Counts {
 
 // What the desk answers: the status, and how many bytes were written.
 #[repr(C)]
-#[derive(Drop)]
+#[derive(Clone, Copy)]
 pub struct Written {
     pub status: u64,
     pub bytes: u64,
 }
 
 // What the log sheet's reader answers: the status, corner count, row count and records. Does not cross as a struct.
-#[derive(Drop)]
+#[derive(Clone, Copy)]
 pub struct LogRead {
     pub status: u64,
     pub corners: u64,
@@ -106,7 +108,7 @@ pub struct LogRead {
 }
 
 // What recovery answers: the status, how many records were kept, and how many there are in all. Does not cross as a struct.
-#[derive(Drop)]
+#[derive(Clone, Copy)]
 pub struct Recovery {
     pub status: u64,
     pub kept: u64,
@@ -114,7 +116,7 @@ pub struct Recovery {
 }
 
 // What opening a log sheet answers: the status, corner count, row count and the place after the first line. Does not cross as a struct.
-#[derive(Drop)]
+#[derive(Clone, Copy)]
 pub struct LogOpened {
     pub status: u64,
     pub corners: u64,
@@ -123,7 +125,7 @@ pub struct LogOpened {
 }
 
 // What asking for a record answers: the status, 1 for a record and 0 for the end, the place after it, and its numbers. Does not cross as a struct.
-#[derive(Drop)]
+#[derive(Clone, Copy)]
 pub struct Asked {
     pub status: u64,
     pub found: u64,
@@ -133,7 +135,7 @@ pub struct Asked {
 
 // A number of the trial ring: 1 and the number, or 0 and 0 past its end.
 #[repr(C)]
-#[derive(Drop)]
+#[derive(Clone, Copy)]
 pub struct Stored {
     pub there: u64,
     pub number: u64,

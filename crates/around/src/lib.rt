@@ -1,4 +1,6 @@
 // Round a corner of a table whose rows keep their slots: its slots gathered and its marked neighbours counted in one walk, and its neighbours met.
+#![tactic(auto)]
+
 ghost use Rattle.std.specs.Prelude.{◌≡◌, ◌≢◌, ◌+◌, ◌≤◌, ◌<◌, length, get_or};
 ghost use Rattle.surface.specs.Limits.{most_corners};
 ghost use Rattle.slots.specs.Slot.{most_slots};
@@ -12,7 +14,7 @@ ghost use Rattle.around.specs.InnerMeeting.{Listed, Waits, Met};
 pub const MARKS: usize = surface::MOST_CORNERS + 1;
 
 // What a walk found: so many slots, and so many marked corners next to them.
-#[derive(Drop)]
+#[derive(Clone, Copy)]
 pub struct Walked {
     pub slots: usize,
     pub marked: usize,

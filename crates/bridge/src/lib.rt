@@ -1,4 +1,6 @@
 // The C boundary: every public call with numbers and lent slices alone. No call asks anything of the numbers it is given.
+#![tactic(auto)]
+
 ghost use Rattle.bridge.specs.Calls.{ThinShown, GrowShown, ReplayShown, VolumeShown, ChangeShown, ExactShown, ShiftShown, LimitShown, SheetShown, JobShown, FlipShown, UndoShown, ReplyShown, WriteLogShown, ReadLogShown, EachShown, RecoverShown, OpenShown, NextShown};
 ghost use Rattle.bridge.specs.Lent.{TrialShown, RingShown, PartShown};
 
@@ -7,7 +9,7 @@ use text::Cursor;
 
 // A part of one of two lent logs, the first (0) or the second (1): its numbers at the places from `from` up to, not with, `to`.
 // Does not cross as a struct.
-#[derive(Drop)]
+#[derive(Clone, Copy)]
 pub struct Part {
     pub log: u64,
     pub from: u64,

@@ -1,5 +1,7 @@
 // Every public call over a pipe: a request is read, its call made, the response written, until the requests end. Those that answer in numbers
 // go through the C boundary.
+#![tactic(auto)]
+
 use across::Counted;
 use ring::Trial;
 

@@ -1,4 +1,6 @@
-// The catch_up_lem part: of two lent logs, what the longer has more.
+// The catch-up part: of two lent logs, what the longer has more.
+#![tactic(auto)]
+
 ghost use Rattle.std.specs.Prelude.{◌≡◌};
 ghost use Rattle.catchup.specs.CatchUp.{CaughtUp};
 ghost use Rattle.catchup.specs.Inner.{begins};

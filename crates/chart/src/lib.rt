@@ -1,5 +1,7 @@
 // A table with the chains of its slots: an edge is looked for round its first corner, and a number is written with the chains kept, so that no look
 // through the table is needed for either.
+#![tactic(auto)]
+
 ghost use Rattle.std.specs.Prelude.{◌≡◌, ◌+◌, ◌*◌, ◌≤◌, ◌<◌, length, set};
 ghost use Rattle.edges.specs.Sweep.{Found};
 ghost use Rattle.chart.specs.Chart.{InChains, Above, Numbered};

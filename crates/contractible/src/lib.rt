@@ -1,4 +1,6 @@
 // Whether an edge of a stage may be contracted.
+#![tactic(auto)]
+
 ghost use Rattle.std.specs.Prelude.{◌≤◌, ◌<◌, length};
 ghost use Rattle.surface.specs.Limits.{most_corners};
 ghost use Rattle.surface.specs.Lists.{Distinct};

@@ -1,4 +1,6 @@
 // Refusal 4: coordinates against their range.
+#![tactic(auto)]
+
 ghost use Rattle.std.specs.Prelude.{◌≤◌, ◌<◌, nat_abs};
 ghost use Rattle.corners.specs.Limits.{most_coordinate};
 ghost use Rattle.corners.specs.Skin.{InRange};

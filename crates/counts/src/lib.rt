@@ -1,4 +1,6 @@
 // Refusal 2: counts against their limits, and lengths that are multiples of 3.
+#![tactic(auto)]
+
 ghost use Rattle.faults.specs.Counts.{RowsFit, CornersFit, TableFits, CoordinatesFit, CountsFit, CountsFitAt};
 ghost use Rattle.refusal.specs.InnerTells.{Tells};
 

@@ -1,5 +1,7 @@
 // The desk's program: a sheet from standard input, the answer to standard output.
 // No contract can say what is read and written, so the work is done by functions on slices.
+#![tactic(auto)]
+
 ghost use Rattle.std.specs.Prelude.{◌≤◌, length, take};
 ghost use Rattle.io.specs.Counts.{IsPrefixLen};
 ghost use Rattle.tell.specs.Text.{most_text};
@@ -12,7 +14,7 @@ use tell::Answer;
 const INPUT: usize = form::MOST_BYTES + 1;
 
 // How many bytes were read, or that reading failed.
-#[derive(Drop)]
+#[derive(Clone, Copy)]
 pub enum Input {
     Read(usize),
     Failed,

@@ -1,4 +1,6 @@
 // Corners by their coordinates: the squared distance of two, and whether it is within a limit.
+#![tactic(auto)]
+
 ghost use Rattle.std.specs.Prelude.{◌≡◌, ◌*◌, ◌<◌, ◌≤◌, nat_abs};
 ghost use Rattle.corners.specs.Limits.{most_coordinate};
 ghost use Rattle.corners.specs.Skin.{InRange};

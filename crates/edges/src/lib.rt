@@ -1,4 +1,6 @@
 // Refusal 7: each directed edge once. One sweep over the corners finds the edges from each, and their reverses with them.
+#![tactic(auto)]
+
 ghost use Rattle.std.specs.Prelude.{◌≤◌, ◌<◌, length};
 ghost use Rattle.surface.specs.Limits.{most_corners};
 ghost use Rattle.surface.specs.Rows.{rows};

@@ -1,4 +1,6 @@
 // x and y of a record: the third corners of its two leaving rows.
+#![tactic(auto)]
+
 ghost use Rattle.std.specs.Prelude.{◌≡◌};
 ghost use Rattle.refusal.specs.InnerTells.{Tells};
 ghost use Rattle.ends.specs.Rows.{row_of, ThirdIs, PairIs, EndsAre};
@@ -6,14 +8,14 @@ ghost use Rattle.ends.specs.Rows.{row_of, ThirdIs, PairIs, EndsAre};
 use record::{Corner, Leaving, Record};
 
 // The third corner of a row that has a directed edge.
-#[derive(Drop)]
+#[derive(Clone, Copy)]
 pub enum Third {
     Is(Corner),
     Missing,
 }
 
 // x and y of a record.
-#[derive(Drop)]
+#[derive(Clone, Copy)]
 pub enum Ends {
     At(Corner, Corner),
     Nothing,

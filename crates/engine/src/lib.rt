@@ -1,4 +1,6 @@
 // The plain engine: the least edge found and contracted, until no edge qualifies.
+#![tactic(auto)]
+
 ghost use Rattle.std.specs.Prelude.{◌≤◌, length};
 ghost use Rattle.surface.specs.Limits.{most_corners};
 ghost use Rattle.surface.specs.Rows.{rows};

@@ -1,4 +1,6 @@
 // Which engine goes on: without a limit the quick one, unless the plain one is asked for; with one always the plain one. They leave the same.
+#![tactic(auto)]
+
 ghost use Rattle.least.specs.Limited.{Allowed};
 ghost use Rattle.least.specs.Inner.{Measurable};
 ghost use Rattle.going.specs.Going.{CanGoOn, WentOn};
@@ -6,7 +8,7 @@ ghost use Rattle.going.specs.Going.{CanGoOn, WentOn};
 use least::Bound;
 
 // The engine that thins where there is no limit.
-#[derive(Drop)]
+#[derive(Clone, Copy)]
 pub enum Engine {
     Plain,
     Quick,

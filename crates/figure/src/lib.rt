@@ -1,5 +1,7 @@
 // The exact sum of a stage; its volume and the change between two stages, each an exact sum rounded once.
 // All here is inner: the calls that report sums and figures check the stages and their coordinates first.
+#![tactic(auto)]
+
 ghost use Rattle.std.specs.Prelude.{◌≡◌, ◌<◌, ◌≤◌, nat_abs};
 ghost use Rattle.surface.specs.Rows.{rows};
 ghost use Rattle.corners.specs.Skin.{InRange};

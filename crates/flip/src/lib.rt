@@ -1,4 +1,6 @@
 // The flip of one edge on a stage's table and its chains.
+#![tactic(auto)]
+
 ghost use Rattle.std.specs.Prelude.{◌≡◌, ◌≤◌, ◌<◌, length};
 ghost use Rattle.surface.specs.Limits.{most_corners};
 ghost use Rattle.surface.specs.Rows.{rows};
@@ -14,7 +16,7 @@ use flipped::FlipRefusal;
 use record::{Corner, Leaving, Place};
 
 // What comes of the flip of an edge: its record, or why it is refused.
-#[derive(Drop)]
+#[derive(Clone, Copy)]
 pub enum Tried {
     Logs(FlipRecord),
     Refused(FlipRefusal),

@@ -1,4 +1,6 @@
 // Flipping a list of edges on a table, the first first, up to the first that is refused.
+#![tactic(auto)]
+
 ghost use Rattle.refusal.specs.InnerTells.{Tells};
 ghost use Rattle.fliplist.specs.Outcome.{FlipFits, FlippedAs};
 ghost use Rattle.fliplist.specs.Inner.{FlipReady, FlippedOn, JudgedFlips};

@@ -1,4 +1,6 @@
 // The record of a flip, and its eight numbers in a log.
+#![tactic(auto)]
+
 ghost use Rattle.std.specs.Prelude.{◌≡◌, ◌+◌, ◌≤◌, length, drop};
 ghost use Rattle.std.proofs.lemmas.List.Edits.{sets};
 ghost use Rattle.fliplog.specs.Layout.{width, numbers, flip_in};
@@ -8,7 +10,7 @@ ghost use Rattle.fliplog.specs.Inner.{ReadRow};
 use record::{Corner, Leaving, Place};
 
 // Two rows with their places: the old ones that a flip logs, (a, b, c) and then (b, a, d), or the new ones that it writes there.
-#[derive(Drop)]
+#[derive(Clone, Copy)]
 pub struct FlipRecord {
     pub first: Leaving,
     pub second: Leaving,

@@ -1,11 +1,13 @@
 // What flips are refused for, and what flipping a list and undoing a log answer.
+#![tactic(auto)]
+
 ghost use Rattle.std.specs.Prelude.{◌≡◌};
 ghost use Rattle.flipped.specs.Number.{number};
 
 use refusal::Refusal;
 
 // One case for each number that 02 gives an edge or a record: it stops the list, and those before it stay done.
-#[derive(Drop)]
+#[derive(Clone, Copy)]
 pub enum FlipRefusal {
     EdgeMissing,
     EdgeBlocked,
@@ -13,7 +15,7 @@ pub enum FlipRefusal {
 }
 
 // All are done, those before one that is refused, or none, by the refusal of table, list, log or room.
-#[derive(Drop)]
+#[derive(Clone, Copy)]
 pub enum Flipped {
     Done(usize),
     Stopped(FlipRefusal, usize),

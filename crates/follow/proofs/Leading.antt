@@ -16,7 +16,7 @@ module _ {S I : Type 0} {Does : S → I → S → Type 0} where
   -- a beginning of items leads to a state, from which the rest leads on
   pub leads_cut : {s u : S} (l : List I) {m : List I} → Leads Does s (l ++ m) u → (t : S) × Leads Does s l t × Leads Does t m u
   leads_cut {s} [] w = (s, no_step refl, w)
-  leads_cut (i ∷ l) (one_step d w) = let c = leads_cut l w in (c.0, one_step d c.1, c.2)
+  leads_cut (i ∷ l) (one_step {u = t} d w) = let c = leads_cut {s = t} l w in (c.0, one_step d c.1, c.2)
 
   -- what every step keeps is kept
   pub leads_keep : (P : S → Type 0) → ((s t : S) (i : I) → P s → Does s i t → P t) → {s t : S} {l : List I} → P s → Leads Does s l t → P t
@@ -32,7 +32,7 @@ module _ {S I : Type 0} {Does : S → I → S → Type 0} where
     -- and one of items that lead on has a step where those before it lead to
     pub leads_there : {s t u : S} (done : List I) {i : I} (rest : List I) → Leads Does s (done ++ i ∷ rest) u → Leads Does s done t → (v : S) × Does t i v
     leads_there [] rest (one_step {u = v} d w) (no_step e) = (v, rw e at d)
-    leads_there (j ∷ done) rest (one_step d w) (one_step c v) = leads_there done rest w (rw (one _ _ _ _ c d) at v)
+    leads_there (j ∷ done) rest (one_step {u = t} d w) (one_step c v) = leads_there {s = t} done rest w (rw (one _ _ _ _ c d) at v)
 
 -- steps that undo others, where P holds: items that lead on lead back, the last first
 module _ {S I : Type 0} {Does Undoes : S → I → S → Type 0} (P : S → Type 0) (back : (s t : S) (i : I) → P s → Does s i t → P t × Undoes t i s) where

@@ -1,4 +1,6 @@
 // A sheet's form: its size, its first line, its counts and its other lines. What it holds is read, and not checked.
+#![tactic(auto)]
+
 ghost use Rattle.std.specs.Prelude.{◌*◌, take, drop};
 ghost use Rattle.refusal.specs.InnerTells.{Tells};
 ghost use Rattle.form.specs.Form.{CountsIn};
@@ -21,7 +23,7 @@ pub const NUMBERS: usize = MOST_ROWS * 3;
 pub const COORDINATES: usize = MOST_CORNERS * 3;
 
 // The corner count and the row count of a sheet in its form, or a refusal.
-#[derive(Drop)]
+#[derive(Clone, Copy)]
 pub enum Form {
     Read(usize, usize),
     Refused(Refusal),

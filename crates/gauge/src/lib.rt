@@ -1,4 +1,6 @@
 // The link test and the two engines by themselves, for the benchmark to time: no call of the tool goes through this crate.
+#![tactic(auto)]
+
 ghost use Rattle.std.specs.Prelude.{◌≤◌, ◌<◌, length};
 ghost use Rattle.surface.specs.Limits.{most_corners};
 ghost use Rattle.surface.specs.Lists.{◌∈◌, Distinct};

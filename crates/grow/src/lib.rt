@@ -1,4 +1,6 @@
 // A record grown back in place, where it is accepted.
+#![tactic(auto)]
+
 ghost use Rattle.std.specs.Prelude.{◌+◌, ◌*◌, ◌≤◌, length};
 ghost use Rattle.surface.specs.InnerStageTable.{StageTable};
 ghost use Rattle.record.specs.Meant.{meant};

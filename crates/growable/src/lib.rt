@@ -1,4 +1,6 @@
 // Whether a log may be grown back in a room: the refusals 2 to 11, in their order.
+#![tactic(auto)]
+
 ghost use Rattle.refusal.specs.InnerTells.{Tells};
 ghost use Rattle.growable.specs.Refusals.{GrowFits};
 ghost use Rattle.growable.specs.Inner.{JudgedGrowing};

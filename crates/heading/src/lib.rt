@@ -1,4 +1,6 @@
 // The first line of a sheet: its word, the corner count and the row count.
+#![tactic(auto)]
+
 ghost use Rattle.heading.specs.Inner.{ReadFirst};
 
 use text::{Cursor, Passed};
@@ -7,7 +9,7 @@ use text::{Cursor, Passed};
 pub const MOST_DIGITS: usize = 6;
 
 // The first line's corner count, row count and the place after it, or that it is not in its form.
-#[derive(Drop)]
+#[derive(Clone, Copy)]
 pub enum FirstLine {
     Read(usize, usize, Cursor),
     Bad,

@@ -1,4 +1,6 @@
 // Rows put in at their places, among the rows that stand in a room.
+#![tactic(auto)]
+
 ghost use Rattle.std.specs.Prelude.{◌≡◌, ◌+◌, ◌*◌, ◌≤◌, length};
 ghost use Rattle.surface.specs.Record.{placed};
 ghost use Rattle.growth.specs.Grow.{put, put_back};

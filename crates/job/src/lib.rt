@@ -1,4 +1,6 @@
 // A job: voids and solids that stand in each other, and the net of the whole in cubic metres. Nothing is written.
+#![tactic(auto)]
+
 ghost use Rattle.std.specs.Prelude.{◌≡◌, ◌≤◌, ◌<◌, length};
 ghost use Rattle.jobform.specs.Limits.{most_entries};
 ghost use Rattle.nest.specs.Inner.{Even};
@@ -10,7 +12,7 @@ use jobform::JobForm;
 use nest::Question;
 
 // One case for each number of a job's list: 01's for a bad form, and 02's six.
-#[derive(Drop)]
+#[derive(Clone, Copy)]
 pub enum JobRefusal {
     SheetForm,
     JobCount,
@@ -22,14 +24,14 @@ pub enum JobRefusal {
 }
 
 // Nothing stands against a job, or the first refusal that holds.
-#[derive(Drop)]
+#[derive(Clone, Copy)]
 pub enum JobVerdict {
     Passes,
     Refused(JobRefusal),
 }
 
 // What a job answers: the figure of its topmost net in cubic metres, or the first refusal that holds.
-#[derive(Drop)]
+#[derive(Clone, Copy)]
 pub enum Job {
     Net(i64),
     Refused(JobRefusal),

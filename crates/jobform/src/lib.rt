@@ -1,4 +1,6 @@
 // A job sheet's form: its size, its first line, and a line for each entry to its end. Entries past the most are read and not kept.
+#![tactic(auto)]
+
 ghost use Rattle.std.specs.Prelude.{◌≡◌, ◌^◌, ◌<◌, drop};
 ghost use Rattle.jobform.specs.Inner.{ReadLetter, ReadName, ReadEntry, kept_name_lem, keep, Keepable, Rooms, ReadEntries, ReadJob};
 
@@ -14,14 +16,14 @@ pub const MOST_ENTRIES: usize = 32;
 const MOST_SUM_DIGITS: usize = 18;
 
 // The number of the entry that one stands in, or that it names none.
-#[derive(Drop)]
+#[derive(Clone, Copy)]
 pub enum Name {
     Nothing,
     Number(u32),
 }
 
 // An entry of a job as its line tells it.
-#[derive(Drop)]
+#[derive(Clone, Copy)]
 pub struct Entry {
     pub letter: u8,
     pub name: Name,
@@ -29,35 +31,35 @@ pub struct Entry {
 }
 
 // A letter and the place after it, or that none stands there.
-#[derive(Drop)]
+#[derive(Clone, Copy)]
 pub enum Letter {
     Read(u8, Cursor),
     Bad,
 }
 
 // The same of a name.
-#[derive(Drop)]
+#[derive(Clone, Copy)]
 pub enum Naming {
     Read(Name, Cursor),
     Bad,
 }
 
 // The same of an entry's line.
-#[derive(Drop)]
+#[derive(Clone, Copy)]
 pub enum EntryRead {
     Read(Entry, Cursor),
     Bad,
 }
 
 // How many lines of entries there are to the end, or that something else stands there.
-#[derive(Drop)]
+#[derive(Clone, Copy)]
 pub enum Entries {
     Lines(usize),
     Other,
 }
 
 // How many entries a job sheet in its form has, or that it is not in its form.
-#[derive(Drop)]
+#[derive(Clone, Copy)]
 pub enum JobForm {
     Read(usize),
     Bad,

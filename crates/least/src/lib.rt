@@ -1,4 +1,6 @@
 // The least edge that qualifies: smallest lower number, then smallest higher number.
+#![tactic(auto)]
+
 ghost use Rattle.std.specs.Prelude.{◌≤◌, length};
 ghost use Rattle.surface.specs.Limits.{most_corners};
 ghost use Rattle.surface.specs.Rows.{rows};
@@ -11,14 +13,14 @@ ghost use Rattle.least.specs.InnerSearch.{Searchable, SearchableAt, FoundAt, Fou
 use record::Corner;
 
 // The limit of an order, as steps use it: none, or whole centimetres.
-#[derive(Drop)]
+#[derive(Clone, Copy)]
 pub enum Bound {
     Free,
     Within(u64),
 }
 
 // What a search finds: nothing, or an edge, its lower number first.
-#[derive(Drop)]
+#[derive(Clone, Copy)]
 pub enum Found {
     Nothing,
     Between(Corner, Corner),

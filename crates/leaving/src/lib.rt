@@ -1,4 +1,6 @@
 // The record of a step: the two rows that leave, with their places.
+#![tactic(auto)]
+
 ghost use Rattle.std.specs.Prelude.{◌*◌, ◌≤◌, length};
 ghost use Rattle.surface.specs.Limits.{most_rows};
 ghost use Rattle.leaving.specs.Leaving.{MayStep, NextLeaving, SomeLeaves, Recorded};

@@ -1,5 +1,7 @@
 // How a limit is typed, and the reader that turns it to whole centimetres, rounded down once from the exact value of its 64 bits.
 // The arithmetic is on whole numbers of 64 bits; no figure is multiplied as a float.
+#![tactic(auto)]
+
 ghost use Rattle.std.specs.Prelude.{◌≡◌, ◌*◌, ◌^◌, ◌<◌};
 ghost use Rattle.std.specs.Float.{binary64};
 ghost use Rattle.std.specs.Float.Ieee.{of_bits};
@@ -7,7 +9,7 @@ ghost use Rattle.length.specs.Limit.{reading, limit_of};
 ghost use Rattle.length.specs.InnerSmall.{Small};
 
 // A length limit: a binary64 figure in metres, feet, centimetres or international feet. Feet are survey feet.
-#[derive(Drop)]
+#[derive(Clone, Copy)]
 pub enum Length {
     Metres(f64),
     Feet(f64),
@@ -16,14 +18,14 @@ pub enum Length {
 }
 
 // A thinning order has no limit, or a length limit. Thinning matches this one, the limit reader the length inside.
-#[derive(Drop)]
+#[derive(Clone, Copy)]
 pub enum Order {
     NoLimit,
     Limit(Length),
 }
 
 // What the limit reader answers: whole centimetres, or that the limit is unusable.
-#[derive(Drop)]
+#[derive(Clone, Copy)]
 pub enum Reading {
     Whole(u64),
     Unusable,

@@ -1,4 +1,6 @@
 // A line of numbers: a word, fields parted by single tabs, one newline. What is read goes into a lent room.
+#![tactic(auto)]
+
 ghost use Rattle.std.specs.Prelude.{◌+◌, ◌≤◌, ◌<◌, pos, length, drop};
 ghost use Rattle.lines.specs.InnerLimits.{most_plain};
 ghost use Rattle.lines.specs.Lines.{LineAt};

@@ -1,4 +1,6 @@
 // The ring chooser, and the published link condition as a test, at a corner whose neighbours are gathered.
+#![tactic(auto)]
+
 ghost use Rattle.std.specs.Prelude.{◌≤◌, ◌<◌, length};
 ghost use Rattle.surface.specs.Limits.{most_corners};
 ghost use Rattle.surface.specs.Lists.{◌∈◌, Distinct, Exactly};

@@ -1,5 +1,6 @@
 // The calls of log sheets over a pipe. As every call there: what is read is lent to the call, and what was lent to be written is written back after
 // its answer. Each tells whether the next request may be read; none may once a word was missing or not of its kind.
+#![tactic(auto)]
 
 // The most records that the bytes of a log sheet can have: its first line has 8 bytes or more, the line of a record 22.
 const MOST_RECORDS: u64 = 2978;

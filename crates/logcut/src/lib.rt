@@ -1,11 +1,13 @@
 // A log sheet cut after any byte: the lines that end in a newline are read as the log sheet of a skin, the unfinished tail is dropped.
+#![tactic(auto)]
+
 ghost use Rattle.logcut.specs.Inner.{WholeEnd, CanKeep, ReadCut};
 
 use logsheet::LogSheet;
 use refusal::Refusal;
 
 // How many records the whole lines hold, or a refusal.
-#[derive(Drop)]
+#[derive(Clone, Copy)]
 pub enum Cut {
     Kept(usize),
     Refused(Refusal),

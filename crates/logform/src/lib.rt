@@ -1,4 +1,6 @@
 // A log sheet's form: its size, its first line, and lines of records to its end. Nothing is written: lines are passed over and counted.
+#![tactic(auto)]
+
 ghost use Rattle.refusal.specs.InnerTells.{Tells};
 ghost use Rattle.logform.specs.LogSheet.{CountsIn};
 ghost use Rattle.logform.specs.Inner.{PassedOver, WhatIsLeft, ReadLogForm};
@@ -11,14 +13,14 @@ use text::{Cursor, Passed};
 pub const MOST_LOG_BYTES: usize = 65536;
 
 // How many lines of records are left, or that something else stands there.
-#[derive(Drop)]
+#[derive(Clone, Copy)]
 pub enum Left {
     Lines(usize),
     Other,
 }
 
 // The corner count, row count and records of a log sheet in its form and the place after its first line, or that it is not in its form.
-#[derive(Drop)]
+#[derive(Clone, Copy)]
 pub enum LogForm {
     Read(usize, usize, usize, Cursor),
     Bad,

@@ -1,5 +1,7 @@
 // A reader that keeps the caller's log sheet and its own place, and is asked for one record at a time; and a log read record by record, each asked of
 // a reader, from the place that the one before keeps.
+#![tactic(auto)]
+
 ghost use Rattle.std.specs.Prelude.{◌≡◌, ◌*◌, ◌≤◌, pos, length, drop};
 ghost use Rattle.record.specs.Layout.{width};
 ghost use Rattle.lines.specs.Inner.{ReadInto};
@@ -16,7 +18,7 @@ use refusal::Refusal;
 use text::{Cursor, Passed};
 
 // The caller's sheet, and the place of the record that is asked for next.
-#[derive(Drop)]
+#[derive(Clone, Copy)]
 pub struct Reader<'a> {
     pub bytes: &'a [u8],
     pub at: usize,
@@ -54,7 +56,7 @@ pub fn next<'s, 'a>(r: &'s mut Reader<'a>) -> Next
 }
 
 // What a reader answered, and where it stands then.
-#[derive(Drop)]
+#[derive(Clone, Copy)]
 pub struct Answered {
     pub next: Next,
     pub at: usize,

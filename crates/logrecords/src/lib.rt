@@ -1,4 +1,6 @@
 // The records of a log sheet, one at a time: opened, then the record at a place. The caller keeps the sheet and the place.
+#![tactic(auto)]
+
 ghost use Rattle.std.specs.Prelude.{◌≡◌, ◌-◌, length};
 ghost use Rattle.logrecords.specs.Outcome.{OpenedLog, NextRecord};
 
@@ -8,14 +10,14 @@ use refusal::Refusal;
 use text::{Cursor, Passed};
 
 // Corner count, row count and the place after the first line, or a refusal.
-#[derive(Drop)]
+#[derive(Clone, Copy)]
 pub enum Opened {
     At(usize, usize, Cursor),
     Refused(Refusal),
 }
 
 // A record and the place after its line, the end, or that something else stands there.
-#[derive(Drop)]
+#[derive(Clone, Copy)]
 pub enum Next {
     Found(Record, Cursor),
     End(Cursor),

@@ -1,4 +1,6 @@
 // The log sheet: a log as text, written and read whole or refused.
+#![tactic(auto)]
+
 ghost use Rattle.refusal.specs.InnerTells.{Tells};
 ghost use Rattle.logsheet.specs.Outcome.{ReadLogSheet, Writable, WroteLogSheet};
 ghost use Rattle.logsheet.specs.Inner.{Short};
@@ -11,7 +13,7 @@ use tell::Answer;
 const TOO_LARGE: u32 = 1000000;
 
 // What the reader answers: corner count, row count and records, or a refusal.
-#[derive(Drop)]
+#[derive(Clone, Copy)]
 pub enum LogSheet {
     Read(usize, usize, usize),
     Refused(Refusal),

@@ -1,5 +1,7 @@
 // How a job's entries are nested: the questions asked of them, and their nets. An entry is a letter, a name as it is kept (0 for none, else one more
 // than the entry's number) and a sum, each in a list of its own.
+#![tactic(auto)]
+
 ghost use Rattle.std.specs.Prelude.{◌≡◌, ◌+◌, ◌-◌, ◌≤◌, ◌<◌, length};
 ghost use Rattle.refusal.specs.InnerTells.{Tells};
 ghost use Rattle.wide.specs.Rounding.{figure};
@@ -17,7 +19,7 @@ const MOST_DEPTH: usize = 8;
 const MOST_SUM: u64 = 768000000000000000;
 
 // What an entry is marked.
-#[derive(Drop)]
+#[derive(Clone, Copy)]
 pub enum Kind {
     Void,
     Solid,
@@ -25,7 +27,7 @@ pub enum Kind {
 }
 
 // What is asked of every entry.
-#[derive(Drop)]
+#[derive(Clone, Copy)]
 pub enum Question {
     Kind,
     Name,

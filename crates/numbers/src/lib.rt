@@ -1,4 +1,6 @@
 // Refusals 5, 6 and 9: the corner numbers of a table one by one.
+#![tactic(auto)]
+
 ghost use Rattle.std.specs.Prelude.{◌≤◌, length};
 ghost use Rattle.surface.specs.Rows.{rows};
 ghost use Rattle.refusal.specs.InnerTells.{Tells};

@@ -1,5 +1,7 @@
 // The quick engine: thinning without a limit that finishes one corner before the next. Rows keep their slots until the end, places are ranks among the
 // rows that stand, and a neighbour that was tried in vain waits no more before its edge can have changed.
+#![tactic(auto)]
+
 ghost use Rattle.std.specs.Prelude.{◌≡◌, ◌+◌, ◌*◌, ◌≤◌, ◌<◌, length};
 ghost use Rattle.surface.specs.Limits.{most_corners};
 ghost use Rattle.surface.specs.InnerStageTable.{StageTable};

@@ -1,5 +1,7 @@
 // How many rows stand before a row, where rows leave two at a time: sums over blocks, in two lent arrays.
 // The loops have fixed lengths and no branch, so that the compiler takes sixteen bytes at a time.
+#![tactic(auto)]
+
 ghost use Rattle.std.specs.Prelude.{◌≡◌, ◌*◌, ◌<◌, length};
 ghost use Rattle.surface.specs.Limits.{most_rows};
 ghost use Rattle.ranks.specs.InnerRanks.{block, blocks, every, CountsRows, CountsSome, Stair, Stairs, StandBefore, TwoStand, TwoLeft, InBlocks, Firsts, CanLower, BlockWritten, BlockLowered, CanDrop, Dropped, Copied};

@@ -1,4 +1,6 @@
 // Lines of numbers read into lent rooms: plain numbers, which have no minus, and coordinates, of which a line is staged at a time.
+#![tactic(auto)]
+
 ghost use Rattle.std.specs.Prelude.{◌≡◌, ◌+◌, ◌*◌, ◌≤◌, pos, length, drop};
 ghost use Rattle.std.proofs.lemmas.List.Edits.{sets};
 ghost use Rattle.lines.specs.InnerLimits.{most_plain};

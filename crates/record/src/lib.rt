@@ -1,4 +1,6 @@
 // Corner numbers and row places, the record of a step, and its layout in a log.
+#![tactic(auto)]
+
 ghost use Rattle.std.specs.Prelude.{◌≡◌, ◌∷◌, [], ◌+◌, ◌≤◌, length};
 ghost use Rattle.std.proofs.lemmas.List.Edits.{sets};
 ghost use Rattle.record.specs.Layout.{width, numbers, record_at};
@@ -6,15 +8,15 @@ ghost use Rattle.record.specs.Meant.{meant};
 ghost use Rattle.record.specs.Inner.{IsContracted};
 
 // A corner number.
-#[derive(Drop)]
+#[derive(Clone, Copy)]
 pub struct Corner(pub u32);
 
 // A row's place in a table.
-#[derive(Drop)]
+#[derive(Clone, Copy)]
 pub struct Place(pub u32);
 
 // A row that leaves: its place before the step, and its three numbers.
-#[derive(Drop)]
+#[derive(Clone, Copy)]
 pub struct Leaving {
     pub place: Place,
     pub a: Corner,
@@ -23,7 +25,7 @@ pub struct Leaving {
 }
 
 // What a step writes.
-#[derive(Drop)]
+#[derive(Clone, Copy)]
 pub struct Record {
     pub kept: Corner,
     pub removed: Corner,
@@ -32,7 +34,7 @@ pub struct Record {
 }
 
 // The edge that a step contracted.
-#[derive(Drop)]
+#[derive(Clone, Copy)]
 pub struct Contracted {
     pub kept: Corner,
     pub removed: Corner,

@@ -1,4 +1,6 @@
 // Recovery: a log sheet cut after any byte is followed on the skin that it began with, and thinning goes on from the stage handed over.
+#![tactic(auto)]
+
 ghost use Rattle.std.specs.Prelude.{◌≡◌};
 ghost use Rattle.thin.specs.Inner.{Fair};
 ghost use Rattle.recover.specs.Outcome.{RecoveredAs, RecoveredBy};
@@ -16,7 +18,7 @@ use thin::Asked;
 const MOST_KEPT: usize = (surface::MOST_CORNERS - surface::LEAST_CORNERS) * record::WIDTH;
 
 // What recovery answers: the records kept and those there are in all; so many done before one that does not replay; or a refusal.
-#[derive(Drop)]
+#[derive(Clone, Copy)]
 pub enum Recovered {
     Done(usize, usize),
     Stopped(usize),

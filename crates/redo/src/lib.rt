@@ -1,4 +1,6 @@
 // A record done again in place, where it is accepted.
+#![tactic(auto)]
+
 ghost use Rattle.std.specs.Prelude.{◌≡◌, ◌*◌, ◌≤◌, ◌<◌, length};
 ghost use Rattle.surface.specs.Limits.{most_corners};
 ghost use Rattle.surface.specs.Rows.{rows};

@@ -39,12 +39,12 @@ module _ {R A : Type 0} {passes : A} {refuses : R → A} (apart : Verdicts passe
   first_one (c ∷ l) (inr p) (inr q) = first_one l p.1 q.1
 
   -- none of the first ones is given: the rest decides, and nothing else does
-  pub rest_decides : {l m : List (Clause R)} → NoneBefore m l → (v : A) → FirstOf passes refuses m v → FirstOf passes refuses l v
+  pub rest_decides : {m l : List (Clause R)} → NoneBefore m l → (v : A) → FirstOf passes refuses m v → FirstOf passes refuses l v
   unfolding FirstOf
   rest_decides none_yet v f = f
   rest_decides (n nor h) v f = inr (n, rest_decides h v f)
 
-  pub rest_decided : {l m : List (Clause R)} (v : A) → FirstOf passes refuses l v → NoneBefore m l → FirstOf passes refuses m v
+  pub rest_decided : {m l : List (Clause R)} (v : A) → FirstOf passes refuses l v → NoneBefore m l → FirstOf passes refuses m v
   unfolding FirstOf
   rest_decided v f none_yet = f
   rest_decided v (inl p) (n nor h) = absurd (n p.0)

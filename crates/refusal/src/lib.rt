@@ -1,9 +1,11 @@
 // The refusals: one case for each number that 01 lists, the answer of a check, and the lesser of two.
+#![tactic(auto)]
+
 ghost use Rattle.std.specs.Prelude.{◌≡◌};
 ghost use Rattle.refusal.specs.Number.{number};
 ghost use Rattle.refusal.specs.Inner.{lesser_of};
 
-#[derive(Drop)]
+#[derive(Clone, Copy)]
 pub enum Refusal {
     LimitUnusable,
     CountsOutside,
@@ -21,7 +23,7 @@ pub enum Refusal {
 }
 
 // What a check answers: nothing stands against it, or the first refusal that holds.
-#[derive(Drop)]
+#[derive(Clone, Copy)]
 pub enum Verdict {
     Passes,
     Refused(Refusal),

@@ -1,4 +1,6 @@
 // Growing back: a log's records undone on the table they led to, the last first.
+#![tactic(auto)]
+
 ghost use Rattle.follow.specs.Inner.{FollowedIn};
 ghost use Rattle.regrow.specs.Outcome.{growing, GrownAs};
 ghost use Rattle.regrow.specs.Inner.{CanGrow};
@@ -6,7 +8,7 @@ ghost use Rattle.regrow.specs.Inner.{CanGrow};
 use refusal::{Refusal, Verdict};
 
 // What growing back and replay answer: all records done, those before one that fails, or the refusal.
-#[derive(Drop)]
+#[derive(Clone, Copy)]
 pub enum Regrown {
     Done(usize),
     Stopped(usize),

@@ -1,4 +1,6 @@
 // Replay: a log's records done again on the table they began with, the first first.
+#![tactic(auto)]
+
 ghost use Rattle.surface.specs.InnerStageTable.{StageTable};
 ghost use Rattle.refusal.specs.InnerTells.{Tells};
 ghost use Rattle.follow.specs.Inner.{FollowedIn};

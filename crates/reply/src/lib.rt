@@ -1,4 +1,6 @@
 // The desk's answer to a sheet: read, checked once, thinned without limit, and told as text.
+#![tactic(auto)]
+
 ghost use Rattle.reply.specs.Outcome.{Replied};
 ghost use Rattle.reply.specs.Inner.{SheetSkin, RunPut};
 

@@ -1,4 +1,6 @@
 // Refusal 8: the reverse of each directed edge; and the way round a corner that the reverses give.
+#![tactic(auto)]
+
 ghost use Rattle.std.specs.Prelude.{◌≡◌, ◌<◌, length};
 ghost use Rattle.surface.specs.Rows.{rows};
 ghost use Rattle.refusal.specs.InnerTells.{Tells};

@@ -1,4 +1,6 @@
 // The trial ring: an 8 by 8 torus as a stored table of 384 numbers.
+#![tactic(auto)]
+
 ghost use Rattle.ring.specs.Ring.{AnswerAt};
 
 const RING: [u32; 384] = [
@@ -21,7 +23,7 @@ const RING: [u32; 384] = [
 ];
 
 // A number of the stored table, or that there is none.
-#[derive(Drop)]
+#[derive(Clone, Copy)]
 pub enum Trial {
     Number(u32),
     Nothing,

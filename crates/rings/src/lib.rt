@@ -1,4 +1,6 @@
 // Refusal 10: the rows round each corner form one ring. The ring of a corner is walked once, and a slot that no walk marks lies in another.
+#![tactic(auto)]
+
 ghost use Rattle.std.specs.Prelude.{◌≤◌, ◌<◌, length};
 ghost use Rattle.surface.specs.Rows.{rows};
 ghost use Rattle.refusal.specs.InnerTells.{Tells};

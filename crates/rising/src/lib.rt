@@ -1,4 +1,6 @@
 // The numbers of a ring in rising order: the least above one that is passed.
+#![tactic(auto)]
+
 ghost use Rattle.std.specs.Prelude.{◌≤◌, length};
 ghost use Rattle.surface.specs.Limits.{most_corners};
 ghost use Rattle.neighbours.specs.Around.{Marked};

@@ -1,4 +1,6 @@
 // The sheet: a skin as text, read whole or refused.
+#![tactic(auto)]
+
 ghost use Rattle.form.specs.Inner.{Held};
 ghost use Rattle.sheet.specs.Inner.{Delivered};
 ghost use Rattle.sheet.specs.Outcome.{ReadSheet};
@@ -7,7 +9,7 @@ use form::Form;
 use refusal::{Refusal, Verdict};
 
 // What the reader answers: corner count and row count, or a refusal.
-#[derive(Drop)]
+#[derive(Clone, Copy)]
 pub enum Sheet {
     Read(usize, usize),
     Refused(Refusal),

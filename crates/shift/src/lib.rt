@@ -1,4 +1,6 @@
 // The shift report: where a log has led a corner, in how many steps, and how far. Nothing is written.
+#![tactic(auto)]
+
 ghost use Rattle.record.specs.Layout.{records};
 ghost use Rattle.refusal.specs.InnerTells.{Tells};
 ghost use Rattle.shift.specs.Order.{ShiftFits, PastIn};
@@ -10,7 +12,7 @@ use record::Corner;
 use refusal::{Refusal, Verdict};
 
 // What the shift report answers: stand_in, count and squared distance, or the first refusal that holds.
-#[derive(Drop)]
+#[derive(Clone, Copy)]
 pub enum Shifted {
     StandIn(Corner, usize, u64),
     Refused(Refusal),

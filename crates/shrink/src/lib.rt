@@ -1,5 +1,7 @@
 // A table after a contraction: the rows that hold both numbers leave, the others move up in their order with the removed number replaced, and
 // zeros stand behind them.
+#![tactic(auto)]
+
 ghost use Rattle.std.specs.Prelude.{◌≡◌, ◌∷◌, [], ◌++◌, ◌+◌, ◌-◌, ◌≤◌, length, take, replicate};
 ghost use Rattle.std.proofs.lemmas.List.Edits.{sets};
 ghost use Rattle.shrink.specs.Flat.{has, swap, leaves, after, Moved};

@@ -1,4 +1,6 @@
 // The check of a table: the first refusal that holds, in 01's order, and what passing gives.
+#![tactic(auto)]
+
 ghost use Rattle.faults.specs.Order.{CheckedStageAt};
 ghost use Rattle.faults.specs.Inner.{CheckedAt, CheckedFirst, CheckedStage};
 

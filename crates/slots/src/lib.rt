@@ -1,4 +1,6 @@
 // Slots of a flat table: the next one in a row, and the chains that list the slots of a corner.
+#![tactic(auto)]
+
 ghost use Rattle.std.specs.Prelude.{◌≡◌, ◌≤◌, ◌<◌, length};
 ghost use Rattle.slots.specs.Slot.{next_slot, most_slots, Under};
 ghost use Rattle.slots.specs.Chain.{Chained};

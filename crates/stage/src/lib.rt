@@ -1,4 +1,6 @@
 // Refusals 5 to 11 of a table whose counts fit, in 01's order.
+#![tactic(auto)]
+
 ghost use Rattle.std.specs.Prelude.{◌≡◌, true, ◌≤◌, length};
 ghost use Rattle.surface.specs.Rows.{rows};
 ghost use Rattle.faults.specs.Counts.{CountsFit};

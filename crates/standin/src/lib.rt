@@ -1,4 +1,6 @@
 // Where a log has led a corner, and in how many steps.
+#![tactic(auto)]
+
 ghost use Rattle.std.specs.Prelude.{◌≡◌};
 ghost use Rattle.record.specs.Layout.{records};
 ghost use Rattle.standin.specs.StandIn.{stand_in, moves};
@@ -6,7 +8,7 @@ ghost use Rattle.standin.specs.StandIn.{stand_in, moves};
 use record::Corner;
 
 // Where the records of a log lead a corner, and how many of them moved it.
-#[derive(Drop)]
+#[derive(Clone, Copy)]
 pub struct Followed {
     pub corner: Corner,
     pub count: usize,

@@ -1,4 +1,6 @@
 // The contraction of an edge, in place on a lent table, with its record.
+#![tactic(auto)]
+
 ghost use Rattle.std.specs.Prelude.{◌*◌, ◌≤◌, length};
 ghost use Rattle.record.specs.Front.{front_rows};
 ghost use Rattle.leaving.specs.Leaving.{MayStep};

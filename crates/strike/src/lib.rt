@@ -1,4 +1,6 @@
 // The step on a table whose rows keep their slots, with its record.
+#![tactic(auto)]
+
 ghost use Rattle.std.specs.Prelude.{◌+◌, ◌*◌, ◌≤◌, ◌<◌, length};
 ghost use Rattle.surface.specs.Limits.{most_rows};
 ghost use Rattle.ranks.specs.InnerRanks.{CountsSome, Stairs};
@@ -7,14 +9,14 @@ ghost use Rattle.strike.specs.InnerStrike.{Inside, Picks, BothBeside, SomeBeside
 use record::{Corner, Leaving, Place, Record};
 
 // Two places of a ring: u comes right after the slot of the one, and is the third corner at that of the other.
-#[derive(Drop)]
+#[derive(Clone, Copy)]
 struct Beside {
     one: usize,
     two: usize,
 }
 
 // Two rows, in their order.
-#[derive(Drop)]
+#[derive(Clone, Copy)]
 struct Pair {
     earlier: usize,
     later: usize,

@@ -1,4 +1,6 @@
 // What the desk says, as text: the `NO` line of a refusal, or the lines of a run. It is measured first, so that nothing is written where it does not fit.
+#![tactic(auto)]
+
 ghost use Rattle.tell.specs.Text.{no_text, run_text};
 ghost use Rattle.tell.specs.Put.{Put};
 ghost use Rattle.tell.specs.Inner.{CanTell};
@@ -6,7 +8,7 @@ ghost use Rattle.tell.specs.Inner.{CanTell};
 use refusal::Refusal;
 
 // How many bytes were written, or that the text is short.
-#[derive(Drop)]
+#[derive(Clone, Copy)]
 pub enum Answer {
     Written(usize),
     Refused(Refusal),

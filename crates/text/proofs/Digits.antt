@@ -17,6 +17,8 @@ enough (suc j) (suc k) n h l = ap (λ x. x ++ (digit (n % 10) ∷ [])) (go (n / 
     go : (q : ℕ) → n / 10 ≡ q → ((q : ℕ) → q < j → q < k → digits j q ≡ digits k q) → front q (digits j) ≡ front q (digits k)
     go zero e r = refl
     go (suc q) e r = r (suc q) (omega arith) (omega arith)
+enough zero k n h l = elim h [ ]
+enough (suc j) zero n h l = elim l [ ]
 
 pub decimal_one : (n : ℕ) → n < 10 → decimal n ≡ digit n ∷ []
 unfolding decimal digits
@@ -46,6 +48,7 @@ module _ (P : ℕ → List ℕ → Type 0) (one : (d : ℕ) → d < 10 → P d (
       go : (q d : ℕ) → n ≡ q * 10 + d → d < 10 → ((q : ℕ) → q < k → P q (decimal q)) → P n (decimal n)
       go zero d e l r = let f : n ≡ d = omega arith in rw (f, decimal_one d l) (one d l)
       go (suc q) d e l r = rw (e, decimal_more (suc q) d (omega arith) l) (more (suc q) d (omega arith) l (r (suc q) (omega arith)))
+  below zero n h = elim h [ ]
 
   pub each : (n : ℕ) → P n (decimal n)
   each n = below (suc n) n (omega arith)

@@ -1,30 +1,32 @@
 // Decimal numbers and bytes, read from a place of a text, and written to one.
+#![tactic(auto)]
+
 ghost use Rattle.std.specs.Prelude.{◌≡◌, ◌+◌, ◌≤◌, ◌<◌, length};
 ghost use Rattle.text.specs.Decimal.{decimal, signed};
 ghost use Rattle.text.specs.InnerReading.{ReadNumber, ReadSigned, Expected, DigitAt, below_zero_lem, above_zero, Fits63, Written};
 
 // A place in a text.
-#[derive(Drop)]
+#[derive(Clone, Copy)]
 pub struct Cursor {
     pub at: usize,
 }
 
 // A number and the place after it, or that none stands there.
-#[derive(Drop)]
+#[derive(Clone, Copy)]
 pub enum Number {
     Read(u64, Cursor),
     Bad,
 }
 
 // The same with a sign.
-#[derive(Drop)]
+#[derive(Clone, Copy)]
 pub enum Signed {
     Read(i64, Cursor),
     Bad,
 }
 
 // The place after the bytes asked for, or that they do not stand there.
-#[derive(Drop)]
+#[derive(Clone, Copy)]
 pub enum Passed {
     To(Cursor),
     Bad,

@@ -1,4 +1,6 @@
 // Thinning: the call of document 01, and the same by the plain engine.
+#![tactic(auto)]
+
 ghost use Rattle.std.specs.Prelude.{◌≡◌};
 ghost use Rattle.refusal.specs.InnerTells.{Tells};
 ghost use Rattle.thin.specs.declared.Asked.TheVariants.{NoUse};
@@ -12,14 +14,14 @@ use length::{Length, Order, Reading};
 use refusal::{Refusal, Verdict};
 
 // What an order asks: a bound on the edges, or nothing that can be used.
-#[derive(Drop)]
+#[derive(Clone, Copy)]
 pub enum Asked {
     Under(Bound),
     NoUse,
 }
 
 // What a thinning answers: how many records were written, or the refusal.
-#[derive(Drop)]
+#[derive(Clone, Copy)]
 pub enum Thinning {
     Done(usize),
     Refused(Refusal),

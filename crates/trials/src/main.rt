@@ -1,4 +1,6 @@
 // The trial cases of 01, run over the proved crates. What it prints is held to the file stdout beside src/, which was written from 01.
+#![tactic(auto)]
+
 use length::{Length, Order, Reading, read_limit};
 use regrow::Regrown;
 use ring::Trial;

@@ -1,4 +1,6 @@
 // Undoing a flip log on a table: its records put back, the last first, up to the first that is not undone.
+#![tactic(auto)]
+
 ghost use Rattle.refusal.specs.InnerTells.{Tells};
 ghost use Rattle.undoflips.specs.Outcome.{UndoFits, UndoneAs};
 ghost use Rattle.undoflips.specs.Inner.{AnyStage, UndoneOn, JudgedUndoing};

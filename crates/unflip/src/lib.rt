@@ -1,4 +1,6 @@
 // The undoing of one record of a flip on a stage's table and its chains, by the local rule: it looks at the record's two places and round one corner.
+#![tactic(auto)]
+
 ghost use Rattle.std.specs.Prelude.{◌≤◌, ◌<◌, length};
 ghost use Rattle.surface.specs.Limits.{most_corners};
 ghost use Rattle.surface.specs.Rows.{rows};

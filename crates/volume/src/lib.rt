@@ -1,4 +1,6 @@
 // The volume of a stage and the change between two, in cubic metres, and a stage's exact sum. Nothing is written.
+#![tactic(auto)]
+
 ghost use Rattle.volume.specs.Answer.{told, told_exact};
 ghost use Rattle.volume.specs.Report.{VolumeReport, ChangeReport, ExactReport};
 
@@ -6,14 +8,14 @@ use refusal::{Refusal, Verdict};
 use wide::Wide;
 
 // What a volume or a change answers: the figure in cubic metres, or the first refusal that holds.
-#[derive(Drop)]
+#[derive(Clone, Copy)]
 pub enum Measured {
     Figure(i64),
     Refused(Refusal),
 }
 
 // What an exact sum answers: the sum, or the first refusal that holds.
-#[derive(Drop)]
+#[derive(Clone, Copy)]
 pub enum ExactSum {
     Sum(Wide),
     Refused(Refusal),

@@ -1,5 +1,7 @@
 // Corners that wait, and the least of them: bits in two lent arrays. Bytes, one a corner, would be written one by one and read sixteen at a time,
 // and the processor waits where a wide look follows close on a narrow write; a word is read as it was written.
+#![tactic(auto)]
+
 ghost use Rattle.std.specs.Prelude.{◌<◌};
 ghost use Rattle.surface.specs.Limits.{most_corners};
 ghost use Rattle.waiting.specs.InnerWaiting.{Waiting, Member, Joined, Released, LeastOf, BitOf, Emptied};

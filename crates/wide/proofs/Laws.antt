@@ -78,6 +78,7 @@ exact_there (negsuc n) =
 
 apart : (a b : ℕ) → 0 < b → pos a ≡ neg_ℤ (pos b) → ⊥
 apart a (suc b) h e = pos-ne-negsuc a b e
+apart a Prim.Native.Nat.zero h e = elim h [ ]
 
 same_sum : (w v : ℤ) (r s : ℕ) → r < divisor → s < divisor → pos divisor *ℤ w +ℤ pos r ≡ pos divisor *ℤ v +ℤ pos s → (w ≡ v) × (r ≡ s)
 same_sum (pos n) (pos m) r s h k e =

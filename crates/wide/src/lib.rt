@@ -1,5 +1,7 @@
 // Exact sums wider than an i64, and the one rounding: 6,000,000 times a whole part, and a rest.
 // All here is inner: the calls that report sums and figures bound them first, by a check of the stages or by what a job may hold.
+#![tactic(auto)]
+
 ghost use Rattle.std.specs.Prelude.{◌≡◌, ◌+ℤ◌, ◌-ℤ◌};
 ghost use Rattle.wide.specs.Rounding.{figure};
 ghost use Rattle.wide.specs.Wide.{value, Exact};
@@ -14,7 +16,7 @@ const WHOLE: u64 = DIVISOR as u64;
 const HALF: u64 = WHOLE / 2;
 
 // An exact sum: 6,000,000 times the whole part, and the rest, which is below 6,000,000.
-#[derive(Drop)]
+#[derive(Clone, Copy)]
 pub struct Wide {
     pub whole: i64,
     pub rest: u64,

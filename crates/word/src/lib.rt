@@ -1,4 +1,6 @@
 // A word: eight bytes, the lowest first; a signed number by two's complement. Contracts fix every value.
+#![tactic(auto)]
+
 ghost use Rattle.std.specs.Prelude.{◌≡◌, ◌+◌, ◌%◌, ◌^◌, ◌<◌, ◌≤◌, length};
 ghost use Rattle.std.proofs.lemmas.List.Edits.{sets};
 ghost use Rattle.word.specs.Bytes.{bytes_at, bytes_of};
@@ -14,7 +16,7 @@ const BASE: u64 = 256;
 const NARROW: u64 = 2147483648;
 
 // A signed number that a word is, or that it is none of its type.
-#[derive(Drop)]
+#[derive(Clone, Copy)]
 pub enum Signed {
     Is(i32),
     Nothing,

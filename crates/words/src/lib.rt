@@ -1,4 +1,6 @@
 // Lists of numbers as words on standard input and standard output.
+#![tactic(auto)]
+
 ghost use Rattle.std.specs.Prelude.{◌≡◌, ◌≤◌, length};
 ghost use Rattle.words.specs.Limits.{most_numbers, most_bytes};
 ghost use Rattle.words.specs.Part.{PartOf};
@@ -60,7 +62,7 @@ fn least(a: usize, b: usize) -> usize
 }
 
 // A word that was read, or that there is none.
-#[derive(Drop)]
+#[derive(Clone, Copy)]
 enum Word {
     Is(u64),
     Nothing,

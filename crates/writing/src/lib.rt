@@ -1,5 +1,7 @@
 // Lines of numbers written: a word, fields parted by single tabs, one newline. They go to a place of a lent text; plain numbers are staged a line
 // at a time.
+#![tactic(auto)]
+
 ghost use Rattle.std.specs.Prelude.{◌≡◌, map, ◌+◌, ◌*◌, ◌≤◌, pos, length};
 ghost use Rattle.std.proofs.lemmas.List.Edits.{sets};
 ghost use Rattle.text.specs.InnerReading.{Written};

@@ -1,0 +1,7 @@
+-- `fill` meets its contract.
+use Rattle.ranks.proofs.Filling.{fill_counts}
+use borrow.Author.Rules.{rules}
+use Rattle.ranks.proofs.fill.Goals as goal
+
+pub returns : goal.returns
+returns c = fill_counts _ _ c.fill_within.ensures c.fill_sums.ensures

@@ -1,0 +1,4 @@
+use Rattle.text.proofs.+write_number.Given as goal
+
+abbrev pub decreases-write_number : goal.decreases-write_number
+decreases-write_number l = l.v
