@@ -29,6 +29,7 @@ twice_or_apart g f = g _ _ _ f.here f.same
 pub twice_or_once : {A : Type 0} {l : List A} → Distinct l → ¬ Twice l
 twice_or_once (more n d) (again m) = n m
 twice_or_once (more n d) (later t) = twice_or_once d t
+twice_or_once {A = A} Rattle.surface.specs.Lists.none x3 = elim x3 [ ]
 
 -- two places that hold the same
 pub same_twice : {A : Type 0} (d : A) (l : List A) (i j : ℕ) → i < j → j < length l → get_or l i d ≡ get_or l j d → Twice l

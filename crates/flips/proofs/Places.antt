@@ -16,7 +16,7 @@ pub stands_in : {T : List Row} {i : ℕ} {r : Row} → Stands T i r → r ∈ T
 stands_in (stands_here e) = Memᴰ.head e
 stands_in (stands_later s) = Memᴰ.tail (stands_in s)
 
-pub in_stands : {T : List Row} {r : Row} → r ∈ T → (i : ℕ) × Stands T i r
+pub in_stands : {r : Row} {T : List Row} → r ∈ T → (i : ℕ) × Stands T i r
 in_stands (Memᴰ.head e) = (zero, stands_here e)
 in_stands (Memᴰ.tail m) = let w = in_stands m in (suc w.0, stands_later w.1)
 
@@ -80,6 +80,7 @@ set_out z (more n d) (stands_later {r = o} {z = t} {T = T} {i = i} s) {r} m = go
     go : (r ≡ t) ⊎ (r ∈ set T i z) → (r ∈ set T i z → (r ≡ z) ⊎ ((r ∈ T) × (r ≢ o))) → (r ≡ z) ⊎ ((r ∈ t ∷ T) × (r ≢ o))
     go (inl e) rec = inr (Memᴰ.head e, λ k. n (Memᴰ.cast (sym e ∙ k) (stands_in s)))
     go (inr m) rec = up (rec m)
+set_out {i = i} {o = o} z Rattle.surface.specs.Lists.none x5 {r = r} m = elim x5 [ ]
 
 set_keep : {T : List Row} {i : ℕ} {o : Row} (z : Row) → Stands T i o → {r : Row} → r ∈ T → r ≢ o → r ∈ set T i z
 set_keep z (stands_here {r = o} {z = t} {T = T} e) {r} m n = go (Memᴰ.cases_cons m)
@@ -100,6 +101,7 @@ set_distinct z (more n d) (stands_later {r = o} {z = t} {T = T} {i = i} s) k = m
     go : (t ≡ z) ⊎ ((t ∈ T) × (t ≢ o)) → ⊥
     go (inl e) = k (Memᴰ.head (sym e))
     go (inr w) = n w.0
+set_distinct {i = i} {o = o} z Rattle.surface.specs.Lists.none x5 k = elim x5 [ ]
 
 -- a row of a table in which z₁ and z₂ came for o₁ and o₂: new, or an old one that stayed
 abbrev pub NewOrOld : List Row → Row → Row → Row → Row → Row → Type 0

@@ -1,0 +1,14 @@
+-- An element of the table is in range, so it goes from an i32 to an i64.
+use native.Mathlib.Omega.{arith}
+use borrow.Author.Rules.{rules}
+use mir.Syntax.{w64}
+use Rattle.corners.specs.Limits.{most_coordinate}
+use Rattle.ints.proofs.Machine.{Known, known, tells, fits, kept}
+use Rattle.distance.proofs.Ranges.{element}
+use Rattle.distance.proofs.coordinate_of.Goals as goal
+
+pub overflow_cast-result : goal.overflow_cast-result
+overflow_cast-result c = fits w64 (known (element c.args.xs.now c.requires.2 c.args.v c.args.j)).is (omega arith)
+
+pub returns : goal.returns
+returns c = tells (kept w64 (known (element c.args.xs.now c.requires.2 c.args.v c.args.j)).is (omega arith))

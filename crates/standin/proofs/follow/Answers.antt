@@ -1,0 +1,26 @@
+-- `follow` meets its contract: `Following` holds at every place of the log.
+use Prim.Native.Nat.{◌-◌}
+use Rattle.standin.proofs.Following.{Following, follow_start, follow_moved, follow_stayed, follow_end}
+use native.Mathlib.Omega.{arith}
+use borrow.Author.Rules.{rules}
+use Rattle.standin.proofs.follow.Goals.{then-e-at, else-e-at}
+use Rattle.standin.proofs.follow.Goals as goal
+
+pub loop-j-init : goal.loop-j-init
+loop-j-init c = follow_start
+
+pub loop-j-preserved : goal.loop-j-preserved
+loop-j-preserved c =
+    let loop = c.loop-j in
+    let loop-test = c.loop-j-test in
+    let read-contracted = c.read_contracted-e in
+    let f = loop.invariant in
+    let h = loop-test.true in
+    let is = read-contracted.ensures in
+    elim c.if-e-at.branch [
+        then-e-at w ↦ rw (w.at-is, w.moved-is) (follow_moved f h is w.if-e-at.true)
+      | else-e-at w ↦ rw (w.at-is, w.moved-is) (follow_stayed f h is w.if-e-at.false)
+    ]
+
+pub returns : goal.returns
+returns c = follow_end c.loop-j.invariant (omega (arith, c.loop-j-test.false))
