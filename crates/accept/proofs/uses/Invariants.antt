@@ -1,0 +1,18 @@
+use mathlib.Core.Logic.{◌≢◌, ⊎_elim}
+use Prim.Native.Nat.{ℕ, ◌-◌, ◌≤◌, ◌<◌}
+use borrow.Author.Count.{below_more}
+use lib.ListN.{length, get_or}
+use Rattle.surface.specs.Rows.{rows}
+use Rattle.surface.specs.Table.{Used}
+use Rattle.refusal.specs.InnerTells.{Tells}
+use Rattle.refusal.proofs.Tells.{tells_true, tells_false}
+use Rattle.accept.proofs.Holding.{held_used, not_held}
+use native.Mathlib.Omega.{arith}
+use borrow.Author.Rules.{rules}
+use Rattle.accept.proofs.uses.Given as goal
+
+abbrev pub invariant-loop-e : goal.invariant-loop-e
+invariant-loop-e l = (l.e ≤ length l.t) × Tells l.found (Used (rows l.t) l.v.0) ((k : ℕ) → k < l.e → get_or l.t k 0 ≢ l.v.0)
+
+abbrev pub decreases-loop-e : goal.decreases-loop-e
+decreases-loop-e l = length l.t - l.e

@@ -1,0 +1,16 @@
+-- The record is told and the table shrinks: that is the step (`step-done`).
+use Rattle.step.proofs.Stepping.{step_done}
+use borrow.Author.Rules.{rules}
+use Rattle.step.proofs.contract.Goals as goal
+
+pub record_of-r-requires : goal.record_of-r-requires
+record_of-r-requires c =
+    let pre = c.requires in
+    pre
+
+pub returns : goal.returns
+returns c =
+    let args = c.args in
+    let pre = c.requires in
+    let record_of = c.record_of-r in
+    step_done args.t.now args.kept.0 args.removed.0 pre record_of.result record_of.ensures _ c.shrink.ensures
