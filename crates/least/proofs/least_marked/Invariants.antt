@@ -1,0 +1,19 @@
+use mathlib.Core.Path.{◌≡◌, refl, ◌∙◌}
+use mathlib.Core.Logic.{⊎_elim}
+use Prim.Native.Nat.{◌-◌}
+use lib.ListN.{length}
+use Rattle.surface.specs.Limits.{most_corners}
+use Rattle.surface.specs.Rows.{rows}
+use Rattle.neighbours.specs.Around.{Unmarked}
+use Rattle.neighbours.proofs.Marking.{neighbours_corners, edge_below}
+use Rattle.least.specs.Limited.{Allowed}
+use Rattle.least.proofs.Limiting.{measured_at}
+use Rattle.least.proofs.Rising.{Trying, try_start, try_least, try_more, try_end}
+use native.Mathlib.Omega.{arith}
+use Rattle.least.proofs.least_marked.Given as goal
+
+abbrev pub invariant-loop-b : goal.invariant-loop-b
+invariant-loop-b l = (length l.second ≡ length l.initial.second) × (length l.far ≡ length l.initial.far) × Unmarked l.far × Trying (Allowed l.bound l.xs) (rows l.t) l.a.0 l.ring l.past l.b
+
+abbrev pub decreases-loop-b : goal.decreases-loop-b
+decreases-loop-b l = most_corners - l.past
