@@ -1,0 +1,17 @@
+-- `writable` meets its contract.
+use borrow.Author.Tests.{not-true, not-false}
+use Rattle.refusal.proofs.Tells.{tells_false}
+use borrow.Author.Rules.{rules}
+use Rattle.logsheet.proofs.writable.Goals as goal
+
+pub returns-then-log-ne0 : goal.returns-then-log-ne0
+returns-then-log-ne0 c = tells_false (λ w. let a = w.whole in let b = c.if-log-ne0.true in absurd (b a))
+
+pub returns-then-not-counts_in : goal.returns-then-not-counts_in
+returns-then-not-counts_in c = tells_false (λ w. c.counts_in.ensures.when_false c.if-not-counts_in.true w.counts)
+
+pub returns : goal.returns
+returns c =
+    let if1 = c.if-log-ne0 in
+    let counts_in_lem = c.counts_in in
+    record { when_true = λ e. record { whole = if1.false; counts = counts_in_lem.ensures.when_true c.if-not-counts_in.false; short = c.short.ensures.when_true e }; when_false = λ e w. c.short.ensures.when_false e w.short }

@@ -1,0 +1,6 @@
+-- `marked` meets its contract.
+use borrow.Author.Rules.{rules}
+use Rattle.nest.proofs.marked.Goals as goal
+
+pub returns : goal.returns
+returns c = rw c.kind_of.ensures at c.differ.ensures
