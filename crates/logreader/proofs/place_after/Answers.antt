@@ -1,0 +1,6 @@
+-- `place_after` meets its contract.
+use borrow.Author.Rules.{rules}
+use Rattle.logreader.proofs.place_after.Goals as goal
+
+pub returns-in-Found : goal.returns-in-Found
+returns-in-Found c = rw c.in-Found.is
