@@ -6,8 +6,6 @@ use native.Mathlib.Omega.{arith}
 use lib.IntN.{pos}
 use lib.ListN.{length, length-append, drop, length-drop}
 use lib.Seq.{sets, drop-drop, drop_at}
-use types.Run.{OneOf, miss}
-use denote.Enum.Declared.{tag_of}
 use Rattle.record.specs.Layout.{width, numbers, record_at, log_of, first_records}
 use Rattle.record.specs.declared.Record.{Record}
 use Rattle.record.specs.Meant.{meant}
@@ -21,8 +19,7 @@ use Rattle.reading.specs.Inner.{LineOf}
 use Rattle.heading.specs.Heading.{most_digits}
 use Rattle.logform.specs.Inner.{RecordAt, LinePassed}
 use Rattle.logrecords.specs.declared.Next.{Next}
-use Rattle.logrecords.specs.declared.Next.TheVariants.{Found, End, Bad}
-use Rattle.logrecords.specs.contracts.Next.{the_type}
+use Rattle.logrecords.specs.declared.Next.TheVariants.{Found}
 use Rattle.logrecords.specs.Outcome.{LineStands, NextRecord, found, ended, other}
 use Rattle.logreader.specs.declared.Answered.{Answered}
 use Rattle.logreader.specs.Outcome.{place_after, AnsweredAt}
@@ -57,15 +54,9 @@ pub numbers_put : {b : List ℕ} {at to : ℕ} {r : Record} (room room' : List �
     PutFrom (LineOf pos most_digits K (drop at b)) width room start room' (drop to b)
 numbers_put room room' start l put = let p = l.passed in record { zs = p.ns; count = p.count; here = p.here; put = put ∙ ap (sets room start) l.told }
 
--- an answer that is not the first of the three is no record
-pub unfound : (a : Next) → OneOf (1 ∷ 2 ∷ []) (tag_of the_type a) → (r : Record) (c : Cursor) → ¬ (a ≡ Found r c)
-unfound (Found r' c') k r c e = miss (1 ∷ 2 ∷ []) 0 tt k
-unfound (End c') k r c e = let z : ◌≡◌ {A = ℕ} 0 1 = cc in omega arith
-unfound Bad k r c e = let z : ◌≡◌ {A = ℕ} 0 1 = cc in omega arith
-
 -- no record is found where no line of one stands
-pub no_line : {b : List ℕ} {at : ℕ} {a : Next} → NextRecord b at a → OneOf (1 ∷ 2 ∷ []) (tag_of the_type a) → (ns r : List ℕ) → length ns ≡ width → ¬ RecordAt (drop at b) ns r
-no_line (found s m e) k ns r n here = unfound _ k _ _ e
+pub no_line : {b : List ℕ} {at : ℕ} {a : Next} → NextRecord b at a → ((r : Record) (c : Cursor) → ¬ (a ≡ Found r c)) → (ns r : List ℕ) → length ns ≡ width → ¬ RecordAt (drop at b) ns r
+no_line (found s m e) k ns r n here = k _ _ e
 no_line {b} {at} (ended h e) k ns r n here =
     let f = ap length here.bytes in
     omega (arith, length-append (line K (map pos ns)) r, line_length K (map pos ns), length-drop at b)

@@ -27,7 +27,7 @@ unfolding ReadInto
 returns-in_default c =
     let loop = c.loop-i in
     let loop-test = c.loop-i-test in
-    lines_stop loop.invariant loop-test.true (no_line c.ask-answered.ensures.answer c.in-Found.keys2)
+    lines_stop loop.invariant loop-test.true (no_line c.ask-answered.ensures.answer c.in_default.not-Found)
 
 pub write_record-requires : goal.write_record-requires
 write_record-requires c =
@@ -50,9 +50,9 @@ loop-i-preserved c =
     let loop = c.loop-i in
     let loop-test = c.loop-i-test in
     let ask = c.ask-answered in
-    let here = c.in-Found.given in
+    let here = c.in-Found in
     let write-record = c.write_record in
-    lines_next loop.invariant _ ask.result.at loop-test.true (numbers_put _ _ _ (found_line here.0.0 here.0.1.0 ask.ensures here.1) write-record.ensures)
+    lines_next loop.invariant _ ask.result.at loop-test.true (numbers_put _ _ _ (found_line here.r here.field-1 ask.ensures here.is) write-record.ensures)
 
 pub shape_of-log : goal.shape_of-log
 shape_of-log c = put_length c.loop-i.invariant.put

@@ -15,7 +15,7 @@ unfolding WhatIsLeft
 returns-in_default c =
     let loop = c.loop-k in
     let loop-test = c.loop-k-test in
-    other_stands loop.invariant loop-test.true (no_line c.ask-answered.ensures.answer c.in-Found.keys2)
+    other_stands loop.invariant loop-test.true (no_line c.ask-answered.ensures.answer c.in_default.not-Found)
 
 pub overflow_add-count : goal.overflow_add-count
 overflow_add-count c =
@@ -26,15 +26,15 @@ pub loop-k-smaller : goal.loop-k-smaller
 loop-k-smaller c =
     let loop = c.loop-k in
     let ask = c.ask-answered in
-    let here = c.in-Found.given in
-    nearer loop.invariant ask.result.at (found_line here.0.0 here.0.1.0 ask.ensures here.1).passed
+    let here = c.in-Found in
+    nearer loop.invariant ask.result.at (found_line here.field-0 here.field-1 ask.ensures here.is).passed
 
 pub loop-k-preserved : goal.loop-k-preserved
 loop-k-preserved c =
     let loop = c.loop-k in
     let ask = c.ask-answered in
-    let here = c.in-Found.given in
-    passing_next loop.invariant ask.result.at (found_line here.0.0 here.0.1.0 ask.ensures here.1).passed
+    let here = c.in-Found in
+    passing_next loop.invariant ask.result.at (found_line here.field-0 here.field-1 ask.ensures here.is).passed
 
 pub returns : goal.returns
 unfolding WhatIsLeft

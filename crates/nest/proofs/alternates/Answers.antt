@@ -1,11 +1,7 @@
 -- `alternates` meets its contract.
 use Rattle.nest.proofs.Asking.{alternates_none, alternates_some}
 use native.Mathlib.Omega.{arith}
-use borrow.Author.Rules.{rules}
 use Rattle.nest.proofs.alternates.Goals as goal
-
-pub overflow_cast-name : goal.overflow_cast-name
-overflow_cast-name c = omega (arith, c.shared_slice_known-3-1.given c.args.i)
 
 pub returns-then-name-eq0 : goal.returns-then-name-eq0
 returns-then-name-eq0 c = alternates_none c.args.i c.args.letters.now c.args.names.now c.if-name-eq0.true

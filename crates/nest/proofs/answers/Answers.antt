@@ -3,6 +3,7 @@ use mathlib.Core.Path.{◌∙◌, ap}
 use lib.IntN.{pos, nat_abs}
 use lib.ListN.{get_or}
 use mir.Syntax.{w64}
+use mir.Val.{SFits}
 use mir.ValLaws.{to_z-of_z}
 use Rattle.nest.proofs.Asking.{asked_kind, asked_name, asked_alternation, asked_depth, asked_sum}
 use borrow.Author.Rules.{rules}
@@ -42,5 +43,6 @@ pub returns-in-Sum : goal.returns-in-Sum
 returns-in-Sum c =
     let args = c.args in
     let sum = get_or args.sums.now args.i (pos 0) in
-    let size = c.size.ensures ∙ ap nat_abs (to_z-of_z w64 sum (record { sfits = c.sum-1.given })) in
+    let fits : SFits w64 sum = search rules in
+    let size = c.size.ensures ∙ ap nat_abs (to_z-of_z w64 sum fits) in
     rw c.in-Sum.is (asked_sum args.i args.letters.now args.names.now args.sums.now c.size.result size)

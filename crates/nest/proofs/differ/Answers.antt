@@ -3,7 +3,6 @@ use mathlib.Core.Path.{sym, ◌∙◌, ap}
 use Rattle.refusal.proofs.Tells.{tells_true, tells_false}
 use Rattle.nest.specs.Inner.{kind_number_lem}
 use Rattle.nest.proofs.Asking.{same_kind}
-use borrow.Author.Rules.{rules}
 use Rattle.nest.proofs.differ.Goals as goal
 
 pub returns-then-kind_number : goal.returns-then-kind_number

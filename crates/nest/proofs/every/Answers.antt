@@ -1,10 +1,6 @@
 -- `every` meets its contract.
-use Prim.Native.Nat.{◌-◌}
-use lib.ListN.{length}
-use borrow.Author.Tests.{not-true, not-false}
 use Rattle.nest.specs.Inner.{asks}
-use Rattle.nest.proofs.Asking.{FirstAnswer, one_more, none_yet, one_fails, all_answer}
-use borrow.Author.Rules.{rules}
+use Rattle.nest.proofs.Asking.{one_more, none_yet, one_fails, all_answer}
 use Rattle.nest.proofs.every.Goals as goal
 
 pub loop-i-init : goal.loop-i-init

@@ -1,9 +1,7 @@
 use Prim.Native.Nat.{◌-◌}
 use lib.ListN.{length}
-use borrow.Author.Tests.{not-true, not-false}
 use Rattle.nest.specs.Inner.{asks}
-use Rattle.nest.proofs.Asking.{FirstAnswer, one_more, none_yet, one_fails, all_answer}
-use borrow.Author.Rules.{rules}
+use Rattle.nest.proofs.Asking.{FirstAnswer}
 use Rattle.nest.proofs.every.Given as goal
 
 abbrev pub invariant-loop-i : goal.invariant-loop-i

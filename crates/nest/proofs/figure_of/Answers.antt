@@ -5,7 +5,6 @@ use mir.ValLaws.{to_z-of_z}
 use Rattle.wide.specs.Rounding.{figure}
 use Rattle.nest.proofs.Sizes.{net_fits}
 use native.Mathlib.Omega.{arith}
-use borrow.Author.Rules.{rules}
 use Rattle.nest.proofs.figure_of.Goals as goal
 
 pub cubic_metres-requires : goal.cubic_metres-requires

@@ -1,5 +1,4 @@
 -- `marked` meets its contract.
-use borrow.Author.Rules.{rules}
 use Rattle.nest.proofs.marked.Goals as goal
 
 pub returns : goal.returns
