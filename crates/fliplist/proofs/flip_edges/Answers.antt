@@ -11,6 +11,7 @@ use Rattle.fliplist.specs.Inner.{FlipReady}
 use Rattle.fliplist.proofs.Going.{Going, going_none, charted, same_log, done_all, room_left, next_stops, next_flips}
 use native.Mathlib.Omega.{arith}
 use borrow.Author.Rules.{rules}
+use mathlib.Core.Path.{◌∙◌}
 use Rattle.fliplist.proofs.flip_edges.Goals as goal
 
 pub chains-requires : goal.chains-requires
@@ -88,7 +89,7 @@ loop-done-preserved c =
     let prev4 = c.flip-tried in
     let tried2 = c.in-Logs in
     let write-flip = c.write_flip in
-    (last4.auto.last, prev4.auto.prev, loop.invariant.2, next_flips args.table.now args.edges.now args.log.now loop.invariant.2 loop.done loop.table loop.log loop.last loop.prev loop.invariant.3 loop-test.true _ _ _ (rw tried2.is at flip.ensures.tries) write-flip.ensures table.auto.t flip.ensures.in_chains)
+    (last4.auto.last ∙ loop.invariant.0, prev4.auto.prev ∙ loop.invariant.1, loop.invariant.2, next_flips args.table.now args.edges.now args.log.now loop.invariant.2 loop.done loop.table loop.log loop.last loop.prev loop.invariant.3 loop-test.true _ _ _ (rw tried2.is at flip.ensures.tries) write-flip.ensures table.auto.t flip.ensures.in_chains)
 
 pub shape_of-log : goal.shape_of-log
 shape_of-log c =
