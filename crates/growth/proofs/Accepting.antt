@@ -11,7 +11,7 @@ use Rattle.surface.specs.Rows.{Row}
 use Rattle.surface.specs.Table.{Edge}
 use Rattle.surface.specs.Stage.{Stage}
 use Rattle.surface.specs.Link.{Opposite}
-use Rattle.surface.specs.Record.{at, Record, placed}
+use Rattle.surface.specs.Record.{Record, placed}
 use Rattle.surface.proofs.Once.{turn}
 use Rattle.surface.proofs.Contracted.{two_leave, from_a, b≢x, y≢b}
 use Rattle.surface.proofs.Following.{re_edge, follows_same as one}

@@ -13,7 +13,7 @@ use Rattle.surface.specs.Table.{Used}
 use Rattle.surface.specs.Stage.{Stage}
 use Rattle.follow.specs.Leads.{no_step, one_step}
 use Rattle.follow.proofs.Leading.{leads_keep}
-use Rattle.surface.specs.Record.{at, leaving, Record, placed, Replays, Replayed}
+use Rattle.surface.specs.Record.{leaving, Record, placed, Replays, Replayed}
 use Rattle.surface.specs.Euler.{Euler}
 use Rattle.surface.proofs.Main.{contraction, euler_kept, euler_there, euler_one, corners_there, two_fewer, one_fewer, counts_one, left}
 use Rattle.run.specs.Run.{NotAfter, lower, level, Least, Taken, none_yet, one_more, Over, Run}

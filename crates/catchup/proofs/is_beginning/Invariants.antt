@@ -1,10 +1,7 @@
-use mathlib.Core.Path.{◌≡◌, sym, ◌∙◌}
+use mathlib.Core.Path.{◌≡◌}
 use Prim.Native.Nat.{◌≤◌, ◌-◌}
 use lib.ListN.{length, drop}
 use Rattle.catchup.specs.Inner.{begins}
-use Rattle.catchup.proofs.Beginnings.{stop, differ, go_on, at_end}
-use native.Mathlib.Omega.{arith}
-use borrow.Author.Rules.{rules}
 use Rattle.catchup.proofs.is_beginning.Given as goal
 
 abbrev pub invariant-loop-i : goal.invariant-loop-i

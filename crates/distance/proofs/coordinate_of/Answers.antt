@@ -1,9 +1,7 @@
 -- An element of the table is in range, so it goes from an i32 to an i64.
 use native.Mathlib.Omega.{arith}
-use borrow.Author.Rules.{rules}
 use mir.Syntax.{w64}
-use Rattle.corners.specs.Limits.{most_coordinate}
-use Rattle.ints.proofs.Machine.{Known, known, tells, fits, kept}
+use Rattle.ints.proofs.Machine.{known, tells, fits, kept}
 use Rattle.distance.proofs.Ranges.{element}
 use Rattle.distance.proofs.coordinate_of.Goals as goal
 

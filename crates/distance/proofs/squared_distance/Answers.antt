@@ -1,6 +1,5 @@
 -- Three squares added.
 use native.Mathlib.Omega.{arith}
-use borrow.Author.Rules.{rules}
 use Rattle.distance.specs.Corners.{squared_distance_lem}
 use Rattle.distance.proofs.squared_distance.Goals as goal
 

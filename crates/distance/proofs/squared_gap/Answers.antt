@@ -1,7 +1,6 @@
 -- The difference and its square, each as the machine has it, named once; a square is never below zero.
 use Prim.Native.Nat.{◌*◌}
 use native.Mathlib.Omega.{arith}
-use borrow.Author.Rules.{rules}
 use mir.Syntax.{w64}
 use Rattle.ints.proofs.Machine.{Known, known, told, fits, kept, less, squared, unsigned, unsigned_fits, within}
 use Rattle.distance.specs.Inner.{gap_bound}

@@ -1,7 +1,6 @@
 -- A usable limit's square fits, and the comparison tells.
 use Rattle.distance.proofs.Limiting.{limit_tells, square_small}
 use native.Mathlib.Omega.{arith}
-use borrow.Author.Rules.{rules}
 use Rattle.distance.proofs.within.Goals as goal
 
 pub overflow_mul-result : goal.overflow_mul-result

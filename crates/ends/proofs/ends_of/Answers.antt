@@ -2,7 +2,6 @@
 use Rattle.growth.specs.Grow.{in_order}
 use Rattle.ends.specs.Rows.{PairIs, EndsAre}
 use Rattle.ends.proofs.Pairs.{other_way}
-use borrow.Author.Rules.{rules}
 use Rattle.ends.proofs.ends_of.Goals as goal
 
 pub returns-in-At : goal.returns-in-At

@@ -1,6 +1,5 @@
 -- `pair_of` meets its contract.
 use Rattle.ends.specs.Rows.{ThirdIs, PairIs}
-use borrow.Author.Rules.{rules}
 use Rattle.ends.proofs.pair_of.Goals as goal
 
 pub returns-in-Missing : goal.returns-in-Missing

@@ -2,7 +2,6 @@
 use Rattle.surface.specs.Rows.{turn_0, turn_1, turn_2}
 use Rattle.ends.specs.Rows.{ThirdIs}
 use Rattle.ends.proofs.Pairs.{no_third}
-use borrow.Author.Rules.{rules}
 use Rattle.ends.proofs.third_corner.Goals as goal
 
 pub returns-then-goes : goal.returns-then-goes

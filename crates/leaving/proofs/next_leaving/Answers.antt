@@ -1,15 +1,8 @@
 -- The rows passed stay, and some row further on leaves, so the walk ends inside the table.
 use mathlib.Core.Path.{refl, sym, ◌∙◌}
-use Prim.Native.Nat.{ℕ, ◌-◌, ◌*◌, ◌≤◌, ◌<◌}
-use lib.ListN.{length}
-use borrow.Author.Tests.{not-true, not-false}
-use Rattle.surface.specs.Limits.{most_rows}
-use Rattle.surface.specs.Contract.{Stays}
-use Rattle.leaving.specs.Leaving.{SomeLeaves, row_at}
 use Rattle.shrink.proofs.Moving.{leaves_not, not_leaves}
 use Rattle.leaving.proofs.Leave.{some_next, passed_more}
 use native.Mathlib.Omega.{arith}
-use borrow.Author.Rules.{rules}
 use Rattle.leaving.proofs.next_leaving.Goals as goal
 
 pub loop-p-init : goal.loop-p-init

@@ -1,7 +1,6 @@
 -- The two rows that leave, found one after the other, are the record (`recorded`).
 use mathlib.Core.Path.{refl}
 use Rattle.leaving.proofs.Recording.{table_most, some_first, some_second, recorded}
-use borrow.Author.Rules.{rules}
 use Rattle.leaving.proofs.record_of.Goals as goal
 
 pub next_leaving-earlier-requires : goal.next_leaving-earlier-requires

@@ -1,6 +1,5 @@
 -- `read_limit`: each unit's figure is read by its own line of the table. A new unit is one more such line.
 use Rattle.length.specs.Limit.{limit_of}
-use borrow.Author.Rules.{rules}
 use Rattle.length.proofs.read_limit.Goals as goal
 
 pub returns-in-Metres : goal.returns-in-Metres

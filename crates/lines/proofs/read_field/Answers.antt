@@ -4,7 +4,6 @@ use mathlib.Core.List.{[], ◌∷◌}
 use Rattle.text.specs.InnerReading.{Expected}
 use Rattle.lines.specs.Lines.{tab}
 use Rattle.lines.proofs.Turns.{field_read, field_none}
-use borrow.Author.Rules.{rules}
 use Rattle.lines.proofs.read_field.Goals as goal
 
 pub returns-in-To : goal.returns-in-To

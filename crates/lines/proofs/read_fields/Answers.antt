@@ -1,12 +1,10 @@
 -- `read_fields` meets its contract.
-use Prim.Native.Nat.{◌-◌}
 use mir.Syntax.{w64}
 use mir.Val.{to_z, of_z}
 use mir.ValLaws.{to_z-of_z}
 use Rattle.lines.specs.Inner.{ReadField, ReadInto}
-use Rattle.lines.proofs.Turns.{Fielded, fields_start, field_small, fields_more, fields_stop, fields_end, put_length}
+use Rattle.lines.proofs.Turns.{fields_start, field_small, fields_more, fields_stop, fields_end, put_length}
 use native.Mathlib.Omega.{arith}
-use borrow.Author.Rules.{rules}
 use Rattle.lines.proofs.read_fields.Goals as goal
 
 pub loop-i-init : goal.loop-i-init

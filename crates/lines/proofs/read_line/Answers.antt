@@ -8,7 +8,6 @@ use Rattle.text.specs.InnerReading.{Expected}
 use Rattle.lines.specs.Lines.{LineAt}
 use Rattle.lines.specs.Inner.{ReadInto}
 use Rattle.lines.proofs.Turns.{no_word, no_fields, line_end, as_they_are}
-use borrow.Author.Rules.{rules}
 use Rattle.lines.proofs.read_line.Goals as goal
 
 pub returns-in_default : goal.returns-in_default

@@ -1,12 +1,11 @@
 -- `gather` meets its contract.
-use mathlib.Core.Path.{◌≡◌, refl, ◌∙◌}
-use Prim.Native.Nat.{◌-◌, ◌≤◌, ◌<◌}
-use lib.ListN.{length, get_or, take, length-set}
+use mathlib.Core.Path.{refl, ◌∙◌}
+use Prim.Native.Nat.{◌-◌, ◌<◌}
+use lib.ListN.{length, get_or, length-set}
 use Rattle.slots.specs.Slot.{next_slot}
 use Rattle.slots.proofs.Slots.{next_inside}
-use Rattle.neighbours.proofs.Gathering.{Listing, whole, list_none, list_end, ring_room, ring_more}
+use Rattle.neighbours.proofs.Gathering.{whole, list_none, list_end, ring_room, ring_more}
 use native.Mathlib.Omega.{arith}
-use borrow.Author.Rules.{rules}
 use Rattle.neighbours.proofs.gather.Goals as goal
 
 pub loop-x-init : goal.loop-x-init

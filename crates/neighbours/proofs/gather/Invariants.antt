@@ -1,11 +1,7 @@
-use mathlib.Core.Path.{◌≡◌, refl, ◌∙◌}
-use Prim.Native.Nat.{◌-◌, ◌≤◌, ◌<◌}
-use lib.ListN.{length, get_or, take, length-set}
-use Rattle.slots.specs.Slot.{next_slot}
-use Rattle.slots.proofs.Slots.{next_inside}
-use Rattle.neighbours.proofs.Gathering.{Listing, whole, list_none, list_end, ring_room, ring_more}
-use native.Mathlib.Omega.{arith}
-use borrow.Author.Rules.{rules}
+use mathlib.Core.Path.{◌≡◌}
+use Prim.Native.Nat.{◌≤◌}
+use lib.ListN.{length, take}
+use Rattle.neighbours.proofs.Gathering.{Listing}
 use Rattle.neighbours.proofs.gather.Given as goal
 
 abbrev pub invariant-loop-x : goal.invariant-loop-x

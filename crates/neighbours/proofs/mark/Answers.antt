@@ -1,11 +1,9 @@
 -- `mark` meets its contract.
-use mathlib.Core.Path.{◌≡◌, refl}
-use Prim.Native.Nat.{◌-◌, ◌≤◌}
-use lib.ListN.{length, length-set}
+use mathlib.Core.Path.{refl}
+use lib.ListN.{length-set}
 use Rattle.surface.proofs.Flat.{at_place}
-use Rattle.neighbours.proofs.Marking.{MarkedTo, mark_none, mark_more, mark_end}
+use Rattle.neighbours.proofs.Marking.{mark_none, mark_more, mark_end}
 use native.Mathlib.Omega.{arith}
-use borrow.Author.Rules.{rules}
 use Rattle.neighbours.proofs.mark.Goals as goal
 
 pub loop-i-init : goal.loop-i-init

@@ -1,10 +1,7 @@
-use mathlib.Core.Path.{◌≡◌, refl}
+use mathlib.Core.Path.{◌≡◌}
 use Prim.Native.Nat.{◌-◌, ◌≤◌}
-use lib.ListN.{length, length-set}
-use Rattle.surface.proofs.Flat.{at_place}
-use Rattle.neighbours.proofs.Marking.{MarkedTo, mark_none, mark_more, mark_end}
-use native.Mathlib.Omega.{arith}
-use borrow.Author.Rules.{rules}
+use lib.ListN.{length}
+use Rattle.neighbours.proofs.Marking.{MarkedTo}
 use Rattle.neighbours.proofs.mark.Given as goal
 
 abbrev pub invariant-loop-i : goal.invariant-loop-i

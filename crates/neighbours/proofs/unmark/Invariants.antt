@@ -1,10 +1,7 @@
-use mathlib.Core.Path.{◌≡◌, refl}
+use mathlib.Core.Path.{◌≡◌}
 use Prim.Native.Nat.{◌-◌, ◌≤◌}
-use lib.ListN.{length, length-set}
-use Rattle.surface.proofs.Flat.{at_place}
-use Rattle.neighbours.proofs.Marking.{MarkedFrom, unmark_more, unmark_end}
-use native.Mathlib.Omega.{arith}
-use borrow.Author.Rules.{rules}
+use lib.ListN.{length}
+use Rattle.neighbours.proofs.Marking.{MarkedFrom}
 use Rattle.neighbours.proofs.unmark.Given as goal
 
 abbrev pub invariant-loop-i : goal.invariant-loop-i

@@ -1,7 +1,6 @@
 -- `near` meets its contract.
 use Rattle.refusal.proofs.Tells.{tells_true, tells_false}
 use native.Mathlib.Omega.{arith}
-use borrow.Author.Rules.{rules}
 use Rattle.noted.proofs.near.Goals as goal
 
 pub returns-then-at-i : goal.returns-then-at-i

@@ -4,7 +4,6 @@ use Rattle.noted.proofs.Notes.{note_other, note_more}
 use lib.ListN.{length}
 use Rattle.slots.specs.Slot.{next_slot}
 use native.Mathlib.Omega.{arith}
-use borrow.Author.Rules.{rules}
 use Rattle.noted.proofs.note.Goals as goal
 
 pub returns-then-t-e : goal.returns-then-t-e

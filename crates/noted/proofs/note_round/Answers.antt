@@ -1,11 +1,7 @@
 -- `note_round` meets its contract.
-use mathlib.Core.Path.{◌≡◌, refl, ◌∙◌}
-use Prim.Native.Nat.{◌-◌, ◌≤◌}
-use lib.ListN.{length}
-use Rattle.noted.specs.Noted.{NotedTo}
+use mathlib.Core.Path.{refl, ◌∙◌}
 use Rattle.noted.proofs.Notes.{note_none, note_end}
 use native.Mathlib.Omega.{arith}
-use borrow.Author.Rules.{rules}
 use Rattle.noted.proofs.note_round.Goals as goal
 
 pub loop-e-init : goal.loop-e-init

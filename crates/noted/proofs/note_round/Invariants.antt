@@ -1,10 +1,7 @@
-use mathlib.Core.Path.{◌≡◌, refl, ◌∙◌}
+use mathlib.Core.Path.{◌≡◌}
 use Prim.Native.Nat.{◌-◌, ◌≤◌}
 use lib.ListN.{length}
 use Rattle.noted.specs.Noted.{NotedTo}
-use Rattle.noted.proofs.Notes.{note_none, note_end}
-use native.Mathlib.Omega.{arith}
-use borrow.Author.Rules.{rules}
 use Rattle.noted.proofs.note_round.Given as goal
 
 abbrev pub invariant-loop-e : goal.invariant-loop-e

@@ -1,7 +1,5 @@
 -- `two_near` meets its contract.
-use borrow.Author.Tests.{not-true, not-false}
 use Rattle.refusal.proofs.Tells.{tells_true, tells_false}
-use borrow.Author.Rules.{rules}
 use Rattle.noted.proofs.two_near.Goals as goal
 
 pub returns-then-x-y : goal.returns-then-x-y

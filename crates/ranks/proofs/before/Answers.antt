@@ -3,7 +3,6 @@ use Prim.Native.Nat.{◌/◌}
 use Rattle.ranks.specs.InnerRanks.{block}
 use Rattle.ranks.proofs.Sums.{before_is}
 use native.Mathlib.Omega.{arith}
-use borrow.Author.Rules.{rules}
 use Rattle.ranks.proofs.before.Goals as goal
 
 pub overflow_add-result : goal.overflow_add-result

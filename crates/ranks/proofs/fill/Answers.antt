@@ -1,6 +1,5 @@
 -- `fill` meets its contract.
 use Rattle.ranks.proofs.Filling.{fill_counts}
-use borrow.Author.Rules.{rules}
 use Rattle.ranks.proofs.fill.Goals as goal
 
 pub returns : goal.returns

@@ -1,11 +1,10 @@
 -- `fill_stair` meets its contract.
-use mathlib.Core.Path.{◌≡◌, ◌∙◌}
-use Prim.Native.Nat.{◌+◌, ◌-◌, ◌*◌, ◌≤◌, ◌/◌}
-use lib.ListN.{length, length-set}
+use mathlib.Core.Path.{◌∙◌}
+use Prim.Native.Nat.{◌+◌, ◌/◌}
+use lib.ListN.{length-set}
 use Rattle.ranks.specs.InnerRanks.{block}
-use Rattle.ranks.proofs.Filling.{Filled, fill_more}
+use Rattle.ranks.proofs.Filling.{fill_more}
 use native.Mathlib.Omega.{arith}
-use borrow.Author.Rules.{rules}
 use Rattle.ranks.proofs.fill_stair.Goals as goal
 
 pub loop-k-init : goal.loop-k-init

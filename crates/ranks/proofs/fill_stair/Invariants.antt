@@ -1,10 +1,8 @@
-use mathlib.Core.Path.{◌≡◌, ◌∙◌}
-use Prim.Native.Nat.{◌+◌, ◌-◌, ◌*◌, ◌≤◌, ◌/◌}
-use lib.ListN.{length, length-set}
+use mathlib.Core.Path.{◌≡◌}
+use Prim.Native.Nat.{◌-◌, ◌*◌, ◌≤◌, ◌/◌}
+use lib.ListN.{length}
 use Rattle.ranks.specs.InnerRanks.{block}
-use Rattle.ranks.proofs.Filling.{Filled, fill_more}
-use native.Mathlib.Omega.{arith}
-use borrow.Author.Rules.{rules}
+use Rattle.ranks.proofs.Filling.{Filled}
 use Rattle.ranks.proofs.fill_stair.Given as goal
 
 abbrev pub invariant-loop-k : goal.invariant-loop-k

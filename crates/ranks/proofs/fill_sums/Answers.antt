@@ -1,11 +1,9 @@
 -- `fill_sums` meets its contract.
-use mathlib.Core.Path.{◌≡◌}
-use Prim.Native.Nat.{◌-◌, ◌*◌, ◌≤◌}
-use lib.ListN.{length, length-set}
-use Rattle.ranks.specs.InnerRanks.{block, blocks}
-use Rattle.ranks.proofs.Filling.{Filled, fill_more}
+use Prim.Native.Nat.{◌*◌}
+use lib.ListN.{length-set}
+use Rattle.ranks.specs.InnerRanks.{block}
+use Rattle.ranks.proofs.Filling.{fill_more}
 use native.Mathlib.Omega.{arith}
-use borrow.Author.Rules.{rules}
 use Rattle.ranks.proofs.fill_sums.Goals as goal
 
 pub loop-b-init : goal.loop-b-init

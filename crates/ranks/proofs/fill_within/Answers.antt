@@ -1,12 +1,9 @@
 -- `fill_within` meets its contract.
-use mathlib.Core.Path.{◌≡◌}
-use Prim.Native.Nat.{◌-◌, ◌≤◌, ◌%◌}
-use lib.ListN.{length, length-set}
-use Rattle.surface.specs.Limits.{most_rows}
+use Prim.Native.Nat.{◌%◌}
+use lib.ListN.{length-set}
 use Rattle.ranks.specs.InnerRanks.{block}
-use Rattle.ranks.proofs.Filling.{Filled, fill_more}
+use Rattle.ranks.proofs.Filling.{fill_more}
 use native.Mathlib.Omega.{arith}
-use borrow.Author.Rules.{rules}
 use Rattle.ranks.proofs.fill_within.Goals as goal
 
 pub loop-i-init : goal.loop-i-init

@@ -1,11 +1,9 @@
 use mathlib.Core.Path.{◌≡◌}
 use Prim.Native.Nat.{◌-◌, ◌≤◌, ◌%◌}
-use lib.ListN.{length, length-set}
+use lib.ListN.{length}
 use Rattle.surface.specs.Limits.{most_rows}
 use Rattle.ranks.specs.InnerRanks.{block}
-use Rattle.ranks.proofs.Filling.{Filled, fill_more}
-use native.Mathlib.Omega.{arith}
-use borrow.Author.Rules.{rules}
+use Rattle.ranks.proofs.Filling.{Filled}
 use Rattle.ranks.proofs.fill_within.Given as goal
 
 abbrev pub invariant-loop-i : goal.invariant-loop-i

@@ -1,6 +1,5 @@
 -- `leave` meets its contract.
 use Rattle.ranks.proofs.Leaving.{can_first, can_second, can_drop, both_left}
-use borrow.Author.Rules.{rules}
 use Rattle.ranks.proofs.leave.Goals as goal
 
 pub leave_block-requires : goal.leave_block-requires

@@ -1,12 +1,9 @@
 -- `leave_block` meets its contract.
-use mathlib.Core.Path.{◌≡◌}
-use Prim.Native.Nat.{ℕ, ◌-◌, ◌≤◌}
-use lib.ListN.{length, length-set, length-replicate}
+use Prim.Native.Nat.{ℕ}
+use lib.ListN.{length-set, length-replicate}
 use Rattle.ranks.specs.InnerRanks.{block}
-use Rattle.ranks.proofs.Filling.{Filled}
-use Rattle.ranks.proofs.Leaving.{number_left, less_can, less_more, block_lowered}
+use Rattle.ranks.proofs.Leaving.{less_can, less_more, block_lowered}
 use native.Mathlib.Omega.{arith}
-use borrow.Author.Rules.{rules}
 use Rattle.ranks.proofs.leave_block.Goals as goal
 
 pub loop-k-init : goal.loop-k-init

@@ -1,11 +1,9 @@
 use mathlib.Core.Path.{◌≡◌}
-use Prim.Native.Nat.{ℕ, ◌-◌, ◌≤◌}
-use lib.ListN.{length, length-set, length-replicate}
+use Prim.Native.Nat.{◌-◌, ◌≤◌}
+use lib.ListN.{length}
 use Rattle.ranks.specs.InnerRanks.{block}
 use Rattle.ranks.proofs.Filling.{Filled}
-use Rattle.ranks.proofs.Leaving.{number_left, less_can, less_more, block_lowered}
-use native.Mathlib.Omega.{arith}
-use borrow.Author.Rules.{rules}
+use Rattle.ranks.proofs.Leaving.{number_left}
 use Rattle.ranks.proofs.leave_block.Given as goal
 
 abbrev pub invariant-loop-k : goal.invariant-loop-k

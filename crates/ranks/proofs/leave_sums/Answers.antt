@@ -1,12 +1,9 @@
 -- `leave_sums` meets its contract.
-use mathlib.Core.Path.{◌≡◌}
-use Prim.Native.Nat.{ℕ, ◌-◌, ◌≤◌}
-use lib.ListN.{length, length-set, length-replicate}
+use Prim.Native.Nat.{ℕ}
+use lib.ListN.{length-set, length-replicate}
 use Rattle.ranks.specs.InnerRanks.{blocks}
-use Rattle.ranks.proofs.Filling.{Filled}
-use Rattle.ranks.proofs.Leaving.{sum_left, drop_can, drop_more, dropped}
+use Rattle.ranks.proofs.Leaving.{drop_can, drop_more, dropped}
 use native.Mathlib.Omega.{arith}
-use borrow.Author.Rules.{rules}
 use Rattle.ranks.proofs.leave_sums.Goals as goal
 
 pub loop-k-init : goal.loop-k-init

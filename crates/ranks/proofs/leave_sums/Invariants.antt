@@ -1,11 +1,9 @@
 use mathlib.Core.Path.{◌≡◌}
-use Prim.Native.Nat.{ℕ, ◌-◌, ◌≤◌}
-use lib.ListN.{length, length-set, length-replicate}
+use Prim.Native.Nat.{◌-◌, ◌≤◌}
+use lib.ListN.{length}
 use Rattle.ranks.specs.InnerRanks.{blocks}
 use Rattle.ranks.proofs.Filling.{Filled}
-use Rattle.ranks.proofs.Leaving.{sum_left, drop_can, drop_more, dropped}
-use native.Mathlib.Omega.{arith}
-use borrow.Author.Rules.{rules}
+use Rattle.ranks.proofs.Leaving.{sum_left}
 use Rattle.ranks.proofs.leave_sums.Given as goal
 
 abbrev pub invariant-loop-k : goal.invariant-loop-k

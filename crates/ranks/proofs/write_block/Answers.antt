@@ -1,9 +1,8 @@
 -- `write_block` meets its contract.
-use Prim.Native.Nat.{◌-◌, ◌*◌, ◌≤◌, ◌/◌}
+use Prim.Native.Nat.{◌*◌, ◌/◌}
 use Rattle.ranks.specs.InnerRanks.{block}
-use Rattle.ranks.proofs.Leaving.{Writing, write_none, write_more, write_end}
+use Rattle.ranks.proofs.Leaving.{write_none, write_more, write_end}
 use native.Mathlib.Omega.{arith}
-use borrow.Author.Rules.{rules}
 use Rattle.ranks.proofs.write_block.Goals as goal
 
 pub loop-k-init : goal.loop-k-init

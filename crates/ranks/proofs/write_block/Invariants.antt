@@ -1,8 +1,6 @@
 use Prim.Native.Nat.{◌-◌, ◌*◌, ◌≤◌, ◌/◌}
 use Rattle.ranks.specs.InnerRanks.{block}
-use Rattle.ranks.proofs.Leaving.{Writing, write_none, write_more, write_end}
-use native.Mathlib.Omega.{arith}
-use borrow.Author.Rules.{rules}
+use Rattle.ranks.proofs.Leaving.{Writing}
 use Rattle.ranks.proofs.write_block.Given as goal
 
 abbrev pub invariant-loop-k : goal.invariant-loop-k

@@ -1,11 +1,7 @@
 -- `write_sums` meets its contract.
-use mathlib.Core.Path.{◌≡◌}
-use Prim.Native.Nat.{◌-◌, ◌≤◌}
-use lib.ListN.{length, get_or, length-set}
-use Rattle.ranks.specs.InnerRanks.{blocks}
-use Rattle.ranks.proofs.Filling.{Filled, fill_more}
+use lib.ListN.{get_or, length-set}
+use Rattle.ranks.proofs.Filling.{fill_more}
 use native.Mathlib.Omega.{arith}
-use borrow.Author.Rules.{rules}
 use Rattle.ranks.proofs.write_sums.Goals as goal
 
 pub loop-k-init : goal.loop-k-init

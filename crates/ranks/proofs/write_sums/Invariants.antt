@@ -1,10 +1,8 @@
 use mathlib.Core.Path.{◌≡◌}
 use Prim.Native.Nat.{◌-◌, ◌≤◌}
-use lib.ListN.{length, get_or, length-set}
+use lib.ListN.{length, get_or}
 use Rattle.ranks.specs.InnerRanks.{blocks}
-use Rattle.ranks.proofs.Filling.{Filled, fill_more}
-use native.Mathlib.Omega.{arith}
-use borrow.Author.Rules.{rules}
+use Rattle.ranks.proofs.Filling.{Filled}
 use Rattle.ranks.proofs.write_sums.Given as goal
 
 abbrev pub invariant-loop-k : goal.invariant-loop-k

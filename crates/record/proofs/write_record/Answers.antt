@@ -6,7 +6,6 @@ use native.Mathlib.Numerals.{towards_suc}
 use lib.ListN.{length-set}
 use lib.Seq.{sets, length-sets}
 use native.Mathlib.Omega.{arith}
-use borrow.Author.Rules.{rules}
 use Rattle.record.proofs.write_record.Goals as goal
 
 pub bounds-log-i-2 : goal.bounds-log-i-2

@@ -2,7 +2,6 @@
 use Rattle.ring.specs.Ring.{number_at}
 use Rattle.ring.specs.Inner.{numbers_from, ring}
 use Rattle.ring.proofs.Rule.{ring_at}
-use borrow.Author.Rules.{rules}
 use Rattle.ring.proofs.trial_number.Goals as goal
 
 pub returns-then-at-ge384 : goal.returns-then-at-ge384

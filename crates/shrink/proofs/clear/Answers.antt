@@ -1,9 +1,7 @@
 -- Zeros are written from place i on; the front stays.
-use lib.ListN.{length, length-set}
-use Prim.Native.Nat.{◌-◌}
-use Rattle.shrink.proofs.Zeros.{Cleared, clear_start, clear_more, clear_end}
+use lib.ListN.{length-set}
+use Rattle.shrink.proofs.Zeros.{clear_start, clear_more, clear_end}
 use native.Mathlib.Omega.{arith}
-use borrow.Author.Rules.{rules}
 use Rattle.shrink.proofs.clear.Goals as goal
 
 pub loop-k-init : goal.loop-k-init

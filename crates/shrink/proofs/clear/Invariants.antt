@@ -1,8 +1,6 @@
-use lib.ListN.{length, length-set}
+use lib.ListN.{length}
 use Prim.Native.Nat.{◌-◌}
-use Rattle.shrink.proofs.Zeros.{Cleared, clear_start, clear_more, clear_end}
-use native.Mathlib.Omega.{arith}
-use borrow.Author.Rules.{rules}
+use Rattle.shrink.proofs.Zeros.{Cleared}
 use Rattle.shrink.proofs.clear.Given as goal
 
 abbrev pub invariant-loop-k : goal.invariant-loop-k

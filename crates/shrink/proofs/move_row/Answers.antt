@@ -4,7 +4,6 @@ use mathlib.Core.List.{[], ◌∷◌}
 use lib.Seq.{sets}
 use Rattle.shrink.proofs.Moving.{row_gone, row_stays}
 use native.Mathlib.Omega.{arith}
-use borrow.Author.Rules.{rules}
 use Rattle.shrink.proofs.move_row.Goals as goal
 
 pub returns-then-row_leaves : goal.returns-then-row_leaves

@@ -1,13 +1,9 @@
 -- What has moved, with what is left to move, is the whole moved up (`turn`).
-use mathlib.Core.Path.{◌≡◌, sym, ◌∙◌}
-use mathlib.Core.List.{◌++◌}
-use Prim.Native.Nat.{◌+◌, ◌-◌, ◌≤◌}
-use lib.ListN.{length, take, drop}
+use mathlib.Core.Path.{sym, ◌∙◌}
 use lib.Seq.{length-sets}
-use Rattle.shrink.specs.Flat.{after, row_from}
+use Rattle.shrink.specs.Flat.{row_from}
 use Rattle.shrink.proofs.Moving.{turn, ended, row_short}
 use native.Mathlib.Omega.{arith}
-use borrow.Author.Rules.{rules}
 use Rattle.shrink.proofs.move_up.Goals as goal
 
 pub loop-t-preserved : goal.loop-t-preserved

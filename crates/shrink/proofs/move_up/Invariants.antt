@@ -1,12 +1,8 @@
-use mathlib.Core.Path.{◌≡◌, sym, ◌∙◌}
+use mathlib.Core.Path.{◌≡◌}
 use mathlib.Core.List.{◌++◌}
-use Prim.Native.Nat.{◌+◌, ◌-◌, ◌≤◌}
+use Prim.Native.Nat.{◌-◌, ◌≤◌}
 use lib.ListN.{length, take, drop}
-use lib.Seq.{length-sets}
-use Rattle.shrink.specs.Flat.{after, row_from}
-use Rattle.shrink.proofs.Moving.{turn, ended, row_short}
-use native.Mathlib.Omega.{arith}
-use borrow.Author.Rules.{rules}
+use Rattle.shrink.specs.Flat.{after}
 use Rattle.shrink.proofs.move_up.Given as goal
 
 abbrev pub invariant-loop-t : goal.invariant-loop-t

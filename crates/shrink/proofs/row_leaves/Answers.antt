@@ -1,6 +1,5 @@
 -- Both tests by `holds`.
 use mathlib.Core.Path.{refl, sym, ◌∙◌}
-use borrow.Author.Rules.{rules}
 use Rattle.shrink.proofs.row_leaves.Goals as goal
 
 pub returns-then-holds : goal.returns-then-holds

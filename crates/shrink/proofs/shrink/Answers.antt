@@ -1,6 +1,5 @@
 -- What stands is as long as what stays, so zeros fill the rest.
 use Rattle.shrink.proofs.Zeros.{shrunk}
-use borrow.Author.Rules.{rules}
 use Rattle.shrink.proofs.shrink.Goals as goal
 
 pub returns : goal.returns

@@ -2,7 +2,6 @@
 use native.Mathlib.Numerals.{towards_suc}
 use lib.ListN.{length-set}
 use native.Mathlib.Omega.{arith}
-use borrow.Author.Rules.{rules}
 use Rattle.shrink.proofs.write_row.Goals as goal
 
 pub bounds-t-j-2 : goal.bounds-t-j-2

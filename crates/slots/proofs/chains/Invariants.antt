@@ -1,9 +1,7 @@
-use mathlib.Core.Path.{◌≡◌, refl}
-use Prim.Native.Nat.{◌-◌, ◌≤◌, ◌<◌}
-use lib.ListN.{length, length-set}
-use Rattle.slots.proofs.Chain.{Filling, fill_none, fill_more, fill_end}
-use native.Mathlib.Omega.{arith}
-use borrow.Author.Rules.{rules}
+use mathlib.Core.Path.{◌≡◌}
+use Prim.Native.Nat.{◌-◌, ◌≤◌}
+use lib.ListN.{length}
+use Rattle.slots.proofs.Chain.{Filling}
 use Rattle.slots.proofs.chains.Given as goal
 
 abbrev pub invariant-loop-i : goal.invariant-loop-i

@@ -1,7 +1,6 @@
 -- `next` meets its contract.
 use mathlib.Core.Path.{sym}
 use Rattle.slots.proofs.Slots.{next_back, next_on}
-use borrow.Author.Rules.{rules}
 use Rattle.slots.proofs.next.Goals as goal
 
 pub returns-then-e-eq2 : goal.returns-then-e-eq2

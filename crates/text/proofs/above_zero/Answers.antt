@@ -2,7 +2,6 @@
 use mathlib.Core.Path.{sym, ◌∙◌, ap, subst}
 use Rattle.text.specs.InnerReading.{Fits63, above_zero}
 use Rattle.text.proofs.Signs.{fits_above, read_above}
-use borrow.Author.Rules.{rules}
 use Rattle.text.proofs.above_zero.Goals as goal
 
 pub overflow_cast-result : goal.overflow_cast-result

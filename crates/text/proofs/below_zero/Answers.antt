@@ -2,7 +2,6 @@
 use mathlib.Core.Path.{sym, ◌∙◌, ap, subst}
 use Rattle.text.specs.InnerReading.{Fits63, below_zero_lem}
 use Rattle.text.proofs.Signs.{fits_above, fits_below, read_below}
-use borrow.Author.Rules.{rules}
 use Rattle.text.proofs.below_zero.Goals as goal
 
 pub overflow_cast-result : goal.overflow_cast-result

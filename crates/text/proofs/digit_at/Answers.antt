@@ -1,7 +1,6 @@
 -- `digit_at` meets its contract.
 use Rattle.text.proofs.Scan.{past_end, another, digit_here}
 use native.Mathlib.Omega.{arith}
-use borrow.Author.Rules.{rules}
 use Rattle.text.proofs.digit_at.Goals as goal
 
 pub returns-then-s-i : goal.returns-then-s-i

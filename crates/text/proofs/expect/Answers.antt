@@ -1,9 +1,6 @@
 -- `expect` meets its contract.
-use Prim.Native.Nat.{◌-◌}
-use lib.ListN.{length}
 use Rattle.text.specs.InnerReading.{Expected}
-use Rattle.text.proofs.Words.{Compared, compare_start, compare_past, compare_other, compare_more, compare_end}
-use borrow.Author.Rules.{rules}
+use Rattle.text.proofs.Words.{compare_start, compare_past, compare_other, compare_more, compare_end}
 use Rattle.text.proofs.expect.Goals as goal
 
 pub loop-i-init : goal.loop-i-init
@@ -11,21 +8,21 @@ loop-i-init c = compare_start c.args.w.now c.args.s.now c.args.from.at
 
 pub returns-then-s-k : goal.returns-then-s-k
 unfolding Expected
-returns-then-s-k c =     let args = c.args in
+returns-then-s-k c = let args = c.args in
     let loop = c.loop-i in
     let loop-test = c.loop-i-test in
     λ r. compare_past args.w.now args.s.now args.from.at loop.k loop.i loop.invariant r loop-test.true c.if-s-k.true
 
 pub returns-then-s-k-2 : goal.returns-then-s-k-2
 unfolding Expected
-returns-then-s-k-2 c =     let args = c.args in
+returns-then-s-k-2 c = let args = c.args in
     let loop = c.loop-i in
     let loop-test = c.loop-i-test in
     let if1 = c.if-s-k in
     λ r. compare_other args.w.now args.s.now args.from.at loop.k loop.i loop.invariant r loop-test.true if1.false c.if-s-k-2.true
 
 pub loop-i-preserved : goal.loop-i-preserved
-loop-i-preserved c =     let args = c.args in
+loop-i-preserved c = let args = c.args in
     let loop = c.loop-i in
     let loop-test = c.loop-i-test in
     let if1 = c.if-s-k in

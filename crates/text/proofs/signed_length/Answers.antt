@@ -10,7 +10,6 @@ use Rattle.text.specs.Decimal.{decimal}
 use Rattle.text.proofs.Signs.{signed_neg, signed_pos}
 use Rattle.text.proofs.Spell.{length_63}
 use native.Mathlib.Omega.{arith}
-use borrow.Author.Rules.{rules}
 use Rattle.text.proofs.signed_length.Goals as goal
 
 pub returns-then-z-lt0 : goal.returns-then-z-lt0

@@ -10,7 +10,6 @@ use Rattle.text.specs.Decimal.{minus, decimal, signed}
 use Rattle.text.proofs.Signs.{signed_neg, signed_pos}
 use Rattle.text.proofs.Spell.{sign_first, sign_none}
 use native.Mathlib.Omega.{arith}
-use borrow.Author.Rules.{rules}
 use Rattle.text.proofs.write_signed.Goals as goal
 
 pub bounds-out-at : goal.bounds-out-at
@@ -30,7 +29,7 @@ write_number-requires-2 c = let e : length (signed c.args.z) ≡ length (decimal
     omega arith
 
 pub returns : goal.returns
-returns c =     let args = c.args in
+returns c = let args = c.args in
     let fits = c.ranges in
     let size = c.size-v in
     let if1 = c.if-z-lt0 in

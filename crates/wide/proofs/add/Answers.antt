@@ -1,6 +1,5 @@
 -- The whole parts and one more fit; with a carry or without, the sum is exact by Parts.
 use native.Mathlib.Omega.{arith}
-use borrow.Author.Rules.{rules}
 use mir.Syntax.{w64}
 use Rattle.ints.proofs.Machine.{constant, fits, kept, plus}
 use Rattle.wide.proofs.Parts.{both, sum_plain, sum_carried}

@@ -1,6 +1,5 @@
 -- The whole parts' difference and one less fit; with one borrowed or not, the difference is exact by Parts.
 use native.Mathlib.Omega.{arith}
-use borrow.Author.Rules.{rules}
 use mir.Syntax.{w64}
 use Rattle.ints.proofs.Machine.{constant, fits, kept, plus}
 use Rattle.wide.proofs.Parts.{apart, difference_plain, difference_borrowed}

@@ -1,5 +1,5 @@
 -- Below zero, one short of the size fits where the size may not.
-use Rattle.std.proofs.Common.{◌-◌, ◌^◌, ◌<◌, pos, negsuc, refl, arith, w32, rules}
+use Rattle.std.proofs.Common.{◌-◌, ◌^◌, ◌<◌, pos, negsuc, refl, arith, w32}
 use mir.ValLaws.{to_z_pos}
 use Rattle.word.specs.Twos.{ReadNarrow, twos}
 use Rattle.word.proofs.Twos.{narrow, none, short_fits, short_kept}
@@ -7,7 +7,7 @@ use Rattle.word.proofs.signed_of.Goals as goal
 
 pub returns-then-w-lt-NARROW : goal.returns-then-w-lt-NARROW
 unfolding ReadNarrow twos
-returns-then-w-lt-NARROW c =     let w = c.args.w in
+returns-then-w-lt-NARROW c = let w = c.args.w in
     let h : w < 2 ^ 31 = omega arith in
     rw (to_z_pos w32 w h) (narrow (pos w) h refl)
 
@@ -20,7 +20,7 @@ overflow_sub-result c = short_fits (18446744073709551615 - c.args.w) (omega arit
 
 pub returns : goal.returns
 unfolding ReadNarrow twos
-returns c =     let w = c.args.w in
+returns c = let w = c.args.w in
     let n = 18446744073709551615 - w in
     let h : n < 2 ^ 31 = omega arith in
     rw (short_kept n h) (narrow (negsuc n) h (omega arith))

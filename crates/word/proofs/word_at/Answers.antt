@@ -1,8 +1,8 @@
 -- A word is its two halves (`halves`).
 use Rattle.word.proofs.Bytes.{halves}
-use Rattle.std.proofs.Common.{arith, rules}
+use Rattle.std.proofs.Common.{arith}
 use Rattle.word.proofs.word_at.Goals as goal
 
 pub returns : goal.returns
-returns c =     let start = c in
+returns c = let start = c in
     omega (arith, halves start.args.b.now start.args.i start.requires)

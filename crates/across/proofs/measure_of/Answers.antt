@@ -1,0 +1,17 @@
+-- By the answer.
+use mathlib.Core.Path.{refl, ap}
+use mathlib.Core.List.{[], ◌∷◌}
+use mir.Syntax.{w64}
+use mir.ValLaws.{to_z-of_z}
+use Rattle.volume.specs.Answer.{told}
+use Rattle.across.proofs.Saying.{said}
+use borrow.Author.Rules.{rules}
+use Rattle.across.proofs.measure_of.Goals as goal
+
+pub returns-in-Figure : goal.returns-in-Figure
+returns-in-Figure c =
+    let f = to_z-of_z w64 c.in-Figure.f (record { sfits = c.known_told-1.given.0.1 }) in
+    said told c.in-Figure.is (record { status = refl; values = ap (λ z. z ∷ []) f })
+
+pub returns-in-Refused : goal.returns-in-Refused
+returns-in-Refused c = said told c.in-Refused.is (record { status = c.number_of.ensures; values = refl })
