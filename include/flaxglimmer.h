@@ -75,9 +75,8 @@ extern "C" {
 #define FLAXGLIMMER_MOST_TEXT 65536
 
 /* How many bytes of stack a call takes at most; a call that has no name here takes FLAXGLIMMER_STACK_OTHER. No proof bounds a stack: these are
- * what c/stack.c measured on Arm, and on x86-64 under the kit's emulator, the calls of log sheets, recovery, jobs, flips and the plain engine on
- * x86-64 alone, on skins, logs and jobs at the limits, with at least an eighth more and rounded up to 16 KiB; tests/bridge measures again and
- * compares.
+ * what c/stack.c measured with the kit before this one, on Arm and on x86-64 or on x86-64 alone, on skins, logs and jobs at the limits, with at
+ * least an eighth more and rounded up to 16 KiB; tests/bridge measures again, on x86-64, and compares.
  * The arrays on the stack have the length of the limits whatever is lent, and no function calls itself but by the digits of a number, and by the
  * nesting of a job, which FLAXGLIMMER_MOST_DEPTH bounds. */
 #define FLAXGLIMMER_STACK_THIN 114688
