@@ -8,6 +8,7 @@ ghost use Rattle.tell.specs.Text.{most_text};
 ghost use Rattle.reply.specs.Outcome.{Answers};
 ghost use Rattle.desk.specs.Input.{Within};
 
+use std::io::Read;
 use tell::Answer;
 
 // One byte more than a sheet may have, so that a longer one shows and the rest of it is not read.
@@ -21,16 +22,15 @@ pub enum Input {
 }
 
 // Reads until the room is full or the input ends.
-fn read_input(room: &mut [u8]) -> Input
+fn read_input<R: Read>(from: &mut R, room: &mut [u8]) -> Input
     ensures { Within result room.new }
 {
     let mut n: usize = 0;
     while n < room.len() {
-        let got = libc::read(0, &mut room[n..]);
-        if got < 0 {
+        let got = from.read(&mut room[n..]);
+        let Ok(more) = got else {
             return Input::Failed;
-        }
-        let more = io::count(got, &room[n..]);
+        };
         if more == 0 {
             return Input::Read(n);
         }
@@ -51,11 +51,12 @@ fn answer(bytes: &[u8], text: &mut [u8]) -> usize
     }
 }
 
-// What goes wrong is said on standard error. A program of this language always ends with status 0.
-fn main() {
+// What goes wrong is said on standard error, and the status is 0 all the same.
+fn main(rt: HostRuntime) {
     let mut room = [0u8; INPUT];
     let mut text = [0u8; reply::MOST_TEXT];
-    let input = read_input(&mut room);
+    let mut stdin = rt.stdin();
+    let input = read_input(&mut stdin, &mut room);
     let Input::Read(n) = input else {
         io::write_all(2, b"desk: standard input cannot be read\n");
         return;

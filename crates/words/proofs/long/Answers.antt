@@ -2,7 +2,6 @@
 use mir.Syntax.{w32, w64}
 use Rattle.ints.proofs.Machine as machine
 use native.Mathlib.Omega.{arith}
-use borrow.Author.Rules.{rules}
 use Rattle.words.proofs.long.Goals as goal
 
 pub overflow_cast-result : goal.overflow_cast-result

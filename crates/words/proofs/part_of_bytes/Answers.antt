@@ -1,7 +1,6 @@
 -- What is no more than the room's length is a part of it.
 use mathlib.Core.Path.{sym}
 use lib.Seq.{length-take-le}
-use borrow.Author.Rules.{rules}
 use Rattle.words.proofs.part_of_bytes.Goals as goal
 
 pub returns : goal.returns

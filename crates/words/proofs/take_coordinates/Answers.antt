@@ -2,7 +2,6 @@
 use mathlib.Core.Path.{sym, ◌∙◌}
 use lib.ListN.{drop}
 use Rattle.words.proofs.Parts.{read_part}
-use borrow.Author.Rules.{rules}
 use Rattle.words.proofs.take_coordinates.Goals as goal
 
 pub returns-then-not-read_coordinates : goal.returns-then-not-read_coordinates
