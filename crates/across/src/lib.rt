@@ -65,7 +65,7 @@ pub struct Exact {
     pub rest: u64,
 }
 
-// What a shift report answers: the status, stand_in, count and squared distance. Does not cross as a struct.
+// What a shift report answers: the status, stand-in, count and squared distance. Does not cross as a struct.
 #[derive(Clone, Copy)]
 pub struct StandIn {
     pub status: u64,

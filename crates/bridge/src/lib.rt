@@ -16,7 +16,7 @@ pub struct Part {
     pub to: u64,
 }
 
-// Where the catch_up_lem part lies. Its length tells: an empty part is the one from 0 to 0, any other the rest of the longer log.
+// Where the catch-up part lies. Its length tells: an empty part is the one from 0 to 0, any other the rest of the longer log.
 fn part_of<'a>(first: &'a [u32], second: &'a [u32]) -> Part
     ensures { PartShown first.entry second.entry result }
 {
@@ -126,7 +126,7 @@ pub extern "C" fn flaxglimmer_exact_sum(
     exact.status
 }
 
-// The shift of a corner by a log that was written over these coordinates: the status, and stand_in, count and squared distance in lent numbers.
+// The shift of a corner by a log that was written over these coordinates: the status, and stand-in, count and squared distance in lent numbers.
 #[unsafe(no_mangle)]
 pub extern "C" fn flaxglimmer_shift(
     corner: u32,

@@ -84,7 +84,7 @@ pub extern "C" fn flaxglimmer_exact_sum(
     bridge::flaxglimmer_exact_sum(table, corners, whole, rest)
 }
 
-// The shift of a corner by a log that was written over these coordinates: the status, and stand_in, count and squared distance in lent numbers.
+// The shift of a corner by a log that was written over these coordinates: the status, and stand-in, count and squared distance in lent numbers.
 #[unsafe(no_mangle)]
 pub extern "C" fn flaxglimmer_shift(
     corner: u32,

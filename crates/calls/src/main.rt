@@ -303,7 +303,7 @@ fn call_limit() -> bool {
     words::answer_two(a.status, a.whole)
 }
 
-// Two lists of which one, or a part of one, is handed back: the ring chooser, and the catch_up_lem part.
+// Two lists of which one, or a part of one, is handed back: the ring chooser, and the catch-up part.
 fn call_pair(catch_up: bool) -> bool {
     let mut ok = true;
     let mut first = words::numbers_room();

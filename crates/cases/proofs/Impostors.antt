@@ -48,7 +48,7 @@ pub contracts_nothing : (u m : List ℕ) → ¬ Thinned NoLimit O_corners O (len
 contracts_nothing u m h = let e = done_count (case_O.1 (Done 0) u m h).0 in omega arith
 
 -- it satisfies demand 3 all the same. What it leaves of O is the first table and no record: each volume shown of that table, and each change
--- from it to itself, is within half a cubic metre of exact, and under a limit of L, any L, each corner lies within k x L of its stand_in
+-- from it to itself, is within half a cubic metre of exact, and under a limit of L, any L, each corner lies within k x L of its stand-in
 pub contracts-nothing-near :
     ((a : Measured) → VolumeReport O_corners O (told a) → Near (sixfold O_corners (rows O)) a)
     × ((a : Measured) → ChangeReport O_corners O O (told a) → Near (sixfold O_corners (rows O) -ℤ sixfold O_corners (rows O)) a)

@@ -1,4 +1,4 @@
--- What the catch_up_lem part hands back of two lent logs.
+-- What the catch-up part hands back of two lent logs.
 use Rattle.std.specs.Prelude.{◌≡◌, ◌≢◌, List, [], ◌++◌, ℕ, ◌+◌, ◌*◌, length}
 use Rattle.std.specs.Borrow.{Bor}
 

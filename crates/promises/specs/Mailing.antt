@@ -103,6 +103,6 @@ pub record LogSheets : Type 0 where
   -- replaying it from the first table does every record, and leaves what thinning left
   pub replays : (o : Order) {xs : List ℤ} {t l : List ℕ} {k : ℕ} {t' l' : List ℕ} → DoneWith o xs t l k t' l' → {n m : ℕ} {log : List ℕ} → Mailed n m (take (room_for k) l') log → {a : Regrown} {r : List ℕ} →
       ReplayedAs (corners xs) t log a r → (regrowths.told a ≡ answers.done (pos k ∷ [])) × (r ≡ t')
-  -- and under an order whose limit reads as L cm every first corner lies within k x L of its stand_in, by the mailed log or a mailed beginning of it
+  -- and under an order whose limit reads as L cm every first corner lies within k x L of its stand-in, by the mailed log or a mailed beginning of it
   pub shifts_within : (d : Length) {L : ℕ} → limit_of d ≡ Whole L → {xs : List ℤ} {t l : List ℕ} {k : ℕ} {t' l' : List ℕ} (w : RunOf (asked (Limit d)) xs t l k t' l') (p q : List Record) → w.log ≡ p ++ q →
       {n m : ℕ} {log : List ℕ} → Mailed n m (take (room_for (length p)) l') log → (v : ℕ) → v < corners xs → (a : Shifted) → ShiftReport xs log v (shifts.told a) → Bounded L a

@@ -121,7 +121,7 @@ pub record Recovery : Type 0 where
   pub keeps : (o : Order) {xs : List ℤ} {t l b : List ℕ} {k j : ℕ} {t' l' : List ℕ} (w : RecoveryOf (asked o) xs t l b k j t' l') (p q : List Record) → w.added ≡ p ++ q →
       (T₁ : List Row) × Taken (Allowed w.bound xs) w.handed p T₁ × KeptAfter (corners xs) (rows t) (records w.kept ++ p) T₁
   -- "demand 3's shift bound ... only for the steps that recovery adds, with stand-ins and counts started afresh at the stage handed over": by the added part of
-  -- the log, or a beginning of it, every corner lies within k x L of its stand_in
+  -- the log, or a beginning of it, every corner lies within k x L of its stand-in
   pub shifts_within : (d : Length) {L : ℕ} → limit_of d ≡ Whole L → {xs : List ℤ} {t l b : List ℕ} {k j : ℕ} {t' l' : List ℕ} (w : RecoveryOf (asked (Limit d)) xs t l b k j t' l') (p q : List Record) → w.added ≡ p ++ q →
       (v : ℕ) → v < corners xs → (a : Shifted) → ShiftReport xs (take (room_for (length p)) (drop (room_for k) l')) v (shifts.told a) → Bounded L a
   -- the volume of each stage that records of a skin lead to is within half a cubic metre of exact, and each change too, whoever wrote them

@@ -84,7 +84,7 @@ pub record DemandThree : Type 0 where
   -- each change too
   pub changes_near : (o : Order) {xs : List ℤ} {t l : List ℕ} {k : ℕ} {t' l' : List ℕ} (w : RunOf (asked o) xs t l k t' l') (p q : List Record) {T₁ T₂ : List Row} →
       Taken (Allowed w.b xs) (rows t) p T₁ → Taken (Allowed w.b xs) (rows t) q T₂ → (a : Measured) → ChangeReport xs (flat T₁) (flat T₂) (volumes.told a) → Near (sixfold xs T₂ -ℤ sixfold xs T₁) a
-  -- under an order whose limit reads as L cm every first corner lies within k x L of its stand_in, for the log or a beginning of it
+  -- under an order whose limit reads as L cm every first corner lies within k x L of its stand-in, for the log or a beginning of it
   pub shifts_within : (d : Length) {L : ℕ} → limit_of d ≡ Whole L → {xs : List ℤ} {t l : List ℕ} {k : ℕ} {t' l' : List ℕ} (w : RunOf (asked (Limit d)) xs t l k t' l') (p q : List Record) → w.log ≡ p ++ q →
       (v : ℕ) → v < corners xs → (a : Shifted) → ShiftReport xs (take (room_for (length p)) l') v (shifts.told a) → Bounded L a
   -- the two volumes that the desk prints of a skin's sheet too

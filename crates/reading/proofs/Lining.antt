@@ -1,6 +1,6 @@
 -- What holds between two lines, and why each way out of the readers is right.
 use mathlib.Core.Path.{◌≡◌, refl, sym, ◌∙◌, ap, subst}
-use mathlib.Core.List.{List, [], ◌∷◌, ◌++◌, append_assoc, map, map-id, map-append}
+use mathlib.Core.List.{List, [], ◌++◌, append_assoc, map, map-id, map-append}
 use Prim.Native.Nat.{ℕ, suc, ◌+◌, ◌-◌, ◌*◌, ◌≤◌, ◌<◌}
 use native.Mathlib.Nat.{mul-le-mul, le_refl}
 use native.Mathlib.Omega.{arith}

@@ -83,7 +83,7 @@ module _ {P : ℕ → ℕ → Type 0} (xs : List ℤ) (L : ℕ) (within : (a b :
 
 -- ---- stand-ins in use
 
--- each corner in use before the steps has its stand_in in use after them
+-- each corner in use before the steps has its stand-in in use after them
 pub stand_in_used : {n : ℕ} {T T' : List Row} (l : List Record) → Stage n T → Replayed T l T' → (v : ℕ) → Used T v → Used T' (stand_in v l)
 unfolding stand_in
 stand_in_used [] s (no_step e) v u = rw e at u
@@ -122,7 +122,7 @@ module _ {n : ℕ} {T : List Row} {xs : List ℤ} (s : Stage n T) (three : lengt
   fit : ShiftFits xs (log_of l)
   fit = let k = log_length l in record { coordinates = record { threes = omega arith; count = rw many (stage_corners s) }; whole = omega arith }
 
-  -- no shift is refused there, and the answer is stand_in, count and squared distance
+  -- no shift is refused there, and the answer is stand-in, count and squared distance
   pub shift_there : ShiftReport xs (log_of l) v (told (StandIn (record { 0 = stand_in v l }) (moves v l) (squared_distance_lem xs v (stand_in v l))))
   shift_there =
       let c = many in

@@ -1,4 +1,4 @@
--- What the call answers, from its verdict: a stand_in is a corner below the count, so its distance is there.
+-- What the call answers, from its verdict: a stand-in is a corner below the count, so its distance is there.
 use mathlib.Core.Path.{◌≡◌, refl, ◌∙◌, ap}
 use mathlib.Core.List.Memᴰ
 use mathlib.Core.List.{List, [], ◌∷◌}
@@ -24,7 +24,7 @@ use Rattle.standin.proofs.Following.{moved_on, stayed}
 rest_below : {n : ℕ} {k : Record} {l : List Record} → BelowIn n (k ∷ l) → BelowIn n l
 rest_below b = record { kept = λ m. b.kept (Memᴰ.tail m); removed = λ m. b.removed (Memᴰ.tail m) }
 
--- a stand_in is below the count
+-- a stand-in is below the count
 pub stand_in_below : {n : ℕ} (v : ℕ) (l : List Record) → v < n → BelowIn n l → stand_in v l < n
 unfolding stand_in
 stand_in_below v [] h b = h
@@ -35,7 +35,7 @@ stand_in_below {n} v (k ∷ l) h b = go (ℕ_discrete v k.removed) (λ w i. stan
     go (no ne) rec = rw (stayed k l ne).0 (rec v h)
 
 module _ {xs : List ℤ} {log : List ℕ} {v : ℕ} where
-  -- a corner below the count is in the coordinates, and so is the stand_in
+  -- a corner below the count is in the coordinates, and so is the stand-in
   pub asked_has : Clear xs log v → Has xs v
   asked_has c = let t = c.fits.coordinates.threes in let h = c.asked in omega arith
 

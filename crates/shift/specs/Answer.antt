@@ -5,7 +5,7 @@ use Rattle.shift.specs.declared.Shifted.{Shifted}
 use Rattle.shift.specs.declared.Shifted.TheVariants.{StandIn, Refused}
 
 abbrev pub told : Shifted → Told
--- 0, stand_in, count and squared distance
+-- 0, stand-in, count and squared distance
 told (StandIn v k d) = done (pos v.0 ∷ pos k ∷ pos d ∷ [])
 -- the refusal's number
 told (Refused r) = refused r

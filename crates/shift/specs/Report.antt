@@ -11,17 +11,17 @@ use Rattle.shift.specs.Answer.{told}
 use Rattle.standin.specs.StandIn.{stand_in, moves}
 use Rattle.shift.specs.Order.{shift_refusals}
 
--- the shift report gives stand_in, count and squared distance
+-- the shift report gives stand-in, count and squared distance
 unfoldable pub shift_of : List ℤ → List ℕ → ℕ → List ℤ
 shift_of xs log v = pos (stand_in v (records log)) ∷ pos (moves v (records log)) ∷ pos (squared_distance_lem xs v (stand_in v (records log))) ∷ []
 
--- the first of 2, 4 and 5 that holds, and where none does, stand_in, count and squared distance
+-- the first of 2, 4 and 5 that holds, and where none does, stand-in, count and squared distance
 pub record ShiftReport (xs : List ℤ) (log : List ℕ) (v : ℕ) (a : Told) : Type 0 where
   pub verdict : Verdict
   pub first : First (shift_refusals xs log v) verdict
   pub tells : a ≡ outcome verdict (shift_of xs log v)
 
--- the answer tells 0, a stand_in, a count k and a squared distance, which is at most k x k x L x L
+-- the answer tells 0, a stand-in, a count k and a squared distance, which is at most k x k x L x L
 pub record Bounded (L : ℕ) (a : Shifted) : Type 0 where
   pub corner : ℕ
   pub k : ℕ

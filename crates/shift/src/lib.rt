@@ -11,7 +11,7 @@ ghost use Rattle.shift.specs.Report.{ShiftReport};
 use record::Corner;
 use refusal::{Refusal, Verdict};
 
-// What the shift report answers: stand_in, count and squared distance, or the first refusal that holds.
+// What the shift report answers: stand-in, count and squared distance, or the first refusal that holds.
 #[derive(Clone, Copy)]
 pub enum Shifted {
     StandIn(Corner, usize, u64),

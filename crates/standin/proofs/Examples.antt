@@ -26,7 +26,7 @@ untouched : (stand_in 2 log ≡ 2) × (moves 2 log ≡ 0)
 unfolding log step counted stand_in moves replace ℕ_discrete
 untouched = (refl, refl)
 
--- where kept and removed are both the stand_in, it stays and counts one
+-- where kept and removed are both the stand-in, it stays and counts one
 same : (stand_in 5 (step 5 5 ∷ []) ≡ 5) × (moves 5 (step 5 5 ∷ []) ≡ 1)
 unfolding step counted stand_in moves replace ℕ_discrete
 same = (refl, refl)

@@ -57,7 +57,7 @@ module _ {log : List ℕ} {v : ℕ} where
   follow_start = record { inside = omega arith; few = omega arith; place = refl; count = omega arith }
 
   module _ {at moved j : ℕ} (f : Following log v at moved j) where
-    -- one record more, which moves the stand_in or does not
+    -- one record more, which moves the stand-in or does not
     pub follow_moved : j < length log / width → {e : Contracted} → IsContracted (record_at log (width * j)) e → e.removed.0 ≡ at → Following log v e.kept.0 (moved + 1) (j + 1)
     follow_moved h {e} is here =
         let r = records_from log j h in

@@ -14,7 +14,7 @@ pub struct Followed {
     pub count: usize,
 }
 
-// Inner: the stand_in of a corner after the records of a log, and its count.
+// Inner: the stand-in of a corner after the records of a log, and its count.
 pub fn follow(log: &[u32], corner: u32) -> Followed
     ensures { (result.corner.0 ≡ stand_in corner (records log.now)) × (result.count ≡ moves corner (records log.now)) }
 {

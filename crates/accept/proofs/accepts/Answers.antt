@@ -1,11 +1,9 @@
 -- `accepts` meets its contract: each part of the local rule is tested, in turn.
-use borrow.Author.Tests.{not-true, not-false}
 use Rattle.record.specs.Meant.{meant}
 use Rattle.slots.proofs.Slots.{under_more}
 use Rattle.slots.proofs.Staged.{table_whole, table_under}
 use Rattle.accept.proofs.Rule.{out_of_bounds, removed_used, no_such_rows, not_two_near, all_holds}
 use native.Mathlib.Omega.{arith}
-use borrow.Author.Rules.{rules}
 use Rattle.accept.proofs.accepts.Goals as goal
 
 pub note_round-requires : goal.note_round-requires

@@ -1,7 +1,6 @@
 -- `in_bounds` meets its contract.
 use Rattle.refusal.proofs.Tells.{tells_true, tells_false}
 use native.Mathlib.Omega.{arith}
-use borrow.Author.Rules.{rules}
 use Rattle.accept.proofs.in_bounds.Goals as goal
 
 pub returns-then-r : goal.returns-then-r

@@ -1,15 +1,8 @@
 -- `uses` meets its contract.
-use mathlib.Core.Logic.{◌≢◌, ⊎_elim}
-use Prim.Native.Nat.{ℕ, ◌-◌, ◌≤◌, ◌<◌}
 use borrow.Author.Count.{below_more}
-use lib.ListN.{length, get_or}
-use Rattle.surface.specs.Rows.{rows}
-use Rattle.surface.specs.Table.{Used}
-use Rattle.refusal.specs.InnerTells.{Tells}
 use Rattle.refusal.proofs.Tells.{tells_true, tells_false}
 use Rattle.accept.proofs.Holding.{held_used, not_held}
 use native.Mathlib.Omega.{arith}
-use borrow.Author.Rules.{rules}
 use Rattle.accept.proofs.uses.Goals.{then-t-e, else-t-e}
 use Rattle.accept.proofs.uses.Goals as goal
 
@@ -26,7 +19,7 @@ loop-e-preserved c =
     let told = loop.invariant.1 in
     let h = loop-test.true in
     elim if1.branch [
-        then-t-e w ↦ rw w.found-is (omega arith, tells_true (held_used args.t.now pre args.v.0 loop.e h w.if-t-e.true))
+      | then-t-e w ↦ rw w.found-is (omega arith, tells_true (held_used args.t.now pre args.v.0 loop.e h w.if-t-e.true))
       | else-t-e w ↦ rw w.found-is (omega arith, record { when_true = told.when_true; when_false = λ z. below_more _ loop.e (told.when_false z) w.if-t-e.false })
     ]
 

@@ -1,14 +1,9 @@
-use mathlib.Core.Logic.{◌≢◌, ⊎_elim}
+use mathlib.Core.Logic.{◌≢◌}
 use Prim.Native.Nat.{ℕ, ◌-◌, ◌≤◌, ◌<◌}
-use borrow.Author.Count.{below_more}
 use lib.ListN.{length, get_or}
 use Rattle.surface.specs.Rows.{rows}
 use Rattle.surface.specs.Table.{Used}
 use Rattle.refusal.specs.InnerTells.{Tells}
-use Rattle.refusal.proofs.Tells.{tells_true, tells_false}
-use Rattle.accept.proofs.Holding.{held_used, not_held}
-use native.Mathlib.Omega.{arith}
-use borrow.Author.Rules.{rules}
 use Rattle.accept.proofs.uses.Given as goal
 
 abbrev pub invariant-loop-e : goal.invariant-loop-e

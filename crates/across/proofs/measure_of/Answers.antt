@@ -10,7 +10,7 @@ use Rattle.across.proofs.measure_of.Goals as goal
 
 pub returns-in-Figure : goal.returns-in-Figure
 returns-in-Figure c =
-    let f = to_z-of_z w64 c.in-Figure.f (record { sfits = c.known_told-1.given.0.1 }) in
+    let f = to_z-of_z w64 c.in-Figure.f (search rules) in
     said told c.in-Figure.is (record { status = refl; values = ap (λ z. z ∷ []) f })
 
 pub returns-in-Refused : goal.returns-in-Refused

@@ -10,7 +10,7 @@ use Rattle.across.proofs.measure_of_job.Goals as goal
 
 pub returns-in-Net : goal.returns-in-Net
 returns-in-Net c =
-    let f = to_z-of_z w64 c.in-Net.f (record { sfits = c.known_told-1.given.0.1 }) in
+    let f = to_z-of_z w64 c.in-Net.f (search rules) in
     said told c.in-Net.is (record { status = refl; values = ap (λ z. z ∷ []) f })
 
 pub returns-in-Refused : goal.returns-in-Refused

@@ -1,14 +1,8 @@
-use mathlib.Core.Path.{◌≡◌, refl, sym, ◌∙◌}
+use mathlib.Core.Path.{◌≡◌}
 use Prim.Native.Nat.{◌-◌, ◌≤◌}
 use lib.ListN.{length, take}
 use Rattle.around.specs.InnerRing.{next_to}
 use Rattle.around.specs.InnerMeeting.{Met}
-use Rattle.around.proofs.Nears.{next_to_length, next_to_at}
-use Rattle.around.proofs.Meeting.{place_inside, corner_below, met_none, met_more, met_end}
-use native.Mathlib.Omega.{arith}
-use borrow.Author.Rules.{rules}
-use Rattle.around.proofs.waits.Reads as waits-reads
-use Rattle.waiting.proofs.put.Reads as put_reads
 use Rattle.around.proofs.meet.Given as goal
 
 abbrev pub invariant-loop-i : goal.invariant-loop-i

@@ -1,12 +1,8 @@
 -- The walk (`Walking`) goes along the list of the first table.
-use mathlib.Core.Path.{◌≡◌, refl, ◌∙◌}
-use Prim.Native.Nat.{◌+◌, ◌-◌}
-use lib.ListN.{length, get_or, length-set}
-use Rattle.around.proofs.Walking.{Walking, walk_start, walk_places, place_held, place_small, list_short, ring_room, number_most, walk_more, walk_end, few_marked, same_there}
+use mathlib.Core.Path.{refl, ◌∙◌}
+use lib.ListN.{get_or, length-set}
+use Rattle.around.proofs.Walking.{walk_start, walk_places, place_held, place_small, list_short, ring_room, number_most, walk_more, walk_end, few_marked, same_there}
 use native.Mathlib.Omega.{arith}
-use borrow.Author.Rules.{rules}
-use Rattle.around.proofs.differ.Reads as differ-reads
-use Rattle.around.proofs.same.Reads as same_Reads
 use Rattle.around.proofs.walk.Goals as goal
 
 pub bounds-start-v : goal.bounds-start-v

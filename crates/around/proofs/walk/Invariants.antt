@@ -1,11 +1,7 @@
-use mathlib.Core.Path.{◌≡◌, refl, ◌∙◌}
+use mathlib.Core.Path.{◌≡◌}
 use Prim.Native.Nat.{◌+◌, ◌-◌}
-use lib.ListN.{length, get_or, length-set}
-use Rattle.around.proofs.Walking.{Walking, walk_start, walk_places, place_held, place_small, list_short, ring_room, number_most, walk_more, walk_end, few_marked, same_there}
-use native.Mathlib.Omega.{arith}
-use borrow.Author.Rules.{rules}
-use Rattle.around.proofs.differ.Reads as differ-reads
-use Rattle.around.proofs.same.Reads as same_Reads
+use lib.ListN.{length, get_or}
+use Rattle.around.proofs.Walking.{Walking}
 use Rattle.around.proofs.walk.Given as goal
 
 abbrev pub invariant-loop-i : goal.invariant-loop-i

@@ -1,8 +1,7 @@
 -- `above` meets its contract.
 use Prim.Native.Nat.{◌-◌}
-use Rattle.chart.proofs.Looking.{Walked, walk_none, walk_more, walk_end}
+use Rattle.chart.proofs.Looking.{walk_none, walk_more, walk_end}
 use native.Mathlib.Omega.{arith}
-use borrow.Author.Rules.{rules}
 use Rattle.chart.proofs.above.Goals as goal
 
 pub loop-y-init : goal.loop-y-init

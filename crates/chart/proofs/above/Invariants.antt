@@ -1,7 +1,4 @@
-use Prim.Native.Nat.{◌-◌}
-use Rattle.chart.proofs.Looking.{Walked, walk_none, walk_more, walk_end}
-use native.Mathlib.Omega.{arith}
-use borrow.Author.Rules.{rules}
+use Rattle.chart.proofs.Looking.{Walked}
 use Rattle.chart.proofs.above.Given as goal
 
 abbrev pub invariant-loop-y : goal.invariant-loop-y

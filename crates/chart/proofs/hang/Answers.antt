@@ -1,7 +1,6 @@
 -- `hang` meets its contract.
 use Rattle.chart.proofs.Linking.{head_hung, link_hung}
 use native.Mathlib.Omega.{arith}
-use borrow.Author.Rules.{rules}
 use Rattle.chart.proofs.hang.Goals as goal
 
 pub returns-then-x-eq0 : goal.returns-then-x-eq0

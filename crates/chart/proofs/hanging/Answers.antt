@@ -1,7 +1,6 @@
 -- `hanging` meets its contract.
 use Rattle.chart.proofs.Linking.{head_after, link_after}
 use native.Mathlib.Omega.{arith}
-use borrow.Author.Rules.{rules}
 use Rattle.chart.proofs.hanging.Goals as goal
 
 pub returns-then-x-eq0 : goal.returns-then-x-eq0

@@ -7,7 +7,6 @@ use Rattle.chart.specs.Links.{hung_last, hung_prev}
 use mathlib.Core.Path.{◌∙◌}
 use Rattle.chart.proofs.Linking.{link_upto, number_set, number_same}
 use native.Mathlib.Omega.{arith}
-use borrow.Author.Rules.{rules}
 use Rattle.chart.proofs.set_slot.Goals as goal
 
 pub overflow_cast-from : goal.overflow_cast-from

@@ -2,9 +2,8 @@
 use Prim.Native.Nat.{◌-◌, ◌<◌}
 use lib.ListN.{length}
 use Rattle.slots.proofs.Slots.{next_inside}
-use Rattle.chart.proofs.Looking.{Looked, look_none, look_more, look_found, look_end, look_past}
+use Rattle.chart.proofs.Looking.{look_none, look_more, look_found, look_end, look_past}
 use native.Mathlib.Omega.{arith}
-use borrow.Author.Rules.{rules}
 use Rattle.chart.proofs.slot_of.Goals as goal
 
 pub returns-then-last-corner : goal.returns-then-last-corner

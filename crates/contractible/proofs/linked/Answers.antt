@@ -2,7 +2,6 @@
 use mathlib.Core.Path.{sym}
 use lib.Seq.{length-take-le}
 use Rattle.neighbours.proofs.Marking.{neighbours_corners}
-use borrow.Author.Rules.{rules}
 use Rattle.contractible.proofs.linked.Goals as goal
 
 pub slice_bounds-mark-end-2 : goal.slice_bounds-mark-end-2

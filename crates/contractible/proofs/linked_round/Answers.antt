@@ -1,6 +1,5 @@
 -- `linked_round` meets its contract.
 use native.Mathlib.Omega.{arith}
-use borrow.Author.Rules.{rules}
 use Rattle.refusal.proofs.Tells.{tells_false}
 use Rattle.link.proofs.Condition.{not_beside}
 use Rattle.contractible.proofs.linked_round.Goals as goal

@@ -3,7 +3,6 @@ use mir.Syntax.{w32}
 use mir.ValLaws.{to_z-of_z}
 use Rattle.refusal.proofs.Tells.{tells_true}
 use Rattle.coordinates.proofs.Range.{far_below, above_or_in}
-use borrow.Author.Rules.{rules}
 use Rattle.coordinates.proofs.far.Goals as goal
 
 pub returns-then-x : goal.returns-then-x

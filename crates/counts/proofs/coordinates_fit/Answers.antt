@@ -1,6 +1,5 @@
 -- `coordinates_fit` meets its contract.
 use Rattle.refusal.proofs.Tells.{tells_false}
-use borrow.Author.Rules.{rules}
 use Rattle.counts.proofs.coordinates_fit.Goals as goal
 
 pub returns-then-xs-ne0 : goal.returns-then-xs-ne0

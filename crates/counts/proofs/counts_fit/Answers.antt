@@ -1,7 +1,5 @@
 -- `counts_fit` meets its contract.
-use borrow.Author.Tests.{not-true, not-false}
 use Rattle.refusal.proofs.Tells.{tells_false}
-use borrow.Author.Rules.{rules}
 use Rattle.counts.proofs.counts_fit.Goals as goal
 
 pub returns-then-not-corners_fit : goal.returns-then-not-corners_fit

@@ -1,7 +1,5 @@
 -- `counts_fit_at` meets its contract.
-use borrow.Author.Tests.{not-true, not-false}
 use Rattle.refusal.proofs.Tells.{tells_false}
-use borrow.Author.Rules.{rules}
 use Rattle.counts.proofs.counts_fit_at.Goals as goal
 
 pub returns-then-not-table_fits : goal.returns-then-not-table_fits

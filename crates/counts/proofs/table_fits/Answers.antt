@@ -6,7 +6,6 @@ use Rattle.surface.specs.Rows.{rows}
 use Rattle.surface.proofs.Flat.{rows_length}
 use Rattle.refusal.proofs.Tells.{tells_false}
 use native.Mathlib.Omega.{arith}
-use borrow.Author.Rules.{rules}
 use Rattle.counts.proofs.table_fits.Goals as goal
 
 pub returns-then-t-ne0 : goal.returns-then-t-ne0

@@ -1,14 +1,11 @@
 -- `edge_twice` meets its contract.
 use mathlib.Core.Path.{◌≡◌, refl, sym, ◌∙◌}
-use Prim.Native.Nat.{◌-◌, ◌≤◌}
-use lib.ListN.{length}
 use Rattle.surface.specs.Limits.{most_corners}
 use Rattle.slots.proofs.Marks.{no_mark}
 use Rattle.slots.proofs.Slots.{under_more}
 use Rattle.refusal.proofs.Tells.{tells_true, tells_false}
-use Rattle.edges.proofs.Sweep.{Sweeping, sweep_none, sweep_more, sweep_once}
+use Rattle.edges.proofs.Sweep.{sweep_none, sweep_more, sweep_once}
 use native.Mathlib.Omega.{arith}
-use borrow.Author.Rules.{rules}
 use Rattle.edges.proofs.edge_twice.Goals as goal
 
 pub loop-u-init : goal.loop-u-init

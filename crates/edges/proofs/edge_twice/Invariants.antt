@@ -1,13 +1,8 @@
-use mathlib.Core.Path.{◌≡◌, refl, sym, ◌∙◌}
+use mathlib.Core.Path.{◌≡◌}
 use Prim.Native.Nat.{◌-◌, ◌≤◌}
 use lib.ListN.{length}
 use Rattle.surface.specs.Limits.{most_corners}
-use Rattle.slots.proofs.Marks.{no_mark}
-use Rattle.slots.proofs.Slots.{under_more}
-use Rattle.refusal.proofs.Tells.{tells_true, tells_false}
-use Rattle.edges.proofs.Sweep.{Sweeping, sweep_none, sweep_more, sweep_once}
-use native.Mathlib.Omega.{arith}
-use borrow.Author.Rules.{rules}
+use Rattle.edges.proofs.Sweep.{Sweeping}
 use Rattle.edges.proofs.edge_twice.Given as goal
 
 abbrev pub invariant-loop-u : goal.invariant-loop-u

@@ -1,13 +1,12 @@
 -- `enter` meets its contract.
-use mathlib.Core.Path.{◌≡◌, refl}
+use mathlib.Core.Path.{refl}
 use Prim.Native.Nat.{◌-◌}
 use lib.ListN.{length, length-set}
 use Rattle.slots.specs.Slot.{next_slot}
 use Rattle.slots.proofs.Slots.{next_inside}
 use Rattle.refusal.proofs.Tells.{tells_true, tells_false}
-use Rattle.edges.proofs.Sweep.{Entering, enter_start, enter_twice, enter_more, enter_end}
+use Rattle.edges.proofs.Sweep.{enter_start, enter_twice, enter_more, enter_end}
 use native.Mathlib.Omega.{arith}
-use borrow.Author.Rules.{rules}
 use Rattle.edges.proofs.enter.Goals as goal
 
 pub loop-x-init : goal.loop-x-init

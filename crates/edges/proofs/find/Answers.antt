@@ -1,12 +1,11 @@
 -- `find` meets its contract.
-use mathlib.Core.Path.{◌≡◌, refl, ◌∙◌, ap}
+use mathlib.Core.Path.{refl, ◌∙◌, ap}
 use Prim.Native.Nat.{◌-◌}
 use lib.ListN.{length, length-set}
 use Rattle.slots.specs.Slot.{next_slot}
 use Rattle.slots.proofs.Slots.{next_inside}
-use Rattle.edges.proofs.Sweep.{Finding, find_start, find_more, find_end, picked_found}
+use Rattle.edges.proofs.Sweep.{find_start, find_more, find_end, picked_found}
 use native.Mathlib.Omega.{arith}
-use borrow.Author.Rules.{rules}
 use Rattle.edges.proofs.find.Goals as goal
 
 pub loop-x-init : goal.loop-x-init

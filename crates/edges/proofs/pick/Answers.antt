@@ -1,8 +1,6 @@
 -- `pick` meets its contract.
 use mathlib.Core.Path.{refl}
-use Prim.Native.Nat.{◌-◌}
 use native.Mathlib.Omega.{arith}
-use borrow.Author.Rules.{rules}
 use Rattle.edges.proofs.pick.Goals as goal
 
 pub returns-then-y-eq0 : goal.returns-then-y-eq0

@@ -1,15 +1,10 @@
 -- After each step the table and the log are what the steps so far have made (`Going`); rows fall by two. The scratch is blank before each step.
-use mathlib.Core.Path.{◌≡◌, refl, sym}
-use lib.ListN.{length}
+use mathlib.Core.Path.{refl, sym}
 use lib.Seq.{length-take-le}
-use Rattle.surface.specs.Limits.{most_corners}
-use Rattle.neighbours.specs.Around.{Unmarked}
 use Rattle.neighbours.proofs.Marking.{unmarked_new}
-use Rattle.least.specs.Limited.{Allowed}
 use Rattle.step.proofs.Front.{rows_four}
-use Rattle.engine.proofs.Going.{Going, go_start, go_on, go_end, room_left}
+use Rattle.engine.proofs.Going.{go_start, go_on, go_end, room_left}
 use native.Mathlib.Omega.{arith}
-use borrow.Author.Rules.{rules}
 use mathlib.Core.Path.{◌∙◌}
 use Rattle.engine.proofs.go_on.Goals as goal
 

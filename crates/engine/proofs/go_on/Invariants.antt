@@ -1,14 +1,9 @@
-use mathlib.Core.Path.{◌≡◌, refl, sym}
+use mathlib.Core.Path.{◌≡◌}
 use lib.ListN.{length}
-use lib.Seq.{length-take-le}
 use Rattle.surface.specs.Limits.{most_corners}
 use Rattle.neighbours.specs.Around.{Unmarked}
-use Rattle.neighbours.proofs.Marking.{unmarked_new}
 use Rattle.least.specs.Limited.{Allowed}
-use Rattle.step.proofs.Front.{rows_four}
-use Rattle.engine.proofs.Going.{Going, go_start, go_on, go_end, room_left}
-use native.Mathlib.Omega.{arith}
-use borrow.Author.Rules.{rules}
+use Rattle.engine.proofs.Going.{Going}
 use Rattle.engine.proofs.go_on.Given as goal
 
 abbrev pub invariant-loop-kept : goal.invariant-loop-kept

@@ -4,7 +4,6 @@ use Rattle.slots.proofs.Marks.{no_mark}
 use Rattle.slots.proofs.Slots.{under_more}
 use Rattle.slots.proofs.Staged.{table_whole, table_under}
 use native.Mathlib.Omega.{arith}
-use borrow.Author.Rules.{rules}
 use Rattle.engine.proofs.next_edge.Goals as goal
 
 pub chains-requires : goal.chains-requires

@@ -1,6 +1,5 @@
 -- The later exact sum less the earlier, rounded once.
 use mathlib.Core.Path.{◌∙◌, ap}
-use borrow.Author.Rules.{rules}
 use mir.Syntax.{w64}
 use mir.ValLaws.{to_z-of_z}
 use Rattle.wide.specs.Rounding.{figure}

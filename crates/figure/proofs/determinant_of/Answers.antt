@@ -6,7 +6,6 @@ use Rattle.ints.proofs.Machine.{Known, known, told, tells, fits, kept, times, pl
 use Rattle.figure.specs.Sum.{determinant}
 use Rattle.figure.specs.Inner.{minor_bound, row_bound}
 use native.Mathlib.Omega.{arith}
-use borrow.Author.Rules.{rules}
 use Rattle.figure.proofs.determinant_of.Goals.{After-minor_of, After-minor_of-2, After-minor_of-3}
 use Rattle.figure.proofs.determinant_of.Goals as goal
 

@@ -1,5 +1,4 @@
 -- The sum, entered as whole part and rest.
-use borrow.Author.Rules.{rules}
 use mir.Syntax.{w64}
 use Rattle.ints.proofs.Machine.{told}
 use Rattle.figure.proofs.exact_sum_of.Goals as goal

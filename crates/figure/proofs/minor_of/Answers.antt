@@ -1,7 +1,6 @@
 -- The two products and their difference, each as the machine has it, named once.
 use Prim.Native.Nat.{◌*◌}
 use native.Mathlib.Omega.{arith}
-use borrow.Author.Rules.{rules}
 use mir.Syntax.{w64}
 use Rattle.corners.specs.Limits.{most_coordinate}
 use Rattle.ints.proofs.Machine.{Known, known, told, tells, fits, kept, times, less}

@@ -1,14 +1,12 @@
 -- The loop keeps `Summing` of Turn; the sum with one row more, as the machine has it, is named once.
 use mathlib.Core.Path.{refl}
-use Prim.Native.Nat.{◌+◌, ◌-◌}
+use Prim.Native.Nat.{◌+◌}
 use native.Mathlib.Omega.{arith}
-use borrow.Author.Rules.{rules}
-use lib.ListN.{length}
 use mir.Syntax.{w64}
 use mir.Val.{to_z}
 use Rattle.ints.proofs.Machine.{Known, known, told, fits, kept, plus}
 use Rattle.figure.specs.Inner.{row_bound, sum_bound}
-use Rattle.figure.proofs.Turn.{Summing, sum_start, sum_corners, sum_more, sum_end}
+use Rattle.figure.proofs.Turn.{sum_start, sum_corners, sum_more, sum_end}
 use Rattle.figure.proofs.sixfold_sum.Goals as goal
 
 pub loop-i-init : goal.loop-i-init

@@ -1,9 +1,5 @@
 -- `read_flip` meets its contract.
 use Rattle.fliplog.proofs.Logging.{flip_there}
-use borrow.Author.Rules.{rules}
-use Rattle.fliplog.proofs.read_flip.Reads as reads
-use Rattle.fliplog.proofs.read_flip.Lts as lts
-use Rattle.fliplog.proofs.read_row.Reads as read-row-reads
 use Rattle.fliplog.proofs.read_flip.Goals as goal
 
 pub returns : goal.returns

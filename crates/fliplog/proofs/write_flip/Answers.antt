@@ -4,10 +4,6 @@ use mathlib.Core.List.{List, [], ◌∷◌}
 use Prim.Native.Nat.{ℕ, ◌+◌}
 use native.Mathlib.Numerals.{towards_suc}
 use lib.Seq.{sets}
-use borrow.Author.Rules.{rules}
-use Rattle.fliplog.proofs.write_flip.Reads as reads
-use Rattle.fliplog.proofs.write_flip.Lts as lts
-use Rattle.record.proofs.write_leaving.Reads as write-leaving-reads
 use Rattle.fliplog.proofs.write_flip.Goals as goal
 
 pub returns : goal.returns

@@ -8,7 +8,6 @@ use Rattle.record.specs.Meant.{meant}
 use Rattle.slots.proofs.Marks.{no_mark}
 use Rattle.grow.proofs.Growing.{not_grown, walkable, earlier_inside, later_inside, grown}
 use native.Mathlib.Omega.{arith}
-use borrow.Author.Rules.{rules}
 use Rattle.grow.proofs.grow.Goals as goal
 
 pub slice_bounds-accepts-end-2 : goal.slice_bounds-accepts-end-2

@@ -1,13 +1,10 @@
 -- `rename` meets its contract: the walk from y forward to x.
 use mathlib.Core.Path.{◌∙◌, ap}
-use lib.ListN.{length, length-set}
-use Rattle.surface.specs.Rows.{rows}
-use Rattle.growth.proofs.Walked.{fan}
+use lib.ListN.{length-set}
 use Rattle.slots.specs.Slot.{next_slot}
 use Rattle.slots.proofs.Staged.{table_whole}
-use Rattle.grow.proofs.Walking.{Walking, walk_start, walk_more, walk_less, walk_end, noted, slot_inside, beside_inside, after_inside, after_there}
+use Rattle.grow.proofs.Walking.{walk_start, walk_more, walk_less, walk_end, noted, slot_inside, beside_inside, after_inside, after_there}
 use native.Mathlib.Omega.{arith}
-use borrow.Author.Rules.{rules}
 use Rattle.grow.proofs.rename.Goals as goal
 
 pub loop-p-init : goal.loop-p-init

@@ -1,12 +1,7 @@
-use mathlib.Core.Path.{◌∙◌, ap}
-use lib.ListN.{length, length-set}
+use lib.ListN.{length}
 use Rattle.surface.specs.Rows.{rows}
 use Rattle.growth.proofs.Walked.{fan}
-use Rattle.slots.specs.Slot.{next_slot}
-use Rattle.slots.proofs.Staged.{table_whole}
-use Rattle.grow.proofs.Walking.{Walking, walk_start, walk_more, walk_less, walk_end, noted, slot_inside, beside_inside, after_inside, after_there}
-use native.Mathlib.Omega.{arith}
-use borrow.Author.Rules.{rules}
+use Rattle.grow.proofs.Walking.{Walking}
 use Rattle.grow.proofs.rename.Given as goal
 
 abbrev pub invariant-loop-p : goal.invariant-loop-p

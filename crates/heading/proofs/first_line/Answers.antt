@@ -3,7 +3,6 @@ use Rattle.lines.specs.Inner.{ReadInto}
 use Rattle.heading.specs.Inner.{ReadFirst}
 use Rattle.heading.proofs.Heading.{both_counts, counts_fit_lem, no_counts}
 use native.Mathlib.Omega.{arith}
-use borrow.Author.Rules.{rules}
 use Rattle.heading.proofs.first_line.Goals as goal
 
 pub number_line-read-requires : goal.number_line-read-requires

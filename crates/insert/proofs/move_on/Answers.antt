@@ -1,8 +1,6 @@
 -- `move_on` meets its contract.
-use Prim.Native.Nat.{◌-◌, ◌≤◌}
-use Rattle.insert.proofs.Moving.{MovedTo, move_none, move_more, move_end}
+use Rattle.insert.proofs.Moving.{move_none, move_more, move_end}
 use native.Mathlib.Omega.{arith}
-use borrow.Author.Rules.{rules}
 use Rattle.insert.proofs.move_on.Goals as goal
 
 pub loop-k-init : goal.loop-k-init

@@ -1,7 +1,5 @@
 use Prim.Native.Nat.{◌-◌, ◌≤◌}
-use Rattle.insert.proofs.Moving.{MovedTo, move_none, move_more, move_end}
-use native.Mathlib.Omega.{arith}
-use borrow.Author.Rules.{rules}
+use Rattle.insert.proofs.Moving.{MovedTo}
 use Rattle.insert.proofs.move_on.Given as goal
 
 abbrev pub invariant-loop-k : goal.invariant-loop-k

@@ -2,7 +2,6 @@
 use lib.ListN.{length-set}
 use Rattle.insert.proofs.Filling.{row_put}
 use native.Mathlib.Omega.{arith}
-use borrow.Author.Rules.{rules}
 use Rattle.insert.proofs.put_row.Goals as goal
 
 pub bounds-room-i-2 : goal.bounds-room-i-2

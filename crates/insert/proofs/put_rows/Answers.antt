@@ -2,7 +2,6 @@
 use Rattle.record.specs.Meant.{meant}
 use Rattle.insert.proofs.Putting.{both_put}
 use native.Mathlib.Omega.{arith}
-use borrow.Author.Rules.{rules}
 use Rattle.insert.proofs.put_rows.Goals as goal
 
 pub returns : goal.returns

@@ -1,7 +1,6 @@
 -- `allowed` meets its contract.
 use Rattle.refusal.proofs.Tells.{tells_true}
 use Rattle.least.proofs.Limiting.{free_allowed, within_at, within_tells}
-use borrow.Author.Rules.{rules}
 use Rattle.least.proofs.allowed.Goals as goal
 
 pub within-requires : goal.within-requires

@@ -1,6 +1,5 @@
 -- `least_at` meets its contract.
 use Rattle.neighbours.proofs.Marking.{neighbours_corners}
-use borrow.Author.Rules.{rules}
 use Rattle.least.proofs.least_at.Goals as goal
 
 pub mark-requires : goal.mark-requires

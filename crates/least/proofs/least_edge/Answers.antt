@@ -1,14 +1,10 @@
 -- `least_edge` meets its contract.
-use mathlib.Core.Path.{◌≡◌, refl, sym, ◌∙◌}
-use Prim.Native.Nat.{◌-◌, ◌≤◌}
-use lib.ListN.{length}
+use mathlib.Core.Path.{refl, sym, ◌∙◌}
 use lib.Seq.{length-take-le}
 use Rattle.surface.specs.Rows.{rows}
-use Rattle.neighbours.specs.Around.{Unmarked}
 use Rattle.least.specs.Limited.{Allowed}
-use Rattle.least.proofs.Corners.{NoneBelow, edge_found, none_found, none_left}
+use Rattle.least.proofs.Corners.{edge_found, none_found, none_left}
 use native.Mathlib.Omega.{arith}
-use borrow.Author.Rules.{rules}
 use Rattle.least.proofs.least_edge.Goals as goal
 
 pub loop-a-init : goal.loop-a-init

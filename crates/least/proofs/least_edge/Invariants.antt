@@ -1,13 +1,10 @@
-use mathlib.Core.Path.{◌≡◌, refl, sym, ◌∙◌}
+use mathlib.Core.Path.{◌≡◌}
 use Prim.Native.Nat.{◌-◌, ◌≤◌}
 use lib.ListN.{length}
-use lib.Seq.{length-take-le}
 use Rattle.surface.specs.Rows.{rows}
 use Rattle.neighbours.specs.Around.{Unmarked}
 use Rattle.least.specs.Limited.{Allowed}
-use Rattle.least.proofs.Corners.{NoneBelow, edge_found, none_found, none_left}
-use native.Mathlib.Omega.{arith}
-use borrow.Author.Rules.{rules}
+use Rattle.least.proofs.Corners.{NoneBelow}
 use Rattle.least.proofs.least_edge.Given as goal
 
 abbrev pub invariant-loop-a : goal.invariant-loop-a

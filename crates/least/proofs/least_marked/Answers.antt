@@ -1,15 +1,8 @@
 -- `least_marked` meets its contract.
-use mathlib.Core.Path.{◌≡◌, refl, ◌∙◌}
-use mathlib.Core.Logic.{⊎_elim}
-use Prim.Native.Nat.{◌-◌}
-use lib.ListN.{length}
-use Rattle.surface.specs.Limits.{most_corners}
-use Rattle.surface.specs.Rows.{rows}
-use Rattle.neighbours.specs.Around.{Unmarked}
+use mathlib.Core.Path.{refl, ◌∙◌}
 use Rattle.neighbours.proofs.Marking.{neighbours_corners, edge_below}
-use Rattle.least.specs.Limited.{Allowed}
 use Rattle.least.proofs.Limiting.{measured_at}
-use Rattle.least.proofs.Rising.{Trying, try_start, try_least, try_more, try_end}
+use Rattle.least.proofs.Rising.{try_start, try_least, try_more, try_end}
 use native.Mathlib.Omega.{arith}
 use Rattle.least.proofs.least_marked.Goals.{then-allowed+else-meets_round, else-allowed}
 use Rattle.least.proofs.least_marked.Goals as goal
@@ -83,7 +76,7 @@ loop-b-preserved c =
     let ring = pre.neighbours.0 in
     let next = c.next_above-b-in-loop-b.ensures in
     elim c.if-allowed.branch [
-        then-allowed+else-meets_round w ↦ rw (w.second-is, w.far-is) (w.meets_round.auto.second ∙ loop.invariant.0, w.meets_round.auto.far ∙ loop.invariant.1, w.meets_round.ensures.unmarked_2, try_more ring loop.invariant.3 b (λ q. (w.meets_round.ensures.tells_edge args.a.0 ring).when_false w.if-meets_round.false q.meets) next)
+      | then-allowed+else-meets_round w ↦ rw (w.second-is, w.far-is) (w.meets_round.auto.second ∙ loop.invariant.0, w.meets_round.auto.far ∙ loop.invariant.1, w.meets_round.ensures.unmarked_2, try_more ring loop.invariant.3 b (λ q. (w.meets_round.ensures.tells_edge args.a.0 ring).when_false w.if-meets_round.false q.meets) next)
       | else-allowed w ↦ rw (w.second-is, w.far-is) (loop.invariant.0, loop.invariant.1, loop.invariant.2, try_more ring loop.invariant.3 b (λ q. allowed.ensures.when_false w.if-allowed.false q.allowed) next)
     ]
 

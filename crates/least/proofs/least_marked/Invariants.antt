@@ -1,15 +1,11 @@
-use mathlib.Core.Path.{◌≡◌, refl, ◌∙◌}
-use mathlib.Core.Logic.{⊎_elim}
+use mathlib.Core.Path.{◌≡◌}
 use Prim.Native.Nat.{◌-◌}
 use lib.ListN.{length}
 use Rattle.surface.specs.Limits.{most_corners}
 use Rattle.surface.specs.Rows.{rows}
 use Rattle.neighbours.specs.Around.{Unmarked}
-use Rattle.neighbours.proofs.Marking.{neighbours_corners, edge_below}
 use Rattle.least.specs.Limited.{Allowed}
-use Rattle.least.proofs.Limiting.{measured_at}
-use Rattle.least.proofs.Rising.{Trying, try_start, try_least, try_more, try_end}
-use native.Mathlib.Omega.{arith}
+use Rattle.least.proofs.Rising.{Trying}
 use Rattle.least.proofs.least_marked.Given as goal
 
 abbrev pub invariant-loop-b : goal.invariant-loop-b

@@ -2,7 +2,6 @@
 use mathlib.Core.List.{List}
 use Prim.Native.Nat.{ℕ}
 use native.Mathlib.Omega.{arith}
-use borrow.Author.Rules.{rules}
 use Rattle.surface.specs.Lists.{Distinct}
 use Rattle.neighbours.specs.Around.{CornerNumbers}
 use Rattle.link.proofs.Laws.{chosen_has}

@@ -1,12 +1,7 @@
 -- `marked_of` meets its contract.
-use mathlib.Core.Logic.{◌≢◌, ⊎_elim}
-use Prim.Native.Nat.{◌-◌, ◌≤◌}
-use lib.ListN.{length, get_or}
-use Rattle.surface.specs.Lists.{Exactly}
 use Rattle.surface.proofs.Flat.{at_place}
-use Rattle.link.proofs.Tally.{Among, count_none, count_past, count_more, count_end}
+use Rattle.link.proofs.Tally.{count_none, count_past, count_more, count_end}
 use native.Mathlib.Omega.{arith}
-use borrow.Author.Rules.{rules}
 use Rattle.link.proofs.marked_of.Goals.{then-marks-w-ne0, else-marks-w-ne0}
 use Rattle.link.proofs.marked_of.Goals as goal
 
@@ -27,7 +22,7 @@ loop-i-preserved c =
     let loop = c.loop-i in
     let h = c.loop-i-test.true in
     elim c.if-marks-w-ne0.branch [
-        then-marks-w-ne0 w ↦ rw w.k-is (omega arith, omega arith, count_more _ _ loop.i h pre.distinct.0 w.if-marks-w-ne0.true loop.invariant.2)
+      | then-marks-w-ne0 w ↦ rw w.k-is (omega arith, omega arith, count_more _ _ loop.i h pre.distinct.0 w.if-marks-w-ne0.true loop.invariant.2)
       | else-marks-w-ne0 w ↦ rw w.k-is (omega arith, omega arith, count_past _ _ loop.i h (λ n. n w.if-marks-w-ne0.false) loop.invariant.2)
     ]
 

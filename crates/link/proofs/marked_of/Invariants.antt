@@ -1,11 +1,8 @@
-use mathlib.Core.Logic.{◌≢◌, ⊎_elim}
+use mathlib.Core.Logic.{◌≢◌}
 use Prim.Native.Nat.{◌-◌, ◌≤◌}
 use lib.ListN.{length, get_or}
 use Rattle.surface.specs.Lists.{Exactly}
-use Rattle.surface.proofs.Flat.{at_place}
-use Rattle.link.proofs.Tally.{Among, count_none, count_past, count_more, count_end}
-use native.Mathlib.Omega.{arith}
-use borrow.Author.Rules.{rules}
+use Rattle.link.proofs.Tally.{Among}
 use Rattle.link.proofs.marked_of.Given as goal
 
 abbrev pub invariant-loop-i : goal.invariant-loop-i

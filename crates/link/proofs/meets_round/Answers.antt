@@ -5,7 +5,6 @@ use Rattle.refusal.proofs.Tells.{tells_false}
 use Rattle.link.proofs.Condition.{four_rows, two_common}
 use Rattle.neighbours.proofs.Marking.{neighbours_corners}
 use native.Mathlib.Omega.{arith}
-use borrow.Author.Rules.{rules}
 use Rattle.link.proofs.meets_round.Goals as goal
 
 pub returns-then-t-le-FOUR_ROWS : goal.returns-then-t-le-FOUR_ROWS

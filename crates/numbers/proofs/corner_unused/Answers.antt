@@ -1,12 +1,11 @@
 -- `corner_unused` meets its contract.
-use Prim.Native.Nat.{ℕ, ◌-◌, ◌≤◌, ◌<◌}
+use Prim.Native.Nat.{ℕ}
 use borrow.Author.Count.{below_more}
 use Rattle.surface.specs.Rows.{rows}
 use Rattle.surface.specs.Table.{Used}
 use Rattle.slots.proofs.Chain.{no_last_unused, last_used}
 use Rattle.refusal.proofs.Tells.{tells_true, tells_false}
 use native.Mathlib.Omega.{arith}
-use borrow.Author.Rules.{rules}
 use Rattle.numbers.proofs.corner_unused.Goals as goal
 
 pub loop-v-init : goal.loop-v-init

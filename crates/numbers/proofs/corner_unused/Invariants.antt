@@ -1,11 +1,6 @@
 use Prim.Native.Nat.{ℕ, ◌-◌, ◌≤◌, ◌<◌}
-use borrow.Author.Count.{below_more}
 use Rattle.surface.specs.Rows.{rows}
 use Rattle.surface.specs.Table.{Used}
-use Rattle.slots.proofs.Chain.{no_last_unused, last_used}
-use Rattle.refusal.proofs.Tells.{tells_true, tells_false}
-use native.Mathlib.Omega.{arith}
-use borrow.Author.Rules.{rules}
 use Rattle.numbers.proofs.corner_unused.Given as goal
 
 abbrev pub invariant-loop-v : goal.invariant-loop-v

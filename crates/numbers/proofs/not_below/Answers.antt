@@ -1,11 +1,10 @@
 -- `not_below` meets its contract.
-use Prim.Native.Nat.{ℕ, ◌-◌, ◌≤◌, ◌<◌}
+use Prim.Native.Nat.{ℕ, ◌<◌}
 use borrow.Author.Count.{below_more}
-use lib.ListN.{length, get_or}
+use lib.ListN.{get_or}
 use Rattle.refusal.proofs.Tells.{tells_true, tells_false}
 use Rattle.numbers.proofs.Tests.{not_below_at, below_all}
 use native.Mathlib.Omega.{arith}
-use borrow.Author.Rules.{rules}
 use Rattle.numbers.proofs.not_below.Goals as goal
 
 pub returns-then-n-t : goal.returns-then-n-t

@@ -1,10 +1,5 @@
 use Prim.Native.Nat.{ℕ, ◌-◌, ◌≤◌, ◌<◌}
-use borrow.Author.Count.{below_more}
 use lib.ListN.{length, get_or}
-use Rattle.refusal.proofs.Tells.{tells_true, tells_false}
-use Rattle.numbers.proofs.Tests.{not_below_at, below_all}
-use native.Mathlib.Omega.{arith}
-use borrow.Author.Rules.{rules}
 use Rattle.numbers.proofs.not_below.Given as goal
 
 abbrev pub invariant-loop-i : goal.invariant-loop-i

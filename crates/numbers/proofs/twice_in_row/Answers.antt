@@ -1,7 +1,7 @@
 -- `twice_in_row` meets its contract.
 use mathlib.Core.Path.{sym, ◌∙◌, ap}
 use mathlib.Core.Logic.{◌≢◌}
-use Prim.Native.Nat.{ℕ, ◌-◌, ◌≤◌, ◌<◌}
+use Prim.Native.Nat.{ℕ}
 use borrow.Author.Count.{below_more}
 use lib.ListN.{length, get_or}
 use Rattle.slots.specs.Slot.{next_slot}
@@ -9,7 +9,6 @@ use Rattle.slots.proofs.Slots.{next_inside}
 use Rattle.refusal.proofs.Tells.{tells_true, tells_false}
 use Rattle.numbers.proofs.Tests.{twice_at, apart_all}
 use native.Mathlib.Omega.{arith}
-use borrow.Author.Rules.{rules}
 use Rattle.numbers.proofs.twice_in_row.Goals as goal
 
 pub offset_bounds-t-k : goal.offset_bounds-t-k

@@ -1,14 +1,7 @@
-use mathlib.Core.Path.{sym, ◌∙◌, ap}
 use mathlib.Core.Logic.{◌≢◌}
 use Prim.Native.Nat.{ℕ, ◌-◌, ◌≤◌, ◌<◌}
-use borrow.Author.Count.{below_more}
 use lib.ListN.{length, get_or}
 use Rattle.slots.specs.Slot.{next_slot}
-use Rattle.slots.proofs.Slots.{next_inside}
-use Rattle.refusal.proofs.Tells.{tells_true, tells_false}
-use Rattle.numbers.proofs.Tests.{twice_at, apart_all}
-use native.Mathlib.Omega.{arith}
-use borrow.Author.Rules.{rules}
 use Rattle.numbers.proofs.twice_in_row.Given as goal
 
 abbrev pub invariant-loop-e : goal.invariant-loop-e

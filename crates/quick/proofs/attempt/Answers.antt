@@ -1,8 +1,6 @@
 -- v is blocked, or goes into u.
 use mathlib.Core.Path.{refl, sym, ◌∙◌}
 use mathlib.Core.Logic.{inl, inr}
-use Prim.Native.Nat.{◌-◌}
-use lib.ListN.{take}
 use lib.Seq.{length-take-le}
 use Rattle.waiting.proofs.Waiters.{waiters_fewer}
 use Rattle.around.proofs.Nears.{ring_listed}
@@ -10,13 +8,6 @@ use Rattle.quick.proofs.Grounds.{held_stage, ground_room, ground_inside, mapped}
 use Rattle.quick.proofs.Finishing.{progress_none, progress_one}
 use Rattle.quick.proofs.Trying.{u_small, four_blocks, up, edge, v_small, v_there, next_at, three_meets, not_three_blocks, waited, round_blocked, waits_again, round_step}
 use native.Mathlib.Omega.{arith}
-use borrow.Author.Rules.{rules}
-use Rattle.around.proofs.meet.Reads as meet-reads
-use Rattle.around.proofs.walk.Reads as walk-reads
-use Rattle.quick.proofs.unchanged.Reads as unchanged-reads
-use Rattle.record.proofs.write_record.Reads as write-record-reads
-use Rattle.strike.proofs.step.Reads as step-reads
-use Rattle.waiting.proofs.take.Reads as take-reads
 use Rattle.quick.proofs.attempt.Goals as goal
 
 pub take-requires : goal.take-requires

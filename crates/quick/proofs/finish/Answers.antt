@@ -1,20 +1,10 @@
 -- u is passed by if it is gone; else its neighbours wait, and are tried until none waits.
-use mathlib.Core.Path.{◌≡◌, refl, sym, ◌∙◌}
-use Prim.Native.Nat.{◌+◌, ◌-◌, ◌*◌, ◌≤◌}
-use lib.ListN.{length}
+use mathlib.Core.Path.{refl, sym, ◌∙◌}
 use lib.Seq.{length-take-le}
-use Rattle.surface.specs.Limits.{most_corners}
-use Rattle.slots.specs.Slot.{most_slots}
-use Rattle.waiting.specs.InnerWaiting.{LeastOf, waiters}
 use Rattle.around.proofs.Nears.{ring_listed}
-use Rattle.quick.specs.InnerRound.{AtOpenCorner, Progress}
 use Rattle.quick.proofs.Grounds.{held_stage, ground_inside, mapped}
 use Rattle.quick.proofs.Finishing.{progress_none, progress_on, corner_small, round_open, passed_by, next_of, none_left, fell_less}
 use native.Mathlib.Omega.{arith}
-use Rattle.around.proofs.meet.Reads as meet-reads
-use Rattle.around.proofs.walk.Reads as walk-reads
-use Rattle.quick.proofs.attempt.Reads as attempt-reads
-use Rattle.waiting.proofs.least.Reads as least-reads
 use Rattle.quick.proofs.finish.Goals as goal
 
 pub offset_bounds-mark-u : goal.offset_bounds-mark-u

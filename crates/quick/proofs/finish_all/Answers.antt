@@ -1,15 +1,8 @@
 -- Corner by corner (`AllDone`).
 use mathlib.Core.Path.{◌≡◌, refl, sym, ◌∙◌}
-use Prim.Native.Nat.{◌-◌, ◌≤◌}
-use lib.ListN.{length}
-use Rattle.slots.specs.Slot.{most_slots}
-use Rattle.quick.specs.InnerGround.{BeforeCorner}
-use Rattle.quick.specs.InnerRound.{AllDone}
 use Rattle.quick.proofs.Grounds.{stage}
 use Rattle.quick.proofs.Finishing.{none_done, one_done}
 use native.Mathlib.Omega.{arith}
-use borrow.Author.Rules.{rules}
-use Rattle.quick.proofs.finish.Reads as finish-reads
 use Rattle.quick.proofs.finish_all.Goals as goal
 
 pub loop-u-init : goal.loop-u-init

@@ -6,8 +6,6 @@ use lib.Seq.{length-take-le}
 use Rattle.surface.specs.Limits.{most_rows}
 use Rattle.quick.proofs.Closing.{front_fits, went_by}
 use native.Mathlib.Omega.{arith}
-use borrow.Author.Rules.{rules}
-use Rattle.quick.proofs.thin_all.Reads as thin-all-reads
 use Rattle.quick.proofs.go_on.Goals as goal
 
 pub slice_bounds-thin_all-end : goal.slice_bounds-thin_all-end

@@ -8,13 +8,6 @@ use Rattle.slots.proofs.Marks.{no_mark}
 use Rattle.waiting.proofs.Members.{waiting_new, none_new}
 use Rattle.quick.proofs.Closing.{numbers_under, places_of, first_before, thinned, closed_inside}
 use native.Mathlib.Omega.{arith}
-use borrow.Author.Rules.{rules}
-use Rattle.quick.proofs.finish_all.Reads as finish-all-reads
-use Rattle.ranks.proofs.fill.Reads as fill-reads
-use Rattle.ranks.proofs.fill_stairs.Reads as fill-stairs-reads
-use Rattle.shrink.proofs.clear.Reads as clear_reads
-use Rattle.spots.proofs.close_up.Reads as close-up-reads
-use Rattle.spots.proofs.lay.Reads as lay-reads
 use Rattle.quick.proofs.thin_all.Goals as goal
 
 pub lay-requires : goal.lay-requires

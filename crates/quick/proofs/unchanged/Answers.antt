@@ -1,7 +1,6 @@
 -- `unchanged` meets its contract.
 use mathlib.Core.Path.{refl}
 use mathlib.Core.Logic.{inl, inr}
-use borrow.Author.Rules.{rules}
 use Rattle.quick.proofs.unchanged.Goals as goal
 
 pub returns-then-slots-eq3 : goal.returns-then-slots-eq3

@@ -3,7 +3,6 @@ use mathlib.Core.Path.{refl}
 use Rattle.slots.proofs.Marks.{zeros_set}
 use Rattle.reach.specs.Reaching.{old, new}
 use native.Mathlib.Omega.{arith}
-use borrow.Author.Rules.{rules}
 use Rattle.reach.proofs.note.Goals as goal
 
 pub returns-then-m-w-ne0 : goal.returns-then-m-w-ne0

@@ -1,10 +1,8 @@
 -- `reach_all` meets its contract.
-use Rattle.reach.proofs.Growing.{Reaching, reach_none, reach_more, reach_end}
-use mathlib.Core.Path.{◌≡◌, refl, ◌∙◌}
-use Prim.Native.Nat.{◌-◌, ◌≤◌}
-use lib.ListN.{length, length-set}
+use Rattle.reach.proofs.Growing.{reach_none, reach_more, reach_end}
+use mathlib.Core.Path.{refl, ◌∙◌}
+use lib.ListN.{length-set}
 use native.Mathlib.Omega.{arith}
-use borrow.Author.Rules.{rules}
 use Rattle.reach.proofs.reach_all.Goals as goal
 
 pub bounds-m-s : goal.bounds-m-s

@@ -1,9 +1,7 @@
-use Rattle.reach.proofs.Growing.{Reaching, reach_none, reach_more, reach_end}
-use mathlib.Core.Path.{◌≡◌, refl, ◌∙◌}
+use Rattle.reach.proofs.Growing.{Reaching}
+use mathlib.Core.Path.{◌≡◌}
 use Prim.Native.Nat.{◌-◌, ◌≤◌}
-use lib.ListN.{length, length-set}
-use native.Mathlib.Omega.{arith}
-use borrow.Author.Rules.{rules}
+use lib.ListN.{length}
 use Rattle.reach.proofs.reach_all.Given as goal
 
 abbrev pub invariant-loop-h : goal.invariant-loop-h

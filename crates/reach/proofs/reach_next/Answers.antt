@@ -1,13 +1,11 @@
 -- `reach_next` meets its contract.
 use Rattle.slots.specs.Slot.{next_slot}
 use Rattle.slots.proofs.Slots.{next_inside}
-use Rattle.reach.specs.Reaching.{Grew}
 use Rattle.reach.proofs.Growing.{grow_more, grow_none}
-use mathlib.Core.Path.{◌≡◌, sym, ◌∙◌}
-use Prim.Native.Nat.{◌-◌, ◌≤◌, ◌<◌}
-use lib.ListN.{length, get_or}
+use mathlib.Core.Path.{sym, ◌∙◌}
+use Prim.Native.Nat.{◌-◌}
+use lib.ListN.{length}
 use native.Mathlib.Omega.{arith}
-use borrow.Author.Rules.{rules}
 use Rattle.reach.proofs.reach_next.Goals as goal
 
 pub loop-x-init : goal.loop-x-init

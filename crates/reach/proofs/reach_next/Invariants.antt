@@ -1,12 +1,7 @@
-use Rattle.slots.specs.Slot.{next_slot}
-use Rattle.slots.proofs.Slots.{next_inside}
 use Rattle.reach.specs.Reaching.{Grew}
-use Rattle.reach.proofs.Growing.{grow_more, grow_none}
-use mathlib.Core.Path.{◌≡◌, sym, ◌∙◌}
+use mathlib.Core.Path.{◌≡◌}
 use Prim.Native.Nat.{◌-◌, ◌≤◌, ◌<◌}
 use lib.ListN.{length, get_or}
-use native.Mathlib.Omega.{arith}
-use borrow.Author.Rules.{rules}
 use Rattle.reach.proofs.reach_next.Given as goal
 
 abbrev pub invariant-loop-x : goal.invariant-loop-x

@@ -2,7 +2,6 @@
 use Rattle.lines.specs.Inner.{ReadInto}
 use Rattle.reading.proofs.Lining.{no_line, there_length, there_short, coordinate_read}
 use native.Mathlib.Omega.{arith}
-use borrow.Author.Rules.{rules}
 use Rattle.reading.proofs.coordinate_line.Goals as goal
 
 pub read_line-read-requires : goal.read_line-read-requires

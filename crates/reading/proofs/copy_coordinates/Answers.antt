@@ -1,12 +1,10 @@
 -- `copy_coordinates` meets its contract.
-use Prim.Native.Nat.{◌-◌}
 use lib.IntN.{pos}
-use lib.ListN.{length, get_or}
+use lib.ListN.{get_or}
 use mir.Syntax.{w32}
 use mir.ValLaws.{to_z-of_z}
-use Rattle.lines.proofs.Storing.{Stored, none_stored, stored, all_stored, stored_length}
+use Rattle.lines.proofs.Storing.{none_stored, stored, all_stored, stored_length}
 use native.Mathlib.Omega.{arith}
-use borrow.Author.Rules.{rules}
 use Rattle.reading.proofs.copy_coordinates.Goals as goal
 
 pub loop-i-init : goal.loop-i-init

@@ -1,9 +1,6 @@
 -- `copy_numbers` meets its contract.
-use Prim.Native.Nat.{◌-◌}
-use lib.ListN.{length}
-use Rattle.lines.proofs.Storing.{Stored, none_stored, stored, all_stored, stored_length}
+use Rattle.lines.proofs.Storing.{none_stored, stored, all_stored, stored_length}
 use native.Mathlib.Omega.{arith}
-use borrow.Author.Rules.{rules}
 use Rattle.reading.proofs.copy_numbers.Goals as goal
 
 pub loop-i-init : goal.loop-i-init

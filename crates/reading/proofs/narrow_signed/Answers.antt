@@ -1,12 +1,10 @@
 -- `narrow_signed` meets its contract.
 use mathlib.Core.Path.{refl}
-use Prim.Native.Nat.{◌+◌, ◌-◌}
+use Prim.Native.Nat.{◌+◌}
 use lib.IntN.{pos}
-use lib.ListN.{length}
-use Rattle.lines.proofs.Storing.{Stored, none_stored, stored, all_stored, stored_length}
+use Rattle.lines.proofs.Storing.{none_stored, stored, all_stored, stored_length}
 use Rattle.reading.proofs.Storing.{z_fits_32, z_kept}
 use native.Mathlib.Omega.{arith}
-use borrow.Author.Rules.{rules}
 use Rattle.reading.proofs.narrow_signed.Goals as goal
 
 pub loop-i-init : goal.loop-i-init

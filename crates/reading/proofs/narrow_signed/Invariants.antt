@@ -1,11 +1,6 @@
-use mathlib.Core.Path.{refl}
-use Prim.Native.Nat.{◌+◌, ◌-◌}
-use lib.IntN.{pos}
+use Prim.Native.Nat.{◌-◌}
 use lib.ListN.{length}
-use Rattle.lines.proofs.Storing.{Stored, none_stored, stored, all_stored, stored_length}
-use Rattle.reading.proofs.Storing.{z_fits_32, z_kept}
-use native.Mathlib.Omega.{arith}
-use borrow.Author.Rules.{rules}
+use Rattle.lines.proofs.Storing.{Stored}
 use Rattle.reading.proofs.narrow_signed.Given as goal
 
 abbrev pub invariant-loop-i : goal.invariant-loop-i

@@ -3,7 +3,6 @@ use lib.IntN.{pos}
 use Rattle.text.specs.InnerReading.{Expected}
 use Rattle.lines.specs.Inner.{ReadInto}
 use Rattle.lines.proofs.Turns.{no_word, no_fields, line_end}
-use borrow.Author.Rules.{rules}
 use Rattle.reading.proofs.number_line.Goals as goal
 
 pub returns-in_default : goal.returns-in_default

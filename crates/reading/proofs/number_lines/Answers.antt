@@ -1,12 +1,9 @@
 -- `number_lines` meets its contract.
-use mathlib.Core.Path.{◌∙◌}
-use Prim.Native.Nat.{◌-◌}
 use Rattle.lines.specs.Inner.{ReadInto}
 use Rattle.lines.proofs.Turns.{put_length}
 use lib.IntN.{pos}
-use Rattle.reading.proofs.Lining.{Lined, lines_start, line_room, lines_next, lines_stop, lines_end}
+use Rattle.reading.proofs.Lining.{lines_start, line_room, lines_next, lines_stop, lines_end}
 use native.Mathlib.Omega.{arith}
-use borrow.Author.Rules.{rules}
 use Rattle.reading.proofs.number_lines.Goals as goal
 
 pub loop-i-init : goal.loop-i-init

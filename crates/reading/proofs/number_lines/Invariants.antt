@@ -1,11 +1,6 @@
-use mathlib.Core.Path.{◌∙◌}
 use Prim.Native.Nat.{◌-◌}
-use Rattle.lines.specs.Inner.{ReadInto}
-use Rattle.lines.proofs.Turns.{put_length}
 use lib.IntN.{pos}
-use Rattle.reading.proofs.Lining.{Lined, lines_start, line_room, lines_next, lines_stop, lines_end}
-use native.Mathlib.Omega.{arith}
-use borrow.Author.Rules.{rules}
+use Rattle.reading.proofs.Lining.{Lined}
 use Rattle.reading.proofs.number_lines.Given as goal
 
 abbrev pub invariant-loop-i : goal.invariant-loop-i

@@ -6,7 +6,6 @@ use Rattle.slots.specs.Slot.{next_slot, most_slots}
 use Rattle.slots.proofs.Slots.{next_inside}
 use Rattle.reverses.specs.Reverse.{onward_slot}
 use native.Mathlib.Omega.{arith}
-use borrow.Author.Rules.{rules}
 use Rattle.reverses.proofs.onward.Goals as goal
 
 pub next-j-requires : goal.next-j-requires

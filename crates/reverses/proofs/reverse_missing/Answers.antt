@@ -1,11 +1,9 @@
 -- `reverse_missing` meets its contract.
-use mathlib.Core.Path.{◌≡◌, refl}
-use Prim.Native.Nat.{◌-◌, ◌≤◌}
-use lib.ListN.{length, get_or, length-set}
+use mathlib.Core.Path.{refl}
+use lib.ListN.{get_or, length-set}
 use Rattle.refusal.proofs.Tells.{tells_true, tells_false}
-use Rattle.reverses.proofs.Back.{Settling, settle_none, settle_more, no_reverse_at, both_ways}
+use Rattle.reverses.proofs.Back.{settle_none, settle_more, no_reverse_at, both_ways}
 use native.Mathlib.Omega.{arith}
-use borrow.Author.Rules.{rules}
 use Rattle.reverses.proofs.reverse_missing.Goals as goal
 
 pub loop-e-init : goal.loop-e-init

@@ -1,10 +1,7 @@
-use mathlib.Core.Path.{◌≡◌, refl}
+use mathlib.Core.Path.{◌≡◌}
 use Prim.Native.Nat.{◌-◌, ◌≤◌}
-use lib.ListN.{length, get_or, length-set}
-use Rattle.refusal.proofs.Tells.{tells_true, tells_false}
-use Rattle.reverses.proofs.Back.{Settling, settle_none, settle_more, no_reverse_at, both_ways}
-use native.Mathlib.Omega.{arith}
-use borrow.Author.Rules.{rules}
+use lib.ListN.{length}
+use Rattle.reverses.proofs.Back.{Settling}
 use Rattle.reverses.proofs.reverse_missing.Given as goal
 
 abbrev pub invariant-loop-e : goal.invariant-loop-e

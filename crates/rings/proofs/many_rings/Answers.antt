@@ -1,15 +1,10 @@
 -- `many_rings` meets its contract.
-use mathlib.Core.Logic.{◌≢◌}
-use Prim.Native.Nat.{ℕ, ◌-◌, ◌≤◌, ◌<◌}
-use lib.ListN.{length, get_or}
 use borrow.Author.Count.{below_more}
 use Rattle.slots.specs.Slot.{most_slots}
 use Rattle.slots.proofs.Marks.{no_mark}
 use Rattle.refusal.proofs.Tells.{tells_true, tells_false}
-use Rattle.rings.specs.Walk.{AllWalked}
 use Rattle.rings.proofs.Walking.{many_at, one_all}
 use native.Mathlib.Omega.{arith}
-use borrow.Author.Rules.{rules}
 use Rattle.rings.proofs.many_rings.Goals as goal
 
 pub walk_all-requires : goal.walk_all-requires

@@ -1,14 +1,7 @@
 use mathlib.Core.Logic.{◌≢◌}
 use Prim.Native.Nat.{ℕ, ◌-◌, ◌≤◌, ◌<◌}
 use lib.ListN.{length, get_or}
-use borrow.Author.Count.{below_more}
-use Rattle.slots.specs.Slot.{most_slots}
-use Rattle.slots.proofs.Marks.{no_mark}
-use Rattle.refusal.proofs.Tells.{tells_true, tells_false}
 use Rattle.rings.specs.Walk.{AllWalked}
-use Rattle.rings.proofs.Walking.{many_at, one_all}
-use native.Mathlib.Omega.{arith}
-use borrow.Author.Rules.{rules}
 use Rattle.rings.proofs.many_rings.Given as goal
 
 abbrev pub invariant-loop-e : goal.invariant-loop-e

@@ -2,12 +2,10 @@
 use mathlib.Core.Path.{refl}
 use lib.ListN.{length}
 use Rattle.slots.specs.Slot.{next_slot}
-use Rattle.slots.specs.Marks.{zeros}
 use Rattle.slots.proofs.Slots.{next_inside}
 use Rattle.slots.proofs.Marks.{zeros_set}
-use Rattle.rings.proofs.Walking.{Walking, walk_start, walk_more, walk_end, walk_idle}
+use Rattle.rings.proofs.Walking.{walk_start, walk_more, walk_end, walk_idle}
 use native.Mathlib.Omega.{arith}
-use borrow.Author.Rules.{rules}
 use Rattle.rings.proofs.walk.Goals as goal
 
 pub returns-then-x-eq0 : goal.returns-then-x-eq0

@@ -1,11 +1,7 @@
 -- `walk_all` meets its contract.
 use mathlib.Core.Path.{◌≡◌, refl, sym, ◌∙◌}
-use Prim.Native.Nat.{◌-◌, ◌≤◌}
-use lib.ListN.{length}
-use Rattle.rings.specs.Walk.{AllWalked}
 use Rattle.rings.proofs.Walking.{walks_none, walks_more}
 use native.Mathlib.Omega.{arith}
-use borrow.Author.Rules.{rules}
 use Rattle.rings.proofs.walk_all.Goals as goal
 
 pub loop-v-init : goal.loop-v-init

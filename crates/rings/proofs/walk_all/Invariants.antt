@@ -1,10 +1,7 @@
-use mathlib.Core.Path.{◌≡◌, refl, sym, ◌∙◌}
+use mathlib.Core.Path.{◌≡◌}
 use Prim.Native.Nat.{◌-◌, ◌≤◌}
 use lib.ListN.{length}
 use Rattle.rings.specs.Walk.{AllWalked}
-use Rattle.rings.proofs.Walking.{walks_none, walks_more}
-use native.Mathlib.Omega.{arith}
-use borrow.Author.Rules.{rules}
 use Rattle.rings.proofs.walk_all.Given as goal
 
 abbrev pub invariant-loop-v : goal.invariant-loop-v

@@ -1,10 +1,6 @@
 -- `least_above` meets its contract.
-use Prim.Native.Nat.{◌-◌, ◌≤◌}
-use lib.ListN.{length, take}
-use Rattle.rising.specs.Next.{NextAbove}
 use Rattle.rising.proofs.Rising.{next_none, next_more, next_end}
 use native.Mathlib.Omega.{arith}
-use borrow.Author.Rules.{rules}
 use Rattle.rising.proofs.least_above.Goals as goal
 
 pub loop-i-init : goal.loop-i-init

@@ -1,9 +1,6 @@
 use Prim.Native.Nat.{◌-◌, ◌≤◌}
 use lib.ListN.{length, take}
 use Rattle.rising.specs.Next.{NextAbove}
-use Rattle.rising.proofs.Rising.{next_none, next_more, next_end}
-use native.Mathlib.Omega.{arith}
-use borrow.Author.Rules.{rules}
 use Rattle.rising.proofs.least_above.Given as goal
 
 abbrev pub invariant-loop-i : goal.invariant-loop-i

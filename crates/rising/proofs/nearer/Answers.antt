@@ -4,7 +4,6 @@ use Prim.Native.Nat.{ℕ, ◌≤◌, ◌<◌}
 use Rattle.surface.specs.Limits.{most_corners}
 use Rattle.rising.specs.Next.{Above, is, none, Better, old, new}
 use native.Mathlib.Omega.{arith}
-use borrow.Author.Rules.{rules}
 use Rattle.rising.proofs.nearer.Goals as goal
 
 taken : {past best w c : ℕ} → best ≤ most_corners → Above past w c → c < best → Better past best w c

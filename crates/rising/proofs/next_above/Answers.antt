@@ -1,6 +1,5 @@
 -- `next_above` meets its contract.
 use Rattle.rising.proofs.Rising.{marked_next}
-use borrow.Author.Rules.{rules}
 use Rattle.rising.proofs.next_above.Goals as goal
 
 pub next_marked-b-requires : goal.next_marked-b-requires

@@ -1,10 +1,6 @@
 -- `next_marked` meets its contract.
-use mathlib.Core.Path.{◌≡◌}
-use Prim.Native.Nat.{ℕ, ◌<◌}
 use borrow.Author.Count.{below_more}
-use lib.ListN.{get_or}
 use native.Mathlib.Omega.{arith}
-use borrow.Author.Rules.{rules}
 use Rattle.rising.proofs.next_marked.Goals as goal
 
 pub overflow_add-w : goal.overflow_add-w

@@ -1,9 +1,7 @@
 -- `check` meets its contract.
 use mathlib.Core.Logic.{inl, inr}
-use borrow.Author.Tests.{not-true, not-false}
 use Rattle.shift.proofs.Checking.{refuse_2, refuse_4, refuse_5, all_clear}
 use native.Mathlib.Omega.{arith}
-use borrow.Author.Rules.{rules}
 use Rattle.shift.proofs.check.Goals as goal
 
 pub returns-then-not-shift_fits : goal.returns-then-not-shift_fits

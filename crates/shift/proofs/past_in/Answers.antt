@@ -1,10 +1,8 @@
 -- `past_in` meets its contract: every record below place j has both its numbers below the count.
-use Prim.Native.Nat.{ℕ, ◌-◌, ◌≤◌, ◌<◌}
 use borrow.Author.Count.{below_more}
 use Rattle.refusal.proofs.Tells.{tells_true, tells_false}
-use Rattle.shift.proofs.Checking.{Both, past_kept, past_removed, all_below}
+use Rattle.shift.proofs.Checking.{past_kept, past_removed, all_below}
 use native.Mathlib.Omega.{arith}
-use borrow.Author.Rules.{rules}
 use Rattle.shift.proofs.past_in.Goals as goal
 
 pub returns-then-n-e : goal.returns-then-n-e

@@ -1,7 +1,6 @@
 -- `shift_fits` meets its contract.
 use Rattle.refusal.proofs.Tells.{tells_false}
 use native.Mathlib.Omega.{arith}
-use borrow.Author.Rules.{rules}
 use Rattle.shift.proofs.shift_fits.Goals as goal
 
 pub returns-then-log-ne0 : goal.returns-then-log-ne0

@@ -1,8 +1,6 @@
 -- `follow` meets its contract: `Following` holds at every place of the log.
-use Prim.Native.Nat.{◌-◌}
-use Rattle.standin.proofs.Following.{Following, follow_start, follow_moved, follow_stayed, follow_end}
+use Rattle.standin.proofs.Following.{follow_start, follow_moved, follow_stayed, follow_end}
 use native.Mathlib.Omega.{arith}
-use borrow.Author.Rules.{rules}
 use Rattle.standin.proofs.follow.Goals.{then-e-at, else-e-at}
 use Rattle.standin.proofs.follow.Goals as goal
 
@@ -18,7 +16,7 @@ loop-j-preserved c =
     let h = loop-test.true in
     let is = read-contracted.ensures in
     elim c.if-e-at.branch [
-        then-e-at w ↦ rw (w.at-is, w.moved-is) (follow_moved f h is w.if-e-at.true)
+      | then-e-at w ↦ rw (w.at-is, w.moved-is) (follow_moved f h is w.if-e-at.true)
       | else-e-at w ↦ rw (w.at-is, w.moved-is) (follow_stayed f h is w.if-e-at.false)
     ]
 

@@ -1,8 +1,5 @@
-use mathlib.Core.Logic.{⊎_elim}
 use Prim.Native.Nat.{◌-◌}
-use Rattle.standin.proofs.Following.{Following, follow_start, follow_moved, follow_stayed, follow_end}
-use native.Mathlib.Omega.{arith}
-use borrow.Author.Rules.{rules}
+use Rattle.standin.proofs.Following.{Following}
 use Rattle.standin.proofs.follow.Given as goal
 
 abbrev pub invariant-loop-j : goal.invariant-loop-j

@@ -1,6 +1,5 @@
 -- The record is told and the table shrinks: that is the step (`step-done`).
 use Rattle.step.proofs.Stepping.{step_done}
-use borrow.Author.Rules.{rules}
 use Rattle.step.proofs.contract.Goals as goal
 
 pub record_of-r-requires : goal.record_of-r-requires

@@ -2,7 +2,6 @@
 use mathlib.Core.Path.{sym}
 use lib.Seq.{length-take-le}
 use Rattle.step.proofs.Front.{step_in}
-use borrow.Author.Rules.{rules}
 use Rattle.step.proofs.contract_front.Goals as goal
 
 pub slice_bounds-contract-end-2 : goal.slice_bounds-contract-end-2

@@ -1,14 +1,11 @@
 -- Each of the two places is found, or still ahead (`Sought`).
 use mathlib.Core.Path.{◌≡◌, sym, ◌∙◌, ap}
-use Prim.Native.Nat.{ℕ, ◌-◌, ◌≤◌}
-use lib.ListN.{length, get_or}
+use Prim.Native.Nat.{ℕ}
+use lib.ListN.{get_or}
 use Rattle.surface.proofs.Flat.{at_place}
 use Rattle.spots.specs.InnerHeld.{after_place}
-use Rattle.strike.proofs.Loops.{Sought, sought_none, sought_more, sought_end}
+use Rattle.strike.proofs.Loops.{sought_none, sought_more, sought_end}
 use native.Mathlib.Omega.{arith}
-use borrow.Author.Rules.{rules}
-use Rattle.spots.proofs.after.Reads as after-reads
-use Rattle.strike.proofs.pick.Reads as pick-reads
 use Rattle.strike.proofs.find.Goals as goal
 
 pub loop-i-init : goal.loop-i-init

@@ -1,13 +1,8 @@
-use mathlib.Core.Path.{◌≡◌, sym, ◌∙◌, ap}
+use mathlib.Core.Path.{◌≡◌}
 use Prim.Native.Nat.{ℕ, ◌-◌, ◌≤◌}
 use lib.ListN.{length, get_or}
-use Rattle.surface.proofs.Flat.{at_place}
 use Rattle.spots.specs.InnerHeld.{after_place}
-use Rattle.strike.proofs.Loops.{Sought, sought_none, sought_more, sought_end}
-use native.Mathlib.Omega.{arith}
-use borrow.Author.Rules.{rules}
-use Rattle.spots.proofs.after.Reads as after-reads
-use Rattle.strike.proofs.pick.Reads as pick-reads
+use Rattle.strike.proofs.Loops.{Sought}
 use Rattle.strike.proofs.find.Given as goal
 
 abbrev pub invariant-loop-i : goal.invariant-loop-i

@@ -4,7 +4,6 @@ use Prim.Native.Nat.{◌*◌}
 use lib.ListN.{length-set}
 use Rattle.strike.proofs.Loops.{killed_four}
 use native.Mathlib.Omega.{arith}
-use borrow.Author.Rules.{rules}
 use Rattle.strike.proofs.kill.Goals as goal
 
 pub bounds-held-x-2 : goal.bounds-held-x-2

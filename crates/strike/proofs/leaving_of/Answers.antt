@@ -2,8 +2,6 @@
 use mathlib.Core.Path.{refl}
 use Prim.Native.Nat.{◌+◌, ◌*◌}
 use native.Mathlib.Omega.{arith}
-use borrow.Author.Rules.{rules}
-use Rattle.ranks.proofs.before.Reads as before-reads
 use Rattle.strike.proofs.leaving_of.Goals as goal
 
 pub overflow_cast-a : goal.overflow_cast-a

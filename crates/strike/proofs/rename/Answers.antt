@@ -1,11 +1,7 @@
 -- Slot by slot (`Renaming`).
-use Prim.Native.Nat.{◌-◌, ◌≤◌}
-use lib.ListN.{length}
 use Rattle.surface.proofs.Flat.{at_place}
-use Rattle.strike.proofs.Loops.{Renaming, rename_none, rename_more, rename_end}
+use Rattle.strike.proofs.Loops.{rename_none, rename_more, rename_end}
 use native.Mathlib.Omega.{arith}
-use borrow.Author.Rules.{rules}
-use Rattle.spots.proofs.own_place.Reads as own-place-reads
 use Rattle.strike.proofs.rename.Goals as goal
 
 pub loop-i-init : goal.loop-i-init

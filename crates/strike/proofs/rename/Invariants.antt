@@ -1,10 +1,6 @@
 use Prim.Native.Nat.{◌-◌, ◌≤◌}
 use lib.ListN.{length}
-use Rattle.surface.proofs.Flat.{at_place}
-use Rattle.strike.proofs.Loops.{Renaming, rename_none, rename_more, rename_end}
-use native.Mathlib.Omega.{arith}
-use borrow.Author.Rules.{rules}
-use Rattle.spots.proofs.own_place.Reads as own-place-reads
+use Rattle.strike.proofs.Loops.{Renaming}
 use Rattle.strike.proofs.rename.Given as goal
 
 abbrev pub invariant-loop-i : goal.invariant-loop-i

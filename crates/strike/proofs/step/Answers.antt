@@ -2,13 +2,6 @@
 use mathlib.Core.Path.{refl}
 use Rattle.strike.proofs.Striking.{ring_inside, some_beside, fits_later, fits_earlier, small_later, small_earlier, both_stand, struck}
 use native.Mathlib.Omega.{arith}
-use borrow.Author.Rules.{rules}
-use Rattle.ranks.proofs.leave.Reads as leave-reads
-use Rattle.strike.proofs.find.Reads as find-reads
-use Rattle.strike.proofs.kill.Reads as kill-reads
-use Rattle.strike.proofs.leaving_of.Reads as leaving-of-reads
-use Rattle.strike.proofs.ordered.Reads as ordered-reads
-use Rattle.strike.proofs.rename.Reads as rename-reads
 use Rattle.strike.proofs.step.Goals as goal
 
 pub find-beside-requires : goal.find-beside-requires

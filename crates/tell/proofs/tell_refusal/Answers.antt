@@ -5,7 +5,6 @@ use Rattle.tell.specs.Put.{short}
 use Rattle.tell.specs.Inner.{most_told}
 use Rattle.tell.proofs.Telling.{no_measured, no_fits, no_written}
 use native.Mathlib.Omega.{arith}
-use borrow.Author.Rules.{rules}
 use Rattle.tell.proofs.tell_refusal.Goals as goal
 
 pub returns-then-out-fields_length : goal.returns-then-out-fields_length

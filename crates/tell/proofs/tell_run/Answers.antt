@@ -3,7 +3,6 @@ use mathlib.Core.Path.{refl}
 use Rattle.tell.specs.Put.{short}
 use Rattle.tell.proofs.Telling.{too_long, room_enough, first_fits, rows_fit, records_fit, run_written}
 use native.Mathlib.Omega.{arith}
-use borrow.Author.Rules.{rules}
 use Rattle.tell.proofs.tell_run.Goals as goal
 
 pub returns-then-out-words : goal.returns-then-out-words

@@ -1,15 +1,13 @@
 -- `fields_length` meets its contract: what is counted and what is left make the whole.
-use mathlib.Core.Path.{◌≡◌, ap}
-use Prim.Native.Nat.{◌+◌, ◌-◌, ◌*◌, ◌≤◌}
+use mathlib.Core.Path.{ap}
 use mir.Syntax.{w64}
 use mir.Val.{SFits}
 use mir.ValLaws.{to_z-of_z}
 use lib.IntN.{pos}
-use lib.ListN.{length, drop, get_or}
+use lib.ListN.{length, get_or}
 use Rattle.lines.specs.Lines.{fields}
 use Rattle.writing.proofs.Writing.{field_length, all_written}
 use native.Mathlib.Omega.{arith}
-use borrow.Author.Rules.{rules}
 use Rattle.writing.proofs.fields_length.Goals as goal
 
 pub loop-i-init : goal.loop-i-init

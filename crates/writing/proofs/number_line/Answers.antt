@@ -4,7 +4,6 @@ use lib.IntN.{pos}
 use lib.ListN.{length, length-map}
 use Rattle.writing.proofs.Numbers.{staged}
 use native.Mathlib.Omega.{arith}
-use borrow.Author.Rules.{rules}
 use Rattle.writing.proofs.number_line.Goals as goal
 
 pub slice_bounds-stage-end : goal.slice_bounds-stage-end

@@ -3,7 +3,7 @@ use mathlib.Core.Path.{◌≡◌}
 use Prim.Native.Nat.{◌+◌, ◌-◌}
 use lib.ListN.{length-drop, drop}
 use lib.Seq.{length-take-le}
-use Rattle.writing.proofs.Writing.{Lining, lining_start, numbers_there, line_fits, lining_more, lining_end}
+use Rattle.writing.proofs.Writing.{lining_start, numbers_there, line_fits, lining_more, lining_end}
 use native.Mathlib.Omega.{arith}
 use borrow.Author.Rules.{rules}
 use Rattle.writing.proofs.number_lines.Goals as goal

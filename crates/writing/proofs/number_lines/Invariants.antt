@@ -1,10 +1,5 @@
-use mathlib.Core.Path.{◌≡◌}
-use Prim.Native.Nat.{◌+◌, ◌-◌}
-use lib.ListN.{length-drop, drop}
-use lib.Seq.{length-take-le}
-use Rattle.writing.proofs.Writing.{Lining, lining_start, numbers_there, line_fits, lining_more, lining_end}
-use native.Mathlib.Omega.{arith}
-use borrow.Author.Rules.{rules}
+use Prim.Native.Nat.{◌-◌}
+use Rattle.writing.proofs.Writing.{Lining}
 use Rattle.writing.proofs.number_lines.Given as goal
 
 abbrev pub invariant-loop-i : goal.invariant-loop-i

@@ -1,14 +1,12 @@
 -- `numbers_length` meets its contract: what is counted and what is left make the whole.
-use mathlib.Core.Path.{◌≡◌, ap}
+use mathlib.Core.Path.{ap}
 use mathlib.Core.List.{map}
-use Prim.Native.Nat.{◌+◌, ◌-◌, ◌*◌, ◌≤◌}
 use lib.IntN.{pos}
-use lib.ListN.{length, length-map, drop}
+use lib.ListN.{length, length-map}
 use Rattle.lines.specs.Lines.{fields}
 use Rattle.writing.proofs.Writing.{field_length, all_written}
 use Rattle.writing.proofs.Numbers.{widened_fits, widened}
 use native.Mathlib.Omega.{arith}
-use borrow.Author.Rules.{rules}
 use Rattle.writing.proofs.numbers_length.Goals as goal
 
 pub loop-i-init : goal.loop-i-init

@@ -1,13 +1,9 @@
-use mathlib.Core.Path.{◌≡◌, ap}
+use mathlib.Core.Path.{◌≡◌}
 use mathlib.Core.List.{map}
 use Prim.Native.Nat.{◌+◌, ◌-◌, ◌*◌, ◌≤◌}
 use lib.IntN.{pos}
-use lib.ListN.{length, length-map, drop}
+use lib.ListN.{length, drop}
 use Rattle.lines.specs.Lines.{fields}
-use Rattle.writing.proofs.Writing.{field_length, all_written}
-use Rattle.writing.proofs.Numbers.{widened_fits, widened}
-use native.Mathlib.Omega.{arith}
-use borrow.Author.Rules.{rules}
 use Rattle.writing.proofs.numbers_length.Given as goal
 
 abbrev pub invariant-loop-i : goal.invariant-loop-i

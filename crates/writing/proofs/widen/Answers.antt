@@ -1,12 +1,10 @@
 -- `widen` meets its contract.
 use mathlib.Core.List.{map}
-use Prim.Native.Nat.{◌-◌}
 use lib.IntN.{pos}
-use lib.ListN.{length, length-map}
-use Rattle.lines.proofs.Storing.{Stored, none_stored, stored_length, stored, all_stored}
+use lib.ListN.{length-map}
+use Rattle.lines.proofs.Storing.{none_stored, stored_length, stored, all_stored}
 use Rattle.writing.proofs.Numbers.{widened_fits, widened}
 use native.Mathlib.Omega.{arith}
-use borrow.Author.Rules.{rules}
 use Rattle.writing.proofs.widen.Goals as goal
 
 pub loop-i-init : goal.loop-i-init

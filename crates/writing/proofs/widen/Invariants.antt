@@ -1,11 +1,8 @@
 use mathlib.Core.List.{map}
 use Prim.Native.Nat.{◌-◌}
 use lib.IntN.{pos}
-use lib.ListN.{length, length-map}
-use Rattle.lines.proofs.Storing.{Stored, none_stored, stored_length, stored, all_stored}
-use Rattle.writing.proofs.Numbers.{widened_fits, widened}
-use native.Mathlib.Omega.{arith}
-use borrow.Author.Rules.{rules}
+use lib.ListN.{length}
+use Rattle.lines.proofs.Storing.{Stored}
 use Rattle.writing.proofs.widen.Given as goal
 
 abbrev pub invariant-loop-i : goal.invariant-loop-i

@@ -1,7 +1,5 @@
 -- `write_bytes` meets its contract: what is left of the bytes goes on being written.
 use mathlib.Core.Path.{subst}
-use Prim.Native.Nat.{◌-◌, ◌≤◌}
-use lib.ListN.{length, drop}
 use Rattle.writing.proofs.Writing.{Onward, onward_start, onward_end, byte_fits, byte_written, all_written}
 use native.Mathlib.Omega.{arith}
 use borrow.Author.Rules.{rules}

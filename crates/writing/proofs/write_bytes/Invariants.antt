@@ -1,9 +1,6 @@
-use mathlib.Core.Path.{subst}
 use Prim.Native.Nat.{◌-◌, ◌≤◌}
 use lib.ListN.{length, drop}
-use Rattle.writing.proofs.Writing.{Onward, onward_start, onward_end, byte_fits, byte_written, all_written}
-use native.Mathlib.Omega.{arith}
-use borrow.Author.Rules.{rules}
+use Rattle.writing.proofs.Writing.{Onward}
 use Rattle.writing.proofs.write_bytes.Given as goal
 
 abbrev pub invariant-loop-i : goal.invariant-loop-i

@@ -1,11 +1,10 @@
 -- `write_fields` meets its contract: what is left of the fields goes on being written.
 use mathlib.Core.Path.{subst, ap}
-use Prim.Native.Nat.{◌-◌, ◌≤◌}
 use mir.Syntax.{w64}
 use mir.Val.{SFits}
 use mir.ValLaws.{to_z-of_z}
 use lib.IntN.{pos}
-use lib.ListN.{length, drop, get_or, length-set}
+use lib.ListN.{get_or, length-set}
 use Rattle.lines.specs.Lines.{fields}
 use Rattle.writing.proofs.Writing.{Onward, onward_start, onward_end, field_fits, field_written, all_written}
 use native.Mathlib.Omega.{arith}

@@ -1,14 +1,7 @@
-use mathlib.Core.Path.{subst, ap}
 use Prim.Native.Nat.{◌-◌, ◌≤◌}
-use mir.Syntax.{w64}
-use mir.Val.{SFits}
-use mir.ValLaws.{to_z-of_z}
-use lib.IntN.{pos}
-use lib.ListN.{length, drop, get_or, length-set}
+use lib.ListN.{length, drop}
 use Rattle.lines.specs.Lines.{fields}
-use Rattle.writing.proofs.Writing.{Onward, onward_start, onward_end, field_fits, field_written, all_written}
-use native.Mathlib.Omega.{arith}
-use borrow.Author.Rules.{rules}
+use Rattle.writing.proofs.Writing.{Onward}
 use Rattle.writing.proofs.write_fields.Given as goal
 
 abbrev pub invariant-loop-i : goal.invariant-loop-i

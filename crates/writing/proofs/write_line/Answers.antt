@@ -1,6 +1,5 @@
 -- `write_line` meets its contract: the word, the fields, one newline.
 use Rattle.writing.proofs.Writing.{word_fits, numbers_fit, newline_fits, line_written}
-use borrow.Author.Rules.{rules}
 use Rattle.writing.proofs.write_line.Goals as goal
 
 pub write_bytes-word-requires : goal.write_bytes-word-requires
