@@ -1,6 +1,6 @@
 -- What an answer says of the lines at a place.
 use mathlib.Core.Path.{◌≡◌, refl, sym, ◌∙◌, ap}
-use mathlib.Core.List.{List, [], ◌∷◌, map, append-nil}
+use mathlib.Core.List.{List, map, append-nil}
 use Prim.Native.Nat.{ℕ, ◌+◌}
 use native.Mathlib.Omega.{arith}
 use lib.IntN.{pos}

@@ -12,7 +12,7 @@ use Rattle.refusal.specs.declared.Refusal.{Refusal}
 use Rattle.refusal.specs.declared.Verdict.TheVariants as verdict
 use Rattle.refusal.proofs.Laws.{verdicts, first_one, refused_one, refused_passes}
 use Rattle.surface.specs.Rows.{Row, row}
-use Rattle.record.specs.Layout.{width, record_at}
+use Rattle.record.specs.Layout.{record_at}
 use Rattle.record.specs.declared.Record.{Record}
 use Rattle.record.specs.Meant.{meant}
 use Rattle.lines.specs.Lines.{line}

@@ -1,17 +1,15 @@
 -- One by one the records are those of the whole reading, and then comes the end.
 use mathlib.Core.Path.{◌≡◌, refl, sym, ◌∙◌, ap, subst}
 use mathlib.Core.List.{List, [], ◌∷◌, ◌++◌, append_assoc, append-nil, map}
-use Prim.Native.Nat.{ℕ, zero, suc, ◌+◌, ◌*◌, ◌≤◌, ◌<◌}
+use Prim.Native.Nat.{ℕ, zero, suc, ◌+◌, ◌*◌, ◌<◌}
 use native.Mathlib.Omega.{arith}
 use lib.IntN.{pos}
-use lib.ListN.{length, length-append, take, drop, get_or, length-drop, take-append-drop}
+use lib.ListN.{length, take, drop, get_or, length-drop, take-append-drop}
 use lib.Seq.{length-take-le, get_or-take, drop-drop, drop_at}
 use Rattle.follow.specs.Leads.{Leads, no_step, one_step}
 use Rattle.surface.specs.Rows.{row}
-use Rattle.surface.specs.Record as surface
 use Rattle.record.specs.Layout.{width, count, record_at, first_records, records}
 use Rattle.record.specs.declared.Record.{Record}
-use Rattle.record.specs.Meant.{meant}
 use Rattle.lines.specs.Lines.{line, lines, FewDigits}
 use Rattle.lines.specs.Kinds.{K, record_lines}
 use Rattle.lines.proofs.Cut.{map_take, map_drop, short_left, short_right}

@@ -9,7 +9,6 @@ use mir.Syntax.{w64}
 use mir.Val.{SFits, to_z}
 use mir.ValLaws.{to_z-of_z}
 use Rattle.refusal.specs.declared.Refusal.TheVariants.{CountsOutside, RoomShort}
-use Rattle.refusal.specs.declared.Verdict.TheVariants as verdict
 use Rattle.refusal.proofs.Laws.{verdicts, given_first, passes_none, none_yet, ◌nor◌}
 use Rattle.record.specs.Layout.{width, count}
 use Rattle.text.specs.InnerReading.{Written}

@@ -16,7 +16,7 @@ use Rattle.refusal.specs.declared.Verdict.TheVariants as verdict
 use Rattle.refusal.specs.First.{First}
 use Rattle.refusal.proofs.Laws.{verdicts, rest_decides, passes_none, refused_before, all_nor, none_yet}
 use Rattle.faults.specs.Counts.{corners}
-use Rattle.record.specs.Layout.{width, count}
+use Rattle.record.specs.Layout.{width}
 use Rattle.least.specs.declared.Bound.{Bound}
 use Rattle.thin.specs.declared.Asked.{Asked}
 use Rattle.thin.specs.declared.Asked.TheVariants.{Under}

@@ -17,7 +17,7 @@ use Rattle.regrow.specs.declared.Regrown.{Regrown}
 use Rattle.regrow.specs.declared.Regrown.TheVariants as following
 use Rattle.replay.specs.Outcome.{replaying}
 use Rattle.recover.specs.declared.Recovered.{Recovered}
-use Rattle.recover.specs.declared.Recovered.TheVariants.{Done, Stopped, Refused}
+use Rattle.recover.specs.declared.Recovered.TheVariants.{Done, Stopped}
 
 -- how many records were done
 abbrev pub done_in_lem : Regrown → ℕ

@@ -5,7 +5,6 @@ use mathlib.Core.List.{List, [], ◌∷◌, ◌++◌}
 use Prim.Native.Nat.{ℕ}
 use lib.IntN.{ℤ, pos}
 use lib.ListN.{length, drop}
-use Rattle.surface.specs.Rows.{rows}
 use Rattle.refusal.specs.First.{First}
 use Rattle.refusal.specs.Told as answers
 use Rattle.refusal.specs.declared.Refusal.{Refusal}

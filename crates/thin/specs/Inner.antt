@@ -4,7 +4,6 @@ use Rattle.surface.specs.Rows.{rows}
 use Rattle.corners.specs.Skin.{Skin}
 use Rattle.refusal.specs.declared.Verdict.{Verdict}
 use Rattle.refusal.specs.declared.Verdict.TheVariants.{Passes}
-use Rattle.refusal.specs.declared.Verdict.TheVariants as verdict
 use Rattle.refusal.specs.First.{First}
 use Rattle.faults.specs.Counts.{CountsFitAt, corners}
 use Rattle.length.specs.Limit.{most_limit}

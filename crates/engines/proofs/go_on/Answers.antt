@@ -1,8 +1,5 @@
 -- Each engine leaves its own run; the quick one's is the plain one's.
 use Rattle.engines.proofs.Same.{quick_as_plain, free}
-use borrow.Author.Rules.{rules}
-use Rattle.engine.proofs.go_on.Reads as go-on-reads
-use Rattle.quick.proofs.go_on.Reads as go-on-reads'
 use Rattle.engines.proofs.go_on.Goals as goal
 
 pub returns-in-Free : goal.returns-in-Free

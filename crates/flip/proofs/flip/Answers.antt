@@ -3,7 +3,6 @@ use Prim.Native.Nat.{◌<◌}
 use mathlib.Core.Path.{refl}
 use Rattle.flip.proofs.Flipping.{stage_chains, edge_missing, reverse_found, edge_blocked, flip_logs, slot_inside, place_inside, found_as, first_small, third_small, new_fits}
 use native.Mathlib.Omega.{arith}
-use borrow.Author.Rules.{rules}
 use Rattle.flip.proofs.flip.Goals as goal
 
 pub slot_of-x-requires : goal.slot_of-x-requires
@@ -107,12 +106,12 @@ put_rows-requires c =
     let some : 0 < slot_of.result = omega (arith, if1.false) in
     let more = reverse_found pre.charted slot_of.ensures some slot-of2.ensures in
     let q = new_fits _ _ _ (record { first = row_at.result; second = row-at2.result }) args.a args.b third_of.result third-of2.result new_rows_lem.ensures
-          (rw row_at.ensures.place (place_inside t k.whole slot_of.ensures some))
-          (rw row-at2.ensures.place (place_inside t k.whole slot-of2.ensures more))
-          (first_small t k.whole slot_of.ensures some k.under)
-          (first_small t k.whole slot-of2.ensures more k.under)
-          (rw third_of.ensures (third_small t k.whole slot_of.ensures some k.under))
-          (rw third-of2.ensures (third_small t k.whole slot-of2.ensures more k.under)) in
+    (rw row_at.ensures.place (place_inside t k.whole slot_of.ensures some))
+    (rw row-at2.ensures.place (place_inside t k.whole slot-of2.ensures more))
+    (first_small t k.whole slot_of.ensures some k.under)
+    (first_small t k.whole slot-of2.ensures more k.under)
+    (rw third_of.ensures (third_small t k.whole slot_of.ensures some k.under))
+    (rw third-of2.ensures (third_small t k.whole slot-of2.ensures more k.under)) in
     record { in_chains = k; place_in_bounds = q.0; place_in_bounds_2 = q.1 }
 
 pub returns : goal.returns

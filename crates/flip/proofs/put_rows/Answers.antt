@@ -1,7 +1,6 @@
 -- `put_rows` meets its contract.
 use Rattle.flip.proofs.Rowwise.{inside, put_two}
 use native.Mathlib.Omega.{arith}
-use borrow.Author.Rules.{rules}
 use Rattle.flip.proofs.put_rows.Goals as goal
 
 pub put_row-requires : goal.put_row-requires

@@ -5,7 +5,6 @@ use lib.ListN.{get_or}
 use Rattle.slots.specs.Slot.{next_slot}
 use mathlib.Core.Path.{◌∙◌, ap}
 use native.Mathlib.Omega.{arith}
-use borrow.Author.Rules.{rules}
 use Rattle.flip.proofs.third_of.Goals as goal
 
 pub next-requires-2 : goal.next-requires-2

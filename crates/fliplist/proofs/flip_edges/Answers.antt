@@ -1,16 +1,10 @@
 -- `flip_edges` meets its contract.
-use mathlib.Core.Path.{◌≡◌}
-use Prim.Native.Nat.{◌-◌, ◌/◌}
-use lib.ListN.{length}
 use Rattle.surface.specs.Limits.{most_corners}
-use Rattle.slots.specs.Slot.{most_slots}
 use Rattle.slots.proofs.Marks.{no_mark}
 use Rattle.slots.proofs.Slots.{under_more}
 use Rattle.slots.proofs.Staged.{table_whole, table_under}
-use Rattle.fliplist.specs.Inner.{FlipReady}
-use Rattle.fliplist.proofs.Going.{Going, going_none, charted, same_log, done_all, room_left, next_stops, next_flips}
+use Rattle.fliplist.proofs.Going.{going_none, charted, same_log, done_all, room_left, next_stops, next_flips}
 use native.Mathlib.Omega.{arith}
-use borrow.Author.Rules.{rules}
 use mathlib.Core.Path.{◌∙◌}
 use Rattle.fliplist.proofs.flip_edges.Goals as goal
 

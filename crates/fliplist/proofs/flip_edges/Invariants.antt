@@ -3,13 +3,8 @@ use Prim.Native.Nat.{◌-◌, ◌/◌}
 use lib.ListN.{length}
 use Rattle.surface.specs.Limits.{most_corners}
 use Rattle.slots.specs.Slot.{most_slots}
-use Rattle.slots.proofs.Marks.{no_mark}
-use Rattle.slots.proofs.Slots.{under_more}
-use Rattle.slots.proofs.Staged.{table_whole, table_under}
 use Rattle.fliplist.specs.Inner.{FlipReady}
-use Rattle.fliplist.proofs.Going.{Going, going_none, charted, same_log, done_all, room_left, next_stops, next_flips}
-use native.Mathlib.Omega.{arith}
-use borrow.Author.Rules.{rules}
+use Rattle.fliplist.proofs.Going.{Going}
 use Rattle.fliplist.proofs.flip_edges.Given as goal
 
 abbrev pub invariant-loop-done : goal.invariant-loop-done

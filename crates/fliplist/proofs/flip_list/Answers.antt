@@ -1,7 +1,6 @@
 -- `flip_list` meets its contract.
 use mathlib.Core.Path.{refl}
 use Rattle.follow.specs.Follow.{refused, followed}
-use borrow.Author.Rules.{rules}
 use Rattle.fliplist.proofs.flip_list.Goals as goal
 
 pub flip_edges-requires : goal.flip_edges-requires

@@ -1,8 +1,6 @@
 -- `judge` meets its contract.
-use borrow.Author.Tests.{not-true, not-false}
 use Rattle.fliplist.proofs.Judging.{judge_2, judge_3, judge_on}
 use native.Mathlib.Omega.{arith}
-use borrow.Author.Rules.{rules}
 use Rattle.fliplist.proofs.judge.Goals as goal
 
 pub returns-then-not-list_fits : goal.returns-then-not-list_fits

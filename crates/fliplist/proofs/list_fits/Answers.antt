@@ -1,7 +1,5 @@
 -- `list_fits` meets its contract.
-use borrow.Author.Tests.{not-true, not-false}
 use Rattle.refusal.proofs.Tells.{tells_true, tells_false}
-use borrow.Author.Rules.{rules}
 use Rattle.fliplist.proofs.list_fits.Goals as goal
 
 pub returns-then-not-counts_fit : goal.returns-then-not-counts_fit

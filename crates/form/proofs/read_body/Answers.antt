@@ -3,7 +3,6 @@ use Rattle.refusal.proofs.Tells.{tells_true, tells_false}
 use Rattle.lines.specs.Inner.{ReadInto}
 use Rattle.form.proofs.Lower.{no_corners, no_rows, more_follows, body_read, some_left, none_left}
 use native.Mathlib.Omega.{arith}
-use borrow.Author.Rules.{rules}
 use Rattle.form.proofs.read_body.Goals as goal
 
 pub coordinate_lines-corners-requires : goal.coordinate_lines-corners-requires

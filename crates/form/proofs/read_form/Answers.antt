@@ -1,9 +1,7 @@
 -- `read_form` meets its contract.
-use borrow.Author.Tests.{not-true, not-false}
 use Rattle.heading.specs.Inner.{ReadFirst}
 use Rattle.form.specs.Inner.{ReadForm}
 use Rattle.form.proofs.Formed.{too_long, no_first_line, refuse_counts, refuse_lines, form_read}
-use borrow.Author.Rules.{rules}
 use Rattle.form.proofs.read_form.Goals as goal
 
 pub returns-then-bytes-gt-MOST_BYTES : goal.returns-then-bytes-gt-MOST_BYTES

@@ -1,8 +1,6 @@
 -- `grow_fits` meets its contract.
-use borrow.Author.Tests.{not-true, not-false}
 use Rattle.refusal.proofs.Tells.{tells_true, tells_false}
 use native.Mathlib.Omega.{arith}
-use borrow.Author.Rules.{rules}
 use Rattle.growable.proofs.grow_fits.Goals as goal
 
 pub returns-then-not-rows_fit : goal.returns-then-not-rows_fit

@@ -1,10 +1,8 @@
 -- `judge` meets its contract.
 use mathlib.Core.Path.{sym}
-use borrow.Author.Tests.{not-true, not-false}
 use lib.Seq.{length-take-le}
 use Rattle.growable.proofs.Judging.{judge_2, judge_3, judge_on}
 use native.Mathlib.Omega.{arith}
-use borrow.Author.Rules.{rules}
 use Rattle.growable.proofs.judge.Goals as goal
 
 pub returns-then-not-grow_fits : goal.returns-then-not-grow_fits

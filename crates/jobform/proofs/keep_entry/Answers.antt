@@ -6,7 +6,6 @@ use mir.ValLaws.{to_z-of_z}
 use Rattle.ints.proofs.Machine.{sfits_abs}
 use Rattle.jobform.specs.Inner.{kept_name_lem}
 use Rattle.jobform.proofs.Keeping.{keep_here, keep_past}
-use borrow.Author.Rules.{rules}
 use Rattle.jobform.proofs.keep_entry.Goals as goal
 
 pub returns-then-i-lt-MOST_ENTRIES : goal.returns-then-i-lt-MOST_ENTRIES

@@ -1,6 +1,5 @@
 -- `kept_name` meets its contract.
 use native.Mathlib.Omega.{arith}
-use borrow.Author.Rules.{rules}
 use Rattle.jobform.proofs.kept_name.Goals as goal
 
 pub overflow_add-result : goal.overflow_add-result

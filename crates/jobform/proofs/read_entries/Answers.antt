@@ -1,9 +1,7 @@
 -- `read_entries` meets its contract.
-use Prim.Native.Nat.{◌-◌}
-use lib.ListN.{length}
 use Rattle.jobform.specs.Inner.{ReadEntry, ReadEntries}
 use Rattle.jobform.proofs.Reading.{keepable}
-use Rattle.jobform.proofs.Keeping.{Reading, reading_start, few_entries, nearer, reading_next, other_stands, all_read}
+use Rattle.jobform.proofs.Keeping.{reading_start, few_entries, nearer, reading_next, other_stands, all_read}
 use borrow.Author.Rules.{rules}
 use Rattle.jobform.proofs.read_entries.Goals as goal
 

@@ -1,9 +1,6 @@
 use Prim.Native.Nat.{◌-◌}
 use lib.ListN.{length}
-use Rattle.jobform.specs.Inner.{ReadEntry, ReadEntries}
-use Rattle.jobform.proofs.Reading.{keepable}
-use Rattle.jobform.proofs.Keeping.{Reading, reading_start, few_entries, nearer, reading_next, other_stands, all_read}
-use borrow.Author.Rules.{rules}
+use Rattle.jobform.proofs.Keeping.{Reading}
 use Rattle.jobform.proofs.read_entries.Given as goal
 
 abbrev pub invariant-loop-k : goal.invariant-loop-k

@@ -8,7 +8,6 @@ use Rattle.lines.specs.Inner.{ReadField}
 use Rattle.jobform.specs.Inner.{ReadLetter, ReadName, ReadEntry}
 use Rattle.jobform.proofs.Parts.{no_word, no_letter, no_name, no_sum, no_end, whole_line}
 use native.Mathlib.Omega.{arith}
-use borrow.Author.Rules.{rules}
 use Rattle.jobform.proofs.read_entry.Goals as goal
 
 pub returns-in_default : goal.returns-in_default

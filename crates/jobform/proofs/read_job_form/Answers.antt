@@ -2,7 +2,6 @@
 use Rattle.lines.specs.Inner.{ReadInto}
 use Rattle.jobform.specs.Inner.{ReadEntries, ReadJob, too_long}
 use Rattle.jobform.proofs.Forming.{one_count, count_fits, no_first, no_entries, another_count, job_read}
-use borrow.Author.Rules.{rules}
 use Rattle.jobform.proofs.read_job_form.Goals as goal
 
 pub returns-then-bytes-gt-MOST_JOB_BYTES : goal.returns-then-bytes-gt-MOST_JOB_BYTES

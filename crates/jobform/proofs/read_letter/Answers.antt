@@ -3,7 +3,6 @@ use Rattle.text.specs.InnerReading.{Expected}
 use Rattle.jobform.specs.Inner.{ReadLetter}
 use Rattle.jobform.proofs.Reading.{untabbed_letter, letter_past, other_letter, letter_here}
 use native.Mathlib.Omega.{arith}
-use borrow.Author.Rules.{rules}
 use Rattle.jobform.proofs.read_letter.Goals as goal
 
 pub returns-in_default : goal.returns-in_default

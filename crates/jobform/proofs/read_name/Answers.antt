@@ -3,7 +3,6 @@ use Rattle.text.specs.InnerReading.{ReadNumber, Expected}
 use Rattle.jobform.specs.Inner.{ReadName}
 use Rattle.jobform.proofs.Parts.{number_name}
 use Rattle.jobform.proofs.Reading.{untabbed_name, none_named, no_name_there, name_fits}
-use borrow.Author.Rules.{rules}
 use Rattle.jobform.proofs.read_name.Goals as goal
 
 pub returns-in_default : goal.returns-in_default

@@ -3,7 +3,6 @@ use mathlib.Core.Path.{sym}
 use lib.Seq.{length-take-le}
 use Rattle.logcut.specs.Inner.{ReadCut}
 use Rattle.logcut.proofs.Reading.{cut_long, cut_refused, cut_counts, cut_kept}
-use borrow.Author.Rules.{rules}
 use Rattle.logcut.proofs.read_cut.Goals as goal
 
 pub returns-then-bytes-gt-MOST_LOG_BYTES : goal.returns-then-bytes-gt-MOST_LOG_BYTES

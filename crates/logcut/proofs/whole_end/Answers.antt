@@ -1,9 +1,7 @@
 -- `whole_end` meets its contract: it looks for the last newline from the end.
 use mathlib.Core.Path.{◌≡◌}
-use Rattle.logcut.specs.Inner.{NoneAfter}
 use Rattle.logcut.proofs.Ending.{none_after_end, none_there, newline_there, other_there}
 use native.Mathlib.Omega.{arith}
-use borrow.Author.Rules.{rules}
 use Rattle.logcut.proofs.whole_end.Goals as goal
 
 pub loop-end-init : goal.loop-end-init

@@ -1,8 +1,4 @@
-use mathlib.Core.Path.{◌≡◌}
 use Rattle.logcut.specs.Inner.{NoneAfter}
-use Rattle.logcut.proofs.Ending.{none_after_end, none_there, newline_there, other_there}
-use native.Mathlib.Omega.{arith}
-use borrow.Author.Rules.{rules}
 use Rattle.logcut.proofs.whole_end.Given as goal
 
 abbrev pub invariant-loop-end : goal.invariant-loop-end

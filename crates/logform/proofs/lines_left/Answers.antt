@@ -1,8 +1,6 @@
 -- `lines_left` meets its contract.
-use Prim.Native.Nat.{◌-◌}
-use lib.ListN.{length}
 use Rattle.logform.specs.Inner.{PassedOver, WhatIsLeft}
-use Rattle.logform.proofs.Passing.{Passing, passing_start, few_lines, nearer, passing_next, other_stands, all_passed}
+use Rattle.logform.proofs.Passing.{passing_start, few_lines, nearer, passing_next, other_stands, all_passed}
 use borrow.Author.Rules.{rules}
 use Rattle.logform.proofs.lines_left.Goals as goal
 

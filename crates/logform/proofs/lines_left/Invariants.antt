@@ -1,8 +1,6 @@
 use Prim.Native.Nat.{◌-◌}
 use lib.ListN.{length}
-use Rattle.logform.specs.Inner.{PassedOver, WhatIsLeft}
-use Rattle.logform.proofs.Passing.{Passing, passing_start, few_lines, nearer, passing_next, other_stands, all_passed}
-use borrow.Author.Rules.{rules}
+use Rattle.logform.proofs.Passing.{Passing}
 use Rattle.logform.proofs.lines_left.Given as goal
 
 abbrev pub invariant-loop-k : goal.invariant-loop-k

@@ -1,7 +1,6 @@
 -- `pass_line` meets its contract.
 use Rattle.logform.proofs.Passing.{passed_over}
 use native.Mathlib.Omega.{arith}
-use borrow.Author.Rules.{rules}
 use Rattle.logform.proofs.pass_line.Goals as goal
 
 pub number_line-requires : goal.number_line-requires

@@ -2,7 +2,6 @@
 use Rattle.heading.specs.Inner.{ReadFirst}
 use Rattle.logform.specs.Inner.{WhatIsLeft, too_long, ReadLogForm}
 use Rattle.logform.proofs.Forming.{no_first, no_records, log_form}
-use borrow.Author.Rules.{rules}
 use Rattle.logform.proofs.read_log_form.Goals as goal
 
 pub returns-then-bytes-gt-MOST_LOG_BYTES : goal.returns-then-bytes-gt-MOST_LOG_BYTES

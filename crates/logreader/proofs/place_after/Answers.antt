@@ -1,5 +1,4 @@
 -- `place_after` meets its contract.
-use borrow.Author.Rules.{rules}
 use Rattle.logreader.proofs.place_after.Goals as goal
 
 pub returns-in-Found : goal.returns-in-Found

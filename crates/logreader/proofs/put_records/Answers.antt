@@ -1,15 +1,13 @@
 -- `put_records` meets its contract.
-use Prim.Native.Nat.{◌-◌}
 use lib.IntN.{pos}
 use Rattle.record.specs.Layout.{width}
 use Rattle.lines.specs.Inner.{ReadInto}
 use Rattle.lines.specs.Kinds.{K}
 use Rattle.lines.proofs.Turns.{put_length}
-use Rattle.reading.proofs.Lining.{Lined, lines_start, line_room, lines_next, lines_stop, lines_end}
+use Rattle.reading.proofs.Lining.{lines_start, line_room, lines_next, lines_stop, lines_end}
 use Rattle.heading.specs.Heading.{most_digits}
 use Rattle.logreader.proofs.Asking.{found_line, numbers_put, no_line}
 use native.Mathlib.Omega.{arith}
-use borrow.Author.Rules.{rules}
 use Rattle.logreader.proofs.put_records.Goals as goal
 
 pub loop-i-init : goal.loop-i-init

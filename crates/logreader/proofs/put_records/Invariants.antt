@@ -1,14 +1,9 @@
 use Prim.Native.Nat.{◌-◌}
 use lib.IntN.{pos}
 use Rattle.record.specs.Layout.{width}
-use Rattle.lines.specs.Inner.{ReadInto}
 use Rattle.lines.specs.Kinds.{K}
-use Rattle.lines.proofs.Turns.{put_length}
-use Rattle.reading.proofs.Lining.{Lined, lines_start, line_room, lines_next, lines_stop, lines_end}
+use Rattle.reading.proofs.Lining.{Lined}
 use Rattle.heading.specs.Heading.{most_digits}
-use Rattle.logreader.proofs.Asking.{found_line, numbers_put, no_line}
-use native.Mathlib.Omega.{arith}
-use borrow.Author.Rules.{rules}
 use Rattle.logreader.proofs.put_records.Given as goal
 
 abbrev pub invariant-loop-i : goal.invariant-loop-i

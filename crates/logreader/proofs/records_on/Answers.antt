@@ -1,8 +1,6 @@
 -- `records_on` meets its contract.
-use Prim.Native.Nat.{◌-◌}
-use lib.ListN.{length}
 use Rattle.logform.specs.Inner.{WhatIsLeft}
-use Rattle.logform.proofs.Passing.{Passing, passing_start, few_lines, nearer, passing_next, other_stands, all_passed}
+use Rattle.logform.proofs.Passing.{passing_start, few_lines, nearer, passing_next, other_stands, all_passed}
 use Rattle.logreader.proofs.Asking.{found_line, no_line}
 use borrow.Author.Rules.{rules}
 use Rattle.logreader.proofs.records_on.Goals as goal

@@ -1,9 +1,6 @@
 use Prim.Native.Nat.{◌-◌}
 use lib.ListN.{length}
-use Rattle.logform.specs.Inner.{WhatIsLeft}
-use Rattle.logform.proofs.Passing.{Passing, passing_start, few_lines, nearer, passing_next, other_stands, all_passed}
-use Rattle.logreader.proofs.Asking.{found_line, no_line}
-use borrow.Author.Rules.{rules}
+use Rattle.logform.proofs.Passing.{Passing}
 use Rattle.logreader.proofs.records_on.Given as goal
 
 abbrev pub invariant-loop-k : goal.invariant-loop-k

@@ -4,7 +4,6 @@ use Rattle.lines.specs.Inner.{ReadInto}
 use Rattle.logrecords.specs.Outcome.{ended}
 use Rattle.logrecords.proofs.Standing.{no_record, record_found}
 use native.Mathlib.Omega.{arith}
-use borrow.Author.Rules.{rules}
 use Rattle.logrecords.proofs.next_record.Goals as goal
 
 pub returns-then-bytes-at : goal.returns-then-bytes-at

@@ -1,10 +1,8 @@
 -- `open_log_sheet` meets its contract.
 use mathlib.Core.Path.{refl}
-use borrow.Author.Tests.{not-true, not-false}
 use Rattle.heading.specs.Inner.{ReadFirst}
 use Rattle.logrecords.specs.Outcome.{unopened}
 use Rattle.logrecords.proofs.Opening.{too_long, no_first, counts_out, opened_at}
-use borrow.Author.Rules.{rules}
 use Rattle.logrecords.proofs.open_log_sheet.Goals as goal
 
 pub returns-then-bytes-gt-MOST_LOG_BYTES : goal.returns-then-bytes-gt-MOST_LOG_BYTES

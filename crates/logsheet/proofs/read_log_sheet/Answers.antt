@@ -1,6 +1,5 @@
 -- `read_log_sheet` meets its contract.
 use mathlib.Core.Path.{refl}
-use borrow.Author.Tests.{not-true, not-false}
 use Rattle.logform.specs.Inner.{ReadLogForm}
 use Rattle.logsheet.specs.Outcome.{refused}
 use Rattle.logsheet.proofs.Reading.{bad_form, counts_out, few_numbers, room_short, read_done}

@@ -1,10 +1,7 @@
 -- `short` meets its contract.
-use Prim.Native.Nat.{◌-◌, ◌≤◌}
-use lib.ListN.{length}
 use Rattle.refusal.proofs.Tells.{tells_true, tells_false}
-use Rattle.logsheet.proofs.Shortness.{ShortTo, short_none, short_next, long_there, short_all}
+use Rattle.logsheet.proofs.Shortness.{short_none, short_next, long_there, short_all}
 use native.Mathlib.Omega.{arith}
-use borrow.Author.Rules.{rules}
 use Rattle.logsheet.proofs.short.Goals as goal
 
 pub loop-i-init : goal.loop-i-init

@@ -1,9 +1,6 @@
 use Prim.Native.Nat.{◌-◌, ◌≤◌}
 use lib.ListN.{length}
-use Rattle.refusal.proofs.Tells.{tells_true, tells_false}
-use Rattle.logsheet.proofs.Shortness.{ShortTo, short_none, short_next, long_there, short_all}
-use native.Mathlib.Omega.{arith}
-use borrow.Author.Rules.{rules}
+use Rattle.logsheet.proofs.Shortness.{ShortTo}
 use Rattle.logsheet.proofs.short.Given as goal
 
 abbrev pub invariant-loop-i : goal.invariant-loop-i

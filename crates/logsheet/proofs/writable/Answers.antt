@@ -1,7 +1,5 @@
 -- `writable` meets its contract.
-use borrow.Author.Tests.{not-true, not-false}
 use Rattle.refusal.proofs.Tells.{tells_false}
-use borrow.Author.Rules.{rules}
 use Rattle.logsheet.proofs.writable.Goals as goal
 
 pub returns-then-log-ne0 : goal.returns-then-log-ne0

@@ -1,6 +1,5 @@
 -- `write_log_sheet` meets its contract.
-use borrow.Author.Tests.{not-true, not-false}
-use Rattle.logsheet.proofs.Writing.{not_writable, corners_fit_lem, rows_fit, few_numbers, too_long, room_enough, first_fits, records_fit, log_written}
+use Rattle.logsheet.proofs.Writing.{not_writable, few_numbers, too_long, room_enough, first_fits, records_fit, log_written}
 use native.Mathlib.Omega.{arith}
 use borrow.Author.Rules.{rules}
 use Rattle.logsheet.proofs.write_log_sheet.Goals as goal

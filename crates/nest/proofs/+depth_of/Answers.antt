@@ -13,8 +13,7 @@ depth_of-requires t c =
 
 pub returns : goal.returns
 returns t c =
-    let h = c.requires.0 c.args.i c.requires.1 in
-    (
+    let h = c.requires.0 c.args.i c.requires.1 in (
       deep_below c.args.i c.args.names.now c.requires.0 c.requires.1 c.if-name-eq0.false c.depth_of.result c.depth_of.ensures.0,
       omega (arith, c.depth_of.ensures.1, c.if-name-eq0.false),
     )

@@ -8,7 +8,7 @@ pub hand_over-followed-requires : goal.hand_over-followed-requires
 hand_over-followed-requires c = can_hand_over c.requires
 
 pub overflow_mul-k : goal.overflow_mul-k
-overflow_mul-k c =     let h = rows_there c.requires (rw c.in-Done.is at c.hand_over-followed.ensures) in search rules
+overflow_mul-k c = let h = rows_there c.requires (rw c.in-Done.is at c.hand_over-followed.ensures) in search rules
 
 pub overflow_sub-rows : goal.overflow_sub-rows
 overflow_sub-rows c = rows_there c.requires (rw c.in-Done.is at c.hand_over-followed.ensures)

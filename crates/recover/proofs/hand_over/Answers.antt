@@ -6,7 +6,7 @@ use borrow.Author.Rules.{rules}
 use Rattle.recover.proofs.hand_over.Goals as goal
 
 pub overflow_mul-end : goal.overflow_mul-end
-overflow_mul-end c =     let h = numbers_kept c.requires c.replay_log-followed.ensures.reached c.done_in-end.result c.done_in-end.ensures in search rules
+overflow_mul-end c = let h = numbers_kept c.requires c.replay_log-followed.ensures.reached c.done_in-end.result c.done_in-end.ensures in search rules
 
 pub slice_bounds-copy_numbers-end : goal.slice_bounds-copy_numbers-end
 slice_bounds-copy_numbers-end c =

@@ -2,7 +2,6 @@
 use mathlib.Core.Path.{sym, ◌∙◌, ap}
 use Rattle.thin.specs.Order.{asked_by}
 use Rattle.thin.proofs.Engaged.{fair_limit}
-use borrow.Author.Rules.{rules}
 use Rattle.recover.proofs.recover.Goals as goal
 
 pub recover_as-requires-in-Limit : goal.recover_as-requires-in-Limit

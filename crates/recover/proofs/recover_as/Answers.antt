@@ -12,11 +12,11 @@ read_cut-cut-requires c = can_keep c.args.log.now c.args.bytes.now (rw c.in-Pass
 
 pub overflow_mul-end : goal.overflow_mul-end
 unfolding ReadCut
-overflow_mul-end c =     let h = few_kept c.args.log.now c.args.bytes.now (rw c.in-Passes.is at c.judge-v.ensures) (rw c.in-Kept.is at c.read_cut-cut.ensures) in search rules
+overflow_mul-end c = let h = few_kept c.args.log.now c.args.bytes.now (rw c.in-Passes.is at c.judge-v.ensures) (rw c.in-Kept.is at c.read_cut-cut.ensures) in search rules
 
 pub slice_bounds-kept-end : goal.slice_bounds-kept-end
 unfolding ReadCut
-slice_bounds-kept-end c =     let h = few_kept c.args.log.now c.args.bytes.now (rw c.in-Passes.is at c.judge-v.ensures) (rw c.in-Kept.is at c.read_cut-cut.ensures) in omega (arith, c.read_cut-cut.auto.room)
+slice_bounds-kept-end c = let h = few_kept c.args.log.now c.args.bytes.now (rw c.in-Passes.is at c.judge-v.ensures) (rw c.in-Kept.is at c.read_cut-cut.ensures) in omega (arith, c.read_cut-cut.auto.room)
 
 pub slice_bounds-follow_on-end : goal.slice_bounds-follow_on-end
 unfolding ReadCut
@@ -26,7 +26,7 @@ slice_bounds-follow_on-end c =
 
 pub follow_on-requires : goal.follow_on-requires
 unfolding ReadCut
-follow_on-requires c =     can_recover c.args.log.now c.args.bytes.now (rw c.in-Passes.is at c.judge-v.ensures) (rw c.in-Kept.is at c.read_cut-cut.ensures) c.in-Under.is c.requires
+follow_on-requires c = can_recover c.args.log.now c.args.bytes.now (rw c.in-Passes.is at c.judge-v.ensures) (rw c.in-Kept.is at c.read_cut-cut.ensures) c.in-Under.is c.requires
 
 pub returns-in-Refused : goal.returns-in-Refused
 returns-in-Refused c = thin_refused c.args.log.now c.args.bytes.now (rw c.in-Refused.is at c.judge-v.ensures)
@@ -40,4 +40,4 @@ returns-in-Refused-cut c = cut_refused c.args.log.now c.args.bytes.now (rw c.in-
 
 pub returns-in-Kept : goal.returns-in-Kept
 unfolding ReadCut
-returns-in-Kept c =     recovered c.args.log.now c.args.bytes.now (rw c.in-Passes.is at c.judge-v.ensures) (rw c.in-Kept.is at c.read_cut-cut.ensures) c.in-Under.is c.follow_on.ensures
+returns-in-Kept c = recovered c.args.log.now c.args.bytes.now (rw c.in-Passes.is at c.judge-v.ensures) (rw c.in-Kept.is at c.read_cut-cut.ensures) c.in-Under.is c.follow_on.ensures

@@ -1,9 +1,7 @@
 -- `accepts` meets its contract, test by test. The marks are as they came, or as `may_contract` left them.
-use borrow.Author.Tests.{not-true, not-false}
 use Rattle.refusal.proofs.Tells.{tells_false}
 use Rattle.redo.proofs.Accepting.{not_lower, not_below_lem, accepted, same_earlier, same_later}
 use native.Mathlib.Omega.{arith}
-use borrow.Author.Rules.{rules}
 use Rattle.redo.proofs.accepts.Goals as goal
 
 pub returns-then-r : goal.returns-then-r
@@ -52,8 +50,11 @@ returns-then-not-same_leaving c =
     let if3 = c.if-not-may_contract in
     let record_of = c.record_of-e in
     let lower = if1.false in
-    let may = meets.ensures.tells.when_true if3.false in record { tells = tells_false (λ a. same-leaving.ensures.when_false if4.true
-          (same_earlier args.t.now args.r (omega arith) may record_of.result record_of.ensures a)); unmarked_2 = meets.ensures.unmarked_2 }
+    let may = meets.ensures.tells.when_true if3.false in record {
+      tells = tells_false (λ a. same-leaving.ensures.when_false if4.true
+          (same_earlier args.t.now args.r (omega arith) may record_of.result record_of.ensures a));
+      unmarked_2 = meets.ensures.unmarked_2;
+    }
 
 pub returns : goal.returns
 returns c =
@@ -67,7 +68,10 @@ returns c =
     let same-leaving2 = c.same_leaving-2 in
     let lower = if1.false in
     let may = meets.ensures.tells.when_true if3.false in
-    let first = same-leaving.ensures.when_true if4.false in record { tells = record {
+    let first = same-leaving.ensures.when_true if4.false in record {
+      tells = record {
         when_true = λ e. accepted args.t.now args.r (omega arith) may record_of.result record_of.ensures first (same-leaving2.ensures.when_true e);
         when_false = λ e a. same-leaving2.ensures.when_false e (same_later args.t.now args.r (omega arith) may record_of.result record_of.ensures a);
-      }; unmarked_2 = meets.ensures.unmarked_2 }
+      };
+      unmarked_2 = meets.ensures.unmarked_2;
+    }

@@ -1,9 +1,7 @@
 -- `redo` meets its contract.
 use mathlib.Core.Path.{sym}
-use borrow.Author.Tests.{not-true, not-false}
 use lib.Seq.{length-take-le}
 use Rattle.redo.proofs.Redoing.{redo_done, redo_not}
-use borrow.Author.Rules.{rules}
 use Rattle.redo.proofs.redo.Goals as goal
 
 pub slice_bounds-accepts-end-2 : goal.slice_bounds-accepts-end-2

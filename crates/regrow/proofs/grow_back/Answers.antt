@@ -2,7 +2,6 @@
 use mathlib.Core.Path.{refl}
 use Rattle.follow.specs.Follow.{refused, followed}
 use Rattle.regrow.proofs.Ready.{grow_ready}
-use borrow.Author.Rules.{rules}
 use Rattle.regrow.proofs.grow_back.Goals as goal
 
 pub grow_log-requires : goal.grow_log-requires

@@ -1,11 +1,6 @@
 -- `grow_log` meets its contract: the records done are the last of the log.
 use mathlib.Core.Path.{◌∙◌}
-use Prim.Native.Nat.{◌-◌, ◌/◌}
-use borrow.Author.Tests.{not-true, not-false}
-use lib.ListN.{length}
-use Rattle.record.specs.Layout.{width}
-use Rattle.regrow.proofs.Undoing.{Undone, undone_none, table_stands, done_all, same, room_for_two, next_fails, next_done}
-use borrow.Author.Rules.{rules}
+use Rattle.regrow.proofs.Undoing.{undone_none, table_stands, done_all, same, room_for_two, next_fails, next_done}
 use Rattle.regrow.proofs.grow_log.Goals as goal
 
 pub loop-done-init : goal.loop-done-init

@@ -1,7 +1,6 @@
 -- `replay` meets its contract.
 use mathlib.Core.Path.{refl}
 use Rattle.follow.specs.Follow.{refused, followed}
-use borrow.Author.Rules.{rules}
 use Rattle.replay.proofs.replay.Goals as goal
 
 pub replay_log-requires : goal.replay_log-requires

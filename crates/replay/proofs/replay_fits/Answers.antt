@@ -1,9 +1,7 @@
 -- `replay_fits` meets its contract.
-use borrow.Author.Tests.{not-true, not-false}
 use Rattle.slots.proofs.Slots.{whole_rows}
 use Rattle.refusal.proofs.Tells.{tells_true, tells_false}
 use native.Mathlib.Omega.{arith}
-use borrow.Author.Rules.{rules}
 use Rattle.replay.proofs.replay_fits.Goals as goal
 
 pub returns-then-not-counts_fit : goal.returns-then-not-counts_fit

@@ -1,15 +1,8 @@
 -- `replay_log` meets its contract: the records done are the first of the log. The scratch is blank before each record.
-use mathlib.Core.Path.{◌≡◌, refl, sym, ◌∙◌}
-use Prim.Native.Nat.{◌-◌, ◌/◌}
-use borrow.Author.Tests.{not-true, not-false}
-use lib.ListN.{length}
-use Rattle.surface.specs.Limits.{most_corners}
-use Rattle.record.specs.Layout.{width}
-use Rattle.redo.specs.Redo.{Unmarked}
+use mathlib.Core.Path.{refl, sym, ◌∙◌}
 use Rattle.redo.proofs.Redoing.{unmarked_new}
-use Rattle.replay.proofs.Redoing.{Redone, redone_none, rows_there, rows_inside, table_stands, done_all, same, next_fails, next_done}
+use Rattle.replay.proofs.Redoing.{redone_none, rows_there, rows_inside, table_stands, done_all, same, next_fails, next_done}
 use native.Mathlib.Omega.{arith}
-use borrow.Author.Rules.{rules}
 use Rattle.replay.proofs.replay_log.Goals as goal
 
 pub loop-done-init : goal.loop-done-init

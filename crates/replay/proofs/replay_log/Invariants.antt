@@ -1,14 +1,10 @@
-use mathlib.Core.Path.{◌≡◌, refl, sym, ◌∙◌}
+use mathlib.Core.Path.{◌≡◌}
 use Prim.Native.Nat.{◌-◌, ◌/◌}
-use borrow.Author.Tests.{not-true, not-false}
 use lib.ListN.{length}
 use Rattle.surface.specs.Limits.{most_corners}
 use Rattle.record.specs.Layout.{width}
 use Rattle.redo.specs.Redo.{Unmarked}
-use Rattle.redo.proofs.Redoing.{unmarked_new}
-use Rattle.replay.proofs.Redoing.{Redone, redone_none, rows_there, rows_inside, table_stands, done_all, same, next_fails, next_done}
-use native.Mathlib.Omega.{arith}
-use borrow.Author.Rules.{rules}
+use Rattle.replay.proofs.Redoing.{Redone}
 use Rattle.replay.proofs.replay_log.Given as goal
 
 abbrev pub invariant-loop-done : goal.invariant-loop-done

@@ -1,6 +1,5 @@
 -- `deliver` meets its contract.
 use Rattle.sheet.proofs.Last.{no_table_room, no_corner_room, refused_skin, skin_put}
-use borrow.Author.Rules.{rules}
 use Rattle.sheet.proofs.deliver.Goals as goal
 
 pub returns-then-table-t : goal.returns-then-table-t

@@ -1,9 +1,7 @@
 -- `check_at` meets its contract.
-use borrow.Author.Tests.{not-true, not-false}
 use Rattle.faults.specs.Order.{refusals_at, refusals_after_counts}
 use Rattle.faults.proofs.Order.{refuse_at, rows_at}
 use Rattle.refusal.proofs.Laws.{none_yet, ◌nor◌}
-use borrow.Author.Rules.{rules}
 use Rattle.skin.proofs.check_at.Goals as goal
 
 pub returns-then-not-counts_fit_at : goal.returns-then-not-counts_fit_at

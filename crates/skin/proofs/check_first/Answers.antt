@@ -1,6 +1,5 @@
 -- `check_first` meets its contract.
 use Rattle.faults.proofs.Order.{first_at}
-use borrow.Author.Rules.{rules}
 use Rattle.skin.proofs.check_first.Goals as goal
 
 pub returns : goal.returns

@@ -1,7 +1,5 @@
 -- `check_stage` meets its contract.
-use borrow.Author.Tests.{not-true, not-false}
 use Rattle.faults.proofs.Order.{refuse_2, rows_told}
-use borrow.Author.Rules.{rules}
 use Rattle.skin.proofs.check_stage.Goals as goal
 
 pub returns-then-not-counts_fit : goal.returns-then-not-counts_fit

@@ -1,6 +1,5 @@
 -- `check_stage_at` meets its contract.
 use Rattle.faults.proofs.Order.{stage_at}
-use borrow.Author.Rules.{rules}
 use Rattle.skin.proofs.check_stage_at.Goals as goal
 
 pub returns : goal.returns

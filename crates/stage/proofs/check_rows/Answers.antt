@@ -1,19 +1,14 @@
 -- `check_rows` meets its contract.
-use mathlib.Core.Path.{◌≡◌}
-use mathlib.Core.Bool.{true}
 use Rattle.surface.specs.Limits.{most_corners}
 use Rattle.surface.specs.Rows.{rows}
-use Rattle.slots.specs.Slot.{Whole, Under}
 use Rattle.slots.proofs.Marks.{no_mark}
 use Rattle.numbers.proofs.Tests.{below_under}
-use Rattle.faults.specs.Words.{Below, Apart, EdgesOnce, Closed, AllUsed}
 use Rattle.faults.specs.Order.{row_refusals}
 use Rattle.faults.proofs.Opposites.{below_or_not, twice_or_apart, twice_or_once, many_or_one_ring}
 use Rattle.faults.proofs.Order.{refuse, refuse_9, past_9, pass}
 use Rattle.refusal.proofs.Laws.{none_yet, ◌nor◌}
 use Rattle.stage.proofs.Fits.{table_whole, table_some, under_most}
 use native.Mathlib.Omega.{arith}
-use borrow.Author.Rules.{rules}
 use Rattle.stage.proofs.check_rows.Goals as goal
 
 pub not_below-requires : goal.not_below-requires

@@ -1,6 +1,5 @@
 -- `first_unused` meets its contract.
 use Rattle.refusal.proofs.Tells.{tells_false, true_false}
-use borrow.Author.Rules.{rules}
 use Rattle.stage.proofs.first_unused.Goals as goal
 
 pub returns-then-first : goal.returns-then-first

@@ -1,7 +1,6 @@
 -- By the reading.
 use mathlib.Core.Path.{sym, ap}
 use Rattle.thin.specs.Order.{asked_by}
-use borrow.Author.Rules.{rules}
 use Rattle.thin.proofs.asked_of.Goals as goal
 
 pub returns-in-Whole : goal.returns-in-Whole

@@ -1,8 +1,6 @@
 -- Each refusal by the line of 01 that it answers; what passes is a skin.
-use borrow.Author.Tests.{not-true, not-false}
 use Rattle.thin.proofs.Judging.{judge_1, judge_2, judge_3, judge_on}
 use native.Mathlib.Omega.{arith}
-use borrow.Author.Rules.{rules}
 use Rattle.thin.proofs.judge.Goals as goal
 
 pub returns-then-no_use : goal.returns-then-no_use

@@ -1,7 +1,6 @@
 -- By what is asked.
 use Rattle.refusal.proofs.Tells.{tells_true, tells_false}
 use Rattle.thin.proofs.Judging.{under_usable}
-use borrow.Author.Rules.{rules}
 use Rattle.thin.proofs.no_use.Goals as goal
 
 pub returns-in-Under : goal.returns-in-Under

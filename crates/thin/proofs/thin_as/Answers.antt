@@ -2,7 +2,6 @@
 use mathlib.Core.Path.{refl}
 use lib.ListN.{length}
 use Rattle.thin.proofs.Engaged.{thin_ready, thin_measured, thin_done, thin_refused}
-use borrow.Author.Rules.{rules}
 use Rattle.thin.proofs.thin_as.Goals as goal
 
 pub go_on-requires : goal.go_on-requires

@@ -1,7 +1,5 @@
 -- `judge` meets its contract.
-use borrow.Author.Tests.{not-true, not-false}
 use Rattle.undoflips.proofs.Judging.{judge_2, judge_on}
-use borrow.Author.Rules.{rules}
 use Rattle.undoflips.proofs.judge.Goals as goal
 
 pub returns-then-not-undo_fits : goal.returns-then-not-undo_fits

@@ -1,7 +1,6 @@
 -- `undo_flips` meets its contract.
 use mathlib.Core.Path.{refl}
 use Rattle.follow.specs.Follow.{refused, followed}
-use borrow.Author.Rules.{rules}
 use Rattle.undoflips.proofs.undo_flips.Goals as goal
 
 pub undo_log-requires : goal.undo_log-requires

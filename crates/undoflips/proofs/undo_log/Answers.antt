@@ -1,17 +1,11 @@
 -- `undo_log` meets its contract.
-use mathlib.Core.Path.{◌≡◌, ◌∙◌}
-use Prim.Native.Nat.{◌-◌, ◌/◌}
-use lib.ListN.{length}
-use borrow.Author.Tests.{not-true, not-false}
+use mathlib.Core.Path.{◌∙◌}
 use Rattle.surface.specs.Limits.{most_corners}
-use Rattle.slots.specs.Slot.{most_slots}
 use Rattle.slots.proofs.Marks.{no_mark}
 use Rattle.slots.proofs.Slots.{under_more}
 use Rattle.slots.proofs.Staged.{table_whole, table_under}
-use Rattle.undoflips.proofs.Going.{Going, going_none, charted, done_all, next_fails, next_done}
-use Rattle.fliplog.specs.Layout.{width}
+use Rattle.undoflips.proofs.Going.{going_none, charted, done_all, next_fails, next_done}
 use native.Mathlib.Omega.{arith}
-use borrow.Author.Rules.{rules}
 use Rattle.undoflips.proofs.undo_log.Goals as goal
 
 pub chains-requires : goal.chains-requires

@@ -1,8 +1,6 @@
 -- `undo` meets its contract.
-use borrow.Author.Tests.{not-true, not-false}
 use Rattle.flip.proofs.Flipping.{stage_chains}
 use Rattle.unflip.proofs.Undoing.{rule_fits, undo_stays, undo_done}
-use borrow.Author.Rules.{rules}
 use Rattle.unflip.proofs.undo.Goals as goal
 
 pub returns-then-not-undoable : goal.returns-then-not-undoable

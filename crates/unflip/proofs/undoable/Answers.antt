@@ -1,12 +1,10 @@
 -- `undoable` meets its contract.
-use borrow.Author.Tests.{not-true, not-false}
 use Rattle.refusal.proofs.Tells.{tells_true, tells_false}
 use Rattle.slots.proofs.Slots.{whole_rows}
 use Rattle.chart.proofs.Looking.{none_found, found_edge}
 use Rattle.flip.proofs.Flipping.{stage_chains}
 use Rattle.unflip.proofs.Undoing.{past_first, past_second, rule_wrote, rule_no_edge, rule_holds}
 use native.Mathlib.Omega.{arith}
-use borrow.Author.Rules.{rules}
 use Rattle.unflip.proofs.undoable.Goals as goal
 
 pub returns-then-t-p : goal.returns-then-t-p

@@ -2,7 +2,6 @@
 use mathlib.Core.Path.{sym}
 use Rattle.refusal.proofs.Tells.{tells_true, tells_false}
 use Rattle.unflip.proofs.Undoing.{turned_one, paired, unpaired}
-use borrow.Author.Rules.{rules}
 use Rattle.unflip.proofs.wrote.Goals as goal
 
 pub returns-then-upper-lower : goal.returns-then-upper-lower

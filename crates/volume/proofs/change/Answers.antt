@@ -4,7 +4,6 @@ use mir.Syntax.{w64}
 use mir.ValLaws.{to_z-of_z}
 use Rattle.refusal.proofs.Either.{lesser_passes}
 use Rattle.volume.proofs.Laws.{checked_coordinates, change_done, change_refused}
-use borrow.Author.Rules.{rules}
 use Rattle.volume.proofs.change.Goals as goal
 
 pub change_between-requires : goal.change_between-requires

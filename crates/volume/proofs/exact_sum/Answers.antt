@@ -1,5 +1,4 @@
 -- `exact_sum` meets its contract.
-use borrow.Author.Rules.{rules}
 use Rattle.volume.proofs.Laws.{checked_coordinates, exact_done, exact_refused}
 use Rattle.volume.proofs.exact_sum.Goals as goal
 

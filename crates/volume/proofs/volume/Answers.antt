@@ -3,7 +3,6 @@ use mathlib.Core.Path.{◌∙◌}
 use mir.Syntax.{w64}
 use mir.ValLaws.{to_z-of_z}
 use Rattle.volume.proofs.Laws.{checked_coordinates, volume_done, volume_refused}
-use borrow.Author.Rules.{rules}
 use Rattle.volume.proofs.volume.Goals as goal
 
 pub volume_of-requires : goal.volume_of-requires

@@ -1,0 +1,9 @@
+-- Thinning by the plain engine, under the order of the unit and the figure.
+use borrow.Author.Rules.{rules}
+use Rattle.bridge.proofs.flaxglimmer_thin_plain.Goals as goal
+
+pub returns : goal.returns
+returns c =
+    let thin = c.thin_plain in
+    let order_of_lem = c.order_of in
+    record { answer = thin.result; gives = rw order_of_lem.ensures at thin.ensures; says = c.counted_thinning.ensures }
