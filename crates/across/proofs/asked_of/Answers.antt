@@ -3,7 +3,6 @@ use mathlib.Core.Path.{refl, ap}
 use lib.ListN.{length}
 use Rattle.logrecords.specs.Answer.{told_next}
 use Rattle.across.proofs.Saying.{said}
-use borrow.Author.Rules.{rules}
 use Rattle.across.proofs.asked_of.Goals as goal
 
 pub returns-in-Found : goal.returns-in-Found

@@ -2,7 +2,6 @@
 use mathlib.Core.Path.{refl}
 use Rattle.length.specs.Answer.{told}
 use Rattle.across.proofs.Saying.{said}
-use borrow.Author.Rules.{rules}
 use Rattle.across.proofs.centimetres_of.Goals as goal
 
 pub returns-in-Whole : goal.returns-in-Whole

@@ -2,7 +2,6 @@
 use mathlib.Core.Path.{refl}
 use Rattle.flipped.specs.Answer.{told}
 use Rattle.across.proofs.Saying.{said}
-use borrow.Author.Rules.{rules}
 use Rattle.refusal.proofs.number_of.Reads as number-of-reads'
 use Rattle.across.proofs.counted_flipped.Goals as goal
 

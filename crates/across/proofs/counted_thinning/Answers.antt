@@ -2,7 +2,6 @@
 use mathlib.Core.Path.{refl}
 use Rattle.thin.specs.Answer.{told}
 use Rattle.across.proofs.Saying.{said}
-use borrow.Author.Rules.{rules}
 use Rattle.across.proofs.counted_thinning.Goals as goal
 
 pub returns-in-Done : goal.returns-in-Done

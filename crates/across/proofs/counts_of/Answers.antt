@@ -2,7 +2,6 @@
 use mathlib.Core.Path.{refl}
 use Rattle.sheet.specs.Answer.{told}
 use Rattle.across.proofs.Saying.{said}
-use borrow.Author.Rules.{rules}
 use Rattle.across.proofs.counts_of.Goals as goal
 
 pub returns-in-Read : goal.returns-in-Read

@@ -6,7 +6,6 @@ use mir.Syntax.{w64}
 use mir.ValLaws.{to_z-of_z}
 use Rattle.volume.specs.Answer.{told_exact}
 use Rattle.across.proofs.Saying.{said}
-use borrow.Author.Rules.{rules}
 use Rattle.across.proofs.exact_of.Goals as goal
 
 pub returns-in-Sum : goal.returns-in-Sum

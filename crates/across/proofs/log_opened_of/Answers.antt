@@ -2,7 +2,6 @@
 use mathlib.Core.Path.{refl}
 use Rattle.logrecords.specs.Answer.{told_opened}
 use Rattle.across.proofs.Saying.{said}
-use borrow.Author.Rules.{rules}
 use Rattle.across.proofs.log_opened_of.Goals as goal
 
 pub returns-in-At : goal.returns-in-At

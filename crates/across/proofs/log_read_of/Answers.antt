@@ -2,7 +2,6 @@
 use mathlib.Core.Path.{refl}
 use Rattle.logsheet.specs.Answer.{told}
 use Rattle.across.proofs.Saying.{said}
-use borrow.Author.Rules.{rules}
 use Rattle.across.proofs.log_read_of.Goals as goal
 
 pub returns-in-Read : goal.returns-in-Read

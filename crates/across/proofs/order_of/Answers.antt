@@ -3,7 +3,6 @@ use mathlib.Core.Path.{refl, ap}
 use borrow.Author.Tests.{eq-eqb, ne_eqb}
 use Rattle.length.specs.declared.Order.TheVariants.{Limit}
 use Rattle.across.specs.Units.{order_of_lem}
-use borrow.Author.Rules.{rules}
 use Rattle.across.proofs.order_of.Goals as goal
 
 pub returns-then-unit-eq0 : goal.returns-then-unit-eq0

@@ -2,7 +2,6 @@
 use mathlib.Core.Path.{refl}
 use Rattle.recover.specs.Answer.{told}
 use Rattle.across.proofs.Saying.{said}
-use borrow.Author.Rules.{rules}
 use Rattle.across.proofs.recovery_of.Goals as goal
 
 pub returns-in-Done : goal.returns-in-Done

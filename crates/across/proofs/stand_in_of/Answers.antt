@@ -2,7 +2,6 @@
 use mathlib.Core.Path.{refl}
 use Rattle.shift.specs.Answer.{told}
 use Rattle.across.proofs.Saying.{said}
-use borrow.Author.Rules.{rules}
 use Rattle.across.proofs.stand_in_of.Goals as goal
 
 pub returns-in-StandIn : goal.returns-in-StandIn

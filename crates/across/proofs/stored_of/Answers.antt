@@ -1,6 +1,5 @@
 -- By the answer.
 use mathlib.Core.Path.{refl}
-use borrow.Author.Rules.{rules}
 use Rattle.across.proofs.stored_of.Goals as goal
 
 pub returns-in-Number : goal.returns-in-Number

@@ -2,7 +2,6 @@
 use mathlib.Core.Path.{refl}
 use Rattle.tell.specs.Answer.{told}
 use Rattle.across.proofs.Saying.{said}
-use borrow.Author.Rules.{rules}
 use Rattle.across.proofs.written_of.Goals as goal
 
 pub returns-in-Written : goal.returns-in-Written

@@ -1,7 +1,6 @@
 -- The limit reader on the unit and the figure.
 use mathlib.Core.Path.{◌∙◌, ap}
 use Rattle.length.specs.Limit.{limit_of}
-use borrow.Author.Rules.{rules}
 use Rattle.bridge.proofs.flaxglimmer_limit.Goals as goal
 
 pub returns : goal.returns

@@ -1,5 +1,4 @@
 -- Recovery under the order of the unit and the figure.
-use borrow.Author.Rules.{rules}
 use Rattle.bridge.proofs.flaxglimmer_recover.Goals as goal
 
 pub returns : goal.returns

@@ -1,6 +1,5 @@
 -- The length of the ring handed back tells which it is.
 use Rattle.bridge.proofs.Lent.{ring_first, ring_second}
-use borrow.Author.Rules.{rules}
 use Rattle.bridge.proofs.flaxglimmer_shorter_ring.Goals as goal
 
 pub returns-then-ring-first : goal.returns-then-ring-first

@@ -1,5 +1,4 @@
 -- Thinning under the order of the unit and the figure.
-use borrow.Author.Rules.{rules}
 use Rattle.bridge.proofs.flaxglimmer_thin.Goals as goal
 
 pub returns : goal.returns

@@ -1,5 +1,4 @@
 -- Thinning by the plain engine, under the order of the unit and the figure.
-use borrow.Author.Rules.{rules}
 use Rattle.bridge.proofs.flaxglimmer_thin_plain.Goals as goal
 
 pub returns : goal.returns

@@ -1,5 +1,4 @@
 -- The stored table at the place.
-use borrow.Author.Rules.{rules}
 use Rattle.bridge.proofs.flaxglimmer_trial_number.Goals as goal
 
 pub returns : goal.returns

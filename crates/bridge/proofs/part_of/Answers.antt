@@ -1,6 +1,5 @@
 -- An empty part is the one from 0 to 0; any other is the rest of the longer log.
 use Rattle.bridge.proofs.Lent.{part_nothing, part_second, part_first}
-use borrow.Author.Rules.{rules}
 use Rattle.bridge.proofs.part_of.Goals as goal
 
 pub returns-then-part-eq0 : goal.returns-then-part-eq0
