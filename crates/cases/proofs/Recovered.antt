@@ -87,7 +87,7 @@ O_rest =
     let r : Run (Allowed u.b O_corners) c.0 (O_second ∷ []) u.last = record { taken = c.2; ended = u.run.ended } in
     (c.0, taken_replayed c.1, subst (λ d. Run (Allowed d O_corners) c.0 (O_second ∷ []) u.last) e r)
 
--- what is right: one record kept, two in all, and the table and log of the unbroken run; nothing else is allowed (`recovered-one`)
+-- what is right: one record kept, two in all, and the table and log of the unbroken run; nothing else is allowed (`recovered_one`)
 pub O_recovered : {b : List ℕ} → CutOf b 6 8 O_first → length b ≤ most_log_bytes → RecoveredBy NoLimit O_corners O (lent (room_for 2)) b (Done 1 2) O_last O_log
 unfolding rows log_of O_run O_second first_records
 O_recovered {b} cut size =

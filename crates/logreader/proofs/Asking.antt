@@ -1,8 +1,10 @@
 -- What an answer says of the lines at a place.
 use mathlib.Core.Path.{◌≡◌, refl, sym, ◌∙◌, ap}
-use mathlib.Core.List.{List, map, append-nil}
+use mathlib.Core.List.{List, [], ◌∷◌, map, append-nil}
 use Prim.Native.Nat.{ℕ, ◌+◌}
 use native.Mathlib.Omega.{arith}
+use types.Run.{OneOf, miss}
+use denote.Enum.Declared.{tag_of}
 use lib.IntN.{pos}
 use lib.ListN.{length, length-append, drop, length-drop}
 use lib.Seq.{sets, drop-drop, drop_at}
@@ -19,7 +21,8 @@ use Rattle.reading.specs.Inner.{LineOf}
 use Rattle.heading.specs.Heading.{most_digits}
 use Rattle.logform.specs.Inner.{RecordAt, LinePassed}
 use Rattle.logrecords.specs.declared.Next.{Next}
-use Rattle.logrecords.specs.declared.Next.TheVariants.{Found}
+use Rattle.logrecords.specs.declared.Next.TheVariants.{Found, End, Bad}
+use Rattle.logrecords.specs.contracts.Next.{the_type}
 use Rattle.logrecords.specs.Outcome.{LineStands, NextRecord, found, ended, other}
 use Rattle.logreader.specs.declared.Answered.{Answered}
 use Rattle.logreader.specs.Outcome.{place_after, AnsweredAt}
@@ -53,6 +56,12 @@ found_line {b} {at} {a} r c w f = go w.answer
 pub numbers_put : {b : List ℕ} {at to : ℕ} {r : Record} (room room' : List ℕ) (start : ℕ) → FoundLine b at r to → room' ≡ sets room start (numbers (meant r)) →
     PutFrom (LineOf pos most_digits K (drop at b)) width room start room' (drop to b)
 numbers_put room room' start l put = let p = l.passed in record { zs = p.ns; count = p.count; here = p.here; put = put ∙ ap (sets room start) l.told }
+
+-- an answer that is not the first of the three is no record
+pub unfound : (a : Next) → OneOf (1 ∷ 2 ∷ []) (tag_of the_type a) → (r : Record) (c : Cursor) → ¬ (a ≡ Found r c)
+unfound (Found r' c') k r c e = miss (1 ∷ 2 ∷ []) 0 tt k
+unfound (End c') k r c e = let z : ◌≡◌ {A = ℕ} 0 1 = cc in omega arith
+unfound Bad k r c e = let z : ◌≡◌ {A = ℕ} 0 1 = cc in omega arith
 
 -- no record is found where no line of one stands
 pub no_line : {b : List ℕ} {at : ℕ} {a : Next} → NextRecord b at a → ((r : Record) (c : Cursor) → ¬ (a ≡ Found r c)) → (ns r : List ℕ) → length ns ≡ width → ¬ RecordAt (drop at b) ns r
