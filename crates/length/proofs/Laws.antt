@@ -1,4 +1,4 @@
--- A typed length has one reading: unusable exactly when 01 says so, and else at most `most-limit`.
+-- A typed length has one reading: unusable exactly when 01 says so, and else at most `most_limit`.
 use mathlib.Core.Path.{◌≡◌, refl, sym, ◌∙◌, ap}
 use mathlib.Core.Logic.{◌≢◌, ◌⊎◌, inl, inr}
 use mathlib.Core.Bool.{true, false}

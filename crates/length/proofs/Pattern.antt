@@ -1,4 +1,4 @@
--- What 64 bits say, and with it each way out of the reader. A figure's reading hangs on its exact value alone (`by_value`, `by-negative`), and
+-- What 64 bits say, and with it each way out of the reader. A figure's reading hangs on its exact value alone (`by_value`, `by_negative`), and
 -- a pattern's exact value is its digits times a power of two over 2 ^ 1074 (`exact`).
 use mathlib.Core.Path.{◌≡◌, refl, sym, ◌∙◌, ap, subst}
 use mathlib.Core.Logic.{◌≢◌}

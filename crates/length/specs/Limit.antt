@@ -1,6 +1,6 @@
 -- What a typed length means in whole centimetres.
--- A binary64 figure is lib.Ieee's `Float`: `nan`, `inf s`, or `fin s m e`, whose exact value is the whole number m, below zero where s is true, times 2 ^ e;
--- and 2 ^ e, a power of two or one over it, is the quotient `up e / down e`. Which figure 64 bits stand for is lib.Ieee's `of_bits binary64`.
+-- A binary64 figure is `Float` of the library's Float.Ieee: `nan`, `inf s`, or `fin s m e`, whose exact value is the whole number m, below zero where s is true, times 2 ^ e;
+-- and 2 ^ e, a power of two or one over it, is the quotient `up e / down e`. Which figure 64 bits stand for is `of_bits binary64` of the same.
 use Rattle.std.specs.Prelude.{◌≡◌, Bool, true, false, cond, ℕ, zero, suc, ◌*◌, ◌/◌, ◌<◌, leb, ℤ, Float}
 use Rattle.std.specs.Float.{nan, inf, fin}
 use Rattle.std.specs.Float.Ieee.{up, down}

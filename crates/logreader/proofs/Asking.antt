@@ -1,5 +1,6 @@
 -- What an answer says of the lines at a place.
 use mathlib.Core.Path.{◌≡◌, refl, sym, ◌∙◌, ap}
+use mathlib.Core.Logic.{inl, inr}
 use mathlib.Core.List.{List, [], ◌∷◌, map, append-nil}
 use Prim.Native.Nat.{ℕ, ◌+◌}
 use native.Mathlib.Omega.{arith}
@@ -63,9 +64,15 @@ unfound (Found r' c') k r c e = miss (1 ∷ 2 ∷ []) 0 tt k
 unfound (End c') k r c e = let z : ◌≡◌ {A = ℕ} 0 1 = cc in omega arith
 unfound Bad k r c e = let z : ◌≡◌ {A = ℕ} 0 1 = cc in omega arith
 
+-- and one that is no record is one of the other two
+pub later_tag : (a : Next) → ((r : Record) (c : Cursor) → ¬ (a ≡ Found r c)) → OneOf (1 ∷ 2 ∷ []) (tag_of the_type a)
+later_tag (Found r c) n = absurd (n r c refl)
+later_tag (End c) n = inl refl
+later_tag Bad n = inr refl
+
 -- no record is found where no line of one stands
-pub no_line : {b : List ℕ} {at : ℕ} {a : Next} → NextRecord b at a → ((r : Record) (c : Cursor) → ¬ (a ≡ Found r c)) → (ns r : List ℕ) → length ns ≡ width → ¬ RecordAt (drop at b) ns r
-no_line (found s m e) k ns r n here = k _ _ e
+pub no_line : {b : List ℕ} {at : ℕ} {a : Next} → NextRecord b at a → OneOf (1 ∷ 2 ∷ []) (tag_of the_type a) → (ns r : List ℕ) → length ns ≡ width → ¬ RecordAt (drop at b) ns r
+no_line (found s m e) k ns r n here = unfound _ k _ _ e
 no_line {b} {at} (ended h e) k ns r n here =
     let f = ap length here.bytes in
     omega (arith, length-append (line K (map pos ns)) r, line_length K (map pos ns), length-drop at b)

@@ -45,7 +45,7 @@ three_count n T s {v} {p} {q} {r} f g h = record {
     first t (inl e) = (q, re refl (sym e) refl f)
     first t (inr m) = second t (Memᴰ.cases_cons m)
 
--- an edge of a that failed fails after the step, where it need not be tried again: Proposition 7. x and y are those before the step (`no-link-after` in Slips)
+-- an edge of a that failed fails after the step, where it need not be tried again: Proposition 7. x and y are those before the step (`no_link_after` in Slips)
 pub spared : (n : ℕ) (T : List Row) (a b : ℕ) → Stage n T → Meets T a b → {h : ℕ} → Spared T a b h → ¬ Meets T a h → ¬ Meets (contract a b T) a h
 spared n T a b s m {h} (many {k = k} c d e nb) t i =
     let o = opposite n T s m in

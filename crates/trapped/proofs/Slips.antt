@@ -1,5 +1,5 @@
 -- Where source 000 is wrong about corners and their edges: what can be refuted is refuted, on small tables. What is used here of source 004 holds as written: its Lemma 3.1, the second half of its
--- Proposition 3.1 and two sentences of its section 3.3.1 (`trap`, `three-meet`, `corners-finished`, `trap-used`). Of 000's bounds, lists, counters and half-edges, which have no part in this theory:
+-- Proposition 3.1 and two sentences of its section 3.3.1 (`trap`, `three_meet`, `corners_finished`, `trap_used`). Of 000's bounds, lists, counters and half-edges, which have no part in this theory:
 -- Theorem 4 has g = 2h, where its own two bounds, and the introduction, have h = 2g. Section 4.1 says that the new edges of u "are always inserted into lue"; by line 26 of Algorithm 4.5 those
 -- to processed corners are not. Section 4.2 says of an edge in no critical cycle that its ends "cannot be part of a 3-cycle"; they are part of two, round its faces.
 -- Algorithm 4.3 line 14 has t(x) > o(y) where the text below Proposition 9 has ≥, as line 19 has; line 22 has P for lte. In the worked cases of section 4.3 the counters fall by Algorithm 4.3,

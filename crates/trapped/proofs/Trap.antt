@@ -81,7 +81,7 @@ module _ (n : ℕ) (T : List Row) (a b x y : ℕ) (s : Stage n T) (o : Opposite 
   f_moved (inr m) = ap f m.1 ∙ replace_off a b (s.apart abx)
 
   -- the one way in which a row comes upon three neighbours. 000, section 4.3: "vertex z must be v, vertex u must belong to C, and C must consist of the edges in lk(v, K)". That is one_a,
-  -- u = a and v = b; one_b is missing there, where the corner kept is the one with three neighbours (`kept-has-three` in Slips)
+  -- u = a and v = b; one_b is missing there, where the corner kept is the one with three neighbours (`kept_has_three` in Slips)
   data One (p q r : ℕ) : Type 0 where
     one_a : p ≡ a → q ≡ y → r ≡ x → Follows T b y x → One p q r
     one_b : p ≡ b → q ≡ x → r ≡ y → Follows T a x y → One p q r

@@ -18,7 +18,7 @@ pub record Contracts (u : ℕ) (T : List Row) (k : Record) (T' : List Row) : Typ
 abbrev pub Steps : ℕ → List Row → List Record → List Row → Type 0
 Steps u = Leads (Contracts u)
 
--- u is finished: steps at u, until no edge of it to a higher corner meets the condition. `ended` speaks of the higher corners only; where the lower ones are finished, `Finished-on`
+-- u is finished: steps at u, until no edge of it to a higher corner meets the condition. `ended` speaks of the higher corners only; where the lower ones are finished, `finished_on`
 -- in Finish shows that no edge of u to them meets it either
 pub record AtCorner (u : ℕ) (T : List Row) (l : List Record) (T' : List Row) : Type 0 where
   pub steps : Steps u T l T'

@@ -7,7 +7,7 @@ use Rattle.wide.specs.Rounding.{divisor}
 abbrev pub value : Wide → ℤ
 value w = pos divisor *ℤ w.whole +ℤ pos w.rest
 
--- it is the sum z, and the rest is less than a whole: no second one is (`Exact-one`)
+-- it is the sum z, and the rest is less than a whole: no second one is (`exact_one`)
 pub record Exact (z : ℤ) (w : Wide) : Type 0 where
   pub is : value w ≡ z
   pub below : w.rest < divisor

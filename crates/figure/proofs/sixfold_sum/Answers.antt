@@ -14,9 +14,8 @@ loop-i-init c = sum_start c.requires
 
 pub determinant_of-s-requires : goal.determinant_of-s-requires
 determinant_of-s-requires c =
-    let l = c in
-    let h = sum_corners l.loop-i.invariant (omega arith) in
-    (h.0, h.1, h.2, l.loop-i.invariant.left.in_range)
+    let h = sum_corners c.loop-i.invariant (omega arith) in
+    (h.0, h.1, h.2, c.loop-i.invariant.left.in_range)
 
 pub overflow_add-s : goal.overflow_add-s
 overflow_add-s c =
@@ -31,4 +30,4 @@ loop-i-preserved c =
     rw (kept w64 one_more.is (omega arith)).same (sum_more c.loop-i.invariant (omega arith))
 
 pub returns : goal.returns
-returns c = let l = c in (sum_end l.loop-i.invariant (omega arith), omega (arith, l.loop-i.invariant.size))
+returns c = (sum_end c.loop-i.invariant (omega arith), omega (arith, c.loop-i.invariant.size))

@@ -20,15 +20,15 @@ pub float_to_bits-b : goal.float_to_bits-b
 float_to_bits-b c = no_nan c.args.v c.if-v.false
 
 pub returns-then-b-lt-SIGN : goal.returns-then-b-lt-SIGN
-returns-then-b-lt-SIGN c = let s = c in
-    c.read_bits.ensures ∙ by_bits s.args.v _ _ (passes _ s.well_formed.0.1)
+returns-then-b-lt-SIGN c =
+    c.read_bits.ensures ∙ by_bits c.args.v _ _ (passes _ c.well_formed.0.1)
 
 pub returns-then-b-gt-SIGN : goal.returns-then-b-gt-SIGN
-returns-then-b-gt-SIGN c = let s = c in
-    let v = s.args.v in
-    let h = passes _ s.well_formed.0.1 in
+returns-then-b-gt-SIGN c =
+    let v = c.args.v in
+    let h = passes _ c.well_formed.0.1 in
     sym (negative (to_bits binary64 v) _ _ c.if-b-gt-SIGN.true (to_bits-lt binary64 v h)) ∙ by_bits v _ _ h
 
 pub returns : goal.returns
-returns c = let s = c in
-    sym (minus_zero (to_bits binary64 s.args.v) _ _ (omega arith)) ∙ by_bits s.args.v _ _ (passes _ s.well_formed.0.1)
+returns c =
+    sym (minus_zero (to_bits binary64 c.args.v) _ _ (omega arith)) ∙ by_bits c.args.v _ _ (passes _ c.well_formed.0.1)

@@ -6,7 +6,7 @@ use Rattle.lines.specs.Kinds.{K}
 use Rattle.lines.proofs.Turns.{put_length}
 use Rattle.reading.proofs.Lining.{lines_start, line_room, lines_next, lines_stop, lines_end}
 use Rattle.heading.specs.Heading.{most_digits}
-use Rattle.logreader.proofs.Asking.{found_line, numbers_put, no_line}
+use Rattle.logreader.proofs.Asking.{found_line, numbers_put, no_line, later_tag}
 use native.Mathlib.Omega.{arith}
 use Rattle.logreader.proofs.put_records.Goals as goal
 
@@ -25,7 +25,7 @@ unfolding ReadInto
 returns-in_default c =
     let loop = c.loop-i in
     let loop-test = c.loop-i-test in
-    lines_stop loop.invariant loop-test.true (no_line c.ask-answered.ensures.answer c.in_default.not-Found)
+    lines_stop loop.invariant loop-test.true (no_line c.ask-answered.ensures.answer (later_tag _ c.in_default.not-Found))
 
 pub write_record-requires : goal.write_record-requires
 write_record-requires c =

@@ -1,7 +1,7 @@
 -- `records_on` meets its contract.
 use Rattle.logform.specs.Inner.{WhatIsLeft}
 use Rattle.logform.proofs.Passing.{passing_start, few_lines, nearer, passing_next, other_stands, all_passed}
-use Rattle.logreader.proofs.Asking.{found_line, no_line}
+use Rattle.logreader.proofs.Asking.{found_line, no_line, later_tag}
 use borrow.Author.Rules.{rules}
 use Rattle.logreader.proofs.records_on.Goals as goal
 
@@ -13,7 +13,7 @@ unfolding WhatIsLeft
 returns-in_default c =
     let loop = c.loop-k in
     let loop-test = c.loop-k-test in
-    other_stands loop.invariant loop-test.true (no_line c.ask-answered.ensures.answer c.in_default.not-Found)
+    other_stands loop.invariant loop-test.true (no_line c.ask-answered.ensures.answer (later_tag _ c.in_default.not-Found))
 
 pub overflow_add-count : goal.overflow_add-count
 overflow_add-count c =

@@ -1,4 +1,4 @@
--- The record is told and the table shrinks: that is the step (`step-done`).
+-- The record is told and the table shrinks: that is the step (`step_done`).
 use Rattle.step.proofs.Stepping.{step_done}
 use Rattle.step.proofs.contract.Goals as goal
 

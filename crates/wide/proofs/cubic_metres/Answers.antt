@@ -17,24 +17,24 @@ pub overflow_add-result : goal.overflow_add-result
 overflow_add-result c = fits w64 (one_more c.requires).is (omega arith)
 
 pub returns-then-rest-gt-HALF : goal.returns-then-rest-gt-HALF
-returns-then-rest-gt-HALF c = let k = c in
-    (kept w64 (one_more k.requires).is (omega arith)).same
-    ∙ up_below k.args.w.whole k.args.w.rest k.requires.below (rw (part k.requires).same at c.if-whole-lt0.true) (omega arith)
+returns-then-rest-gt-HALF c =
+    (kept w64 (one_more c.requires).is (omega arith)).same
+    ∙ up_below c.args.w.whole c.args.w.rest c.requires.below (rw (part c.requires).same at c.if-whole-lt0.true) (omega arith)
 
 pub returns-then-whole-lt0 : goal.returns-then-whole-lt0
-returns-then-whole-lt0 c = let k = c in
-    (part k.requires).same
-    ∙ stay_below k.args.w.whole k.args.w.rest k.requires.below (rw (part k.requires).same at c.if-whole-lt0.true) (omega arith)
+returns-then-whole-lt0 c =
+    (part c.requires).same
+    ∙ stay_below c.args.w.whole c.args.w.rest c.requires.below (rw (part c.requires).same at c.if-whole-lt0.true) (omega arith)
 
 pub overflow_add-result-then-rest-ge-HALF : goal.overflow_add-result-then-rest-ge-HALF
 overflow_add-result-then-rest-ge-HALF c = fits w64 (one_more c.requires).is (omega arith)
 
 pub returns-then-rest-ge-HALF : goal.returns-then-rest-ge-HALF
-returns-then-rest-ge-HALF c = let k = c in
-    (kept w64 (one_more k.requires).is (omega arith)).same
-    ∙ up_above k.args.w.whole k.args.w.rest k.requires.below (rw (part k.requires).same at c.if-whole-lt0.false) (omega arith)
+returns-then-rest-ge-HALF c =
+    (kept w64 (one_more c.requires).is (omega arith)).same
+    ∙ up_above c.args.w.whole c.args.w.rest c.requires.below (rw (part c.requires).same at c.if-whole-lt0.false) (omega arith)
 
 pub returns : goal.returns
-returns c = let k = c in
-    (part k.requires).same
-    ∙ stay_above k.args.w.whole k.args.w.rest k.requires.below (rw (part k.requires).same at c.if-whole-lt0.false) (omega arith)
+returns c =
+    (part c.requires).same
+    ∙ stay_above c.args.w.whole c.args.w.rest c.requires.below (rw (part c.requires).same at c.if-whole-lt0.false) (omega arith)

@@ -7,11 +7,11 @@ pub loop-k-init : goal.loop-k-init
 loop-k-init c = (omega arith, refl, rw add-zero)
 
 pub loop-k-preserved : goal.loop-k-preserved
-loop-k-preserved c = let start = c in
+loop-k-preserved c =
     let loop = c.loop-k in
-    (omega arith, simp length-set loop.invariant.1, rw c.lowest.ensures (turn loop.b start.args.i loop.k loop.left (omega arith) ∙ loop.invariant.2))
+    (omega arith, simp length-set loop.invariant.1, rw c.lowest.ensures (turn loop.b c.args.i loop.k loop.left (omega arith) ∙ loop.invariant.2))
 
 pub returns : goal.returns
-returns c = let start = c in
+returns c =
     let loop = c.loop-k in
-    sym (ended loop.b (start.args.i + loop.k) loop.k loop.left (omega arith)) ∙ loop.invariant.2
+    sym (ended loop.b (c.args.i + loop.k) loop.k loop.left (omega arith)) ∙ loop.invariant.2

@@ -4,5 +4,5 @@ use Rattle.std.proofs.Common.{arith}
 use Rattle.word.proofs.word_at.Goals as goal
 
 pub returns : goal.returns
-returns c = let start = c in
-    omega (arith, halves start.args.b.now start.args.i start.requires)
+returns c =
+    omega (arith, halves c.args.b.now c.args.i c.requires)

@@ -3,10 +3,10 @@ use Rattle.word.proofs.Twos.{word_below, word_above}
 use Rattle.word.proofs.word_of.Goals as goal
 
 pub returns-then-x-lt0 : goal.returns-then-x-lt0
-returns-then-x-lt0 c = let start = c in
+returns-then-x-lt0 c =
     let called = c.wrapping_sub_u64 in
-    word_below start.args.x start.ranges.x c.if-x-lt0.true c.size.ensures called.ensures.value called.type_inv
+    word_below c.args.x c.ranges.x c.if-x-lt0.true c.size.ensures called.ensures.value called.type_inv
 
 pub returns : goal.returns
-returns c = let start = c in
-    word_above start.args.x start.ranges.x c.if-x-lt0.false c.size-2.ensures
+returns c =
+    word_above c.args.x c.ranges.x c.if-x-lt0.false c.size-2.ensures
