@@ -5,6 +5,7 @@ use mathlib.Core.List.{List}
 use Prim.Native.Nat.{ℕ, ◌/◌, ◌≤◌}
 use native.Mathlib.Omega.{arith}
 use lib.ListN.{length}
+use Rattle.std.specs.Prelude.{Some, None}
 use Rattle.surface.specs.Rows.{Row, rows}
 use Rattle.surface.specs.Table.{Edge, Used}
 use Rattle.surface.specs.Stage.{Stage}
@@ -15,7 +16,6 @@ use Rattle.growth.specs.Grow.{Ends}
 use Rattle.growth.specs.InnerLocal.{Local}
 use Rattle.growth.proofs.Accepting.{ends_one}
 use Rattle.record.specs.declared.Corner.{Corner}
-use Rattle.ends.specs.declared.Ends.TheVariants.{At, Nothing}
 use Rattle.noted.specs.Noted.{Round, IsNoted, BothNoted}
 use Rattle.ends.specs.Rows.{EndsAre}
 use Rattle.accept.specs.Test.{InBounds, Answered}
@@ -62,20 +62,20 @@ module _ (n : ℕ) (t : List ℕ) (k : Record) (w : StageTable n t) where
   rows_told : length t / 3 ≡ length (rows t)
   rows_told = let e = w.count in omega arith
 
-  pub out_of_bounds : ¬ InBounds n (length t / 3) k → Answered n (rows t) k Nothing
+  pub out_of_bounds : ¬ InBounds n (length t / 3) k → Answered n (rows t) k None
   unfolding Answered
   out_of_bounds m l = m (rw rows_told (local_bounds n (rows t) k w.stage l))
 
-  pub removed_used : Used (rows t) k.removed → Answered n (rows t) k Nothing
+  pub removed_used : Used (rows t) k.removed → Answered n (rows t) k None
   unfolding Answered
   removed_used u l = l.unused u
 
-  pub no_such_rows : EndsAre k.kept k.removed k.row_1 k.row_2 Nothing → Answered n (rows t) k Nothing
+  pub no_such_rows : EndsAre k.kept k.removed k.row_1 k.row_2 None → Answered n (rows t) k None
   unfolding Answered EndsAre
   no_such_rows m l = m l.x l.y l.ends
 
-  module _ (x y : Corner) (e : EndsAre k.kept k.removed k.row_1 k.row_2 (At x y)) (at : List ℕ) (under : n ≤ length at) (r : Round t k.kept at) where
-    pub not_two_near : ¬ BothNoted at x.0 y.0 → Answered n (rows t) k Nothing
+  module _ (x y : Corner) (e : EndsAre k.kept k.removed k.row_1 k.row_2 (Some (x, y))) (at : List ℕ) (under : n ≤ length at) (r : Round t k.kept at) where
+    pub not_two_near : ¬ BothNoted at x.0 y.0 → Answered n (rows t) k None
     unfolding Answered EndsAre
     not_two_near m l =
         let h = same_ends n (rows t) k w.stage l e in
@@ -84,7 +84,7 @@ module _ (n : ℕ) (t : List ℕ) (k : Record) (w : StageTable n t) where
         noted : {p : ℕ} → Edge (rows t) k.kept p → IsNoted at p
         noted g = edge_near t (table_whole w) k.kept at (under_more (table_under w) under) r g
 
-    pub all_holds : InBounds n (length t / 3) k → ¬ Used (rows t) k.removed → BothNoted at x.0 y.0 → Answered n (rows t) k (At x y)
+    pub all_holds : InBounds n (length t / 3) k → ¬ Used (rows t) k.removed → BothNoted at x.0 y.0 → Answered n (rows t) k (Some (x, y))
     unfolding Answered EndsAre local
     all_holds b u d = (local n (rows t) k w.stage e (rw rows_told at b) u d.differ (edge d.at_x) (edge d.at_y), refl, refl)
       where

@@ -1,11 +1,10 @@
 -- The test of a record at a stage: what it asks of numbers and places alone, and what its answer tells.
-use Rattle.std.specs.Prelude.{◌≡◌, List, ℕ, ◌+◌, ◌≤◌, ◌<◌}
+use Rattle.std.specs.Prelude.{◌≡◌, List, ℕ, ◌+◌, ◌≤◌, ◌<◌, Option, Some, None}
 use Rattle.surface.specs.Limits.{most_rows}
 use Rattle.surface.specs.Rows.{Row}
 use Rattle.surface.specs.Record.{Record}
 use Rattle.growth.specs.InnerLocal.{Local}
-use Rattle.ends.specs.declared.Ends.{Ends}
-use Rattle.ends.specs.declared.Ends.TheVariants.{At, Nothing}
+use Rattle.record.specs.declared.Corner.{Corner}
 
 -- kept is below removed, removed is below the corner count, and the places are in order and inside the grown table, which has rows for them
 pub record InBounds (n m : ℕ) (k : Record) : Type 0 where
@@ -15,7 +14,7 @@ pub record InBounds (n m : ℕ) (k : Record) : Type 0 where
   pub inside : k.place_2 < m + 2
   pub room : m + 2 ≤ most_rows
 
--- the answer on the record k at the stage T: x and y where the local rule holds, nothing where it does not
-unfoldable pub Answered : ℕ → List Row → Record → Ends → Type 0
-Answered n T k (At x y) = (l : Local n T k) × (x.0 ≡ l.x) × (y.0 ≡ l.y)
-Answered n T k Nothing = ¬ Local n T k
+-- the answer on the record k at the stage T: x and y where the local rule holds, none where it does not
+unfoldable pub Answered : ℕ → List Row → Record → Option (Corner × Corner) → Type 0
+Answered n T k (Some (x, y)) = (l : Local n T k) × (x.0 ≡ l.x) × (y.0 ≡ l.y)
+Answered n T k None = ¬ Local n T k

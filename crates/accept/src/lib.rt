@@ -13,7 +13,6 @@ ghost use Rattle.refusal.specs.InnerTells.{Tells};
 ghost use Rattle.noted.specs.Noted.{Round};
 ghost use Rattle.accept.specs.Test.{InBounds, Answered};
 
-use ends::Ends;
 use record::{Corner, Record};
 
 // Whether a record's numbers and places can be those of a step to so many rows.
@@ -21,22 +20,11 @@ fn in_bounds(r: Record, rows: usize, corners: usize) -> bool
     requires { rows ≤ most_rows }
     ensures { Tells result (InBounds corners rows (meant r)) (¬ InBounds corners rows (meant r)) }
 {
-    if r.removed.0 <= r.kept.0 {
-        return false;
-    }
-    if corners <= r.removed.0 as usize {
-        return false;
-    }
-    if r.later.place.0 <= r.earlier.place.0 {
-        return false;
-    }
-    if rows + 2 <= r.later.place.0 as usize {
-        return false;
-    }
-    if surface::MOST_ROWS < rows + 2 {
-        return false;
-    }
-    true
+    r.kept.0 < r.removed.0
+        && (r.removed.0 as usize) < corners
+        && r.earlier.place.0 < r.later.place.0
+        && (r.later.place.0 as usize) < rows + 2
+        && rows + 2 <= surface::MOST_ROWS
 }
 
 // Whether a table uses a corner. A step of the loop does not leave it, so that many numbers are compared at once.
@@ -45,18 +33,16 @@ fn uses(t: &[u32], v: Corner) -> bool
     ensures { Tells result (Used (rows t.now) v.0) (¬ Used (rows t.now) v.0) }
 {
     let mut found = false;
-    let mut e: usize = 0;
-    while e < t.len() {
-        if t[e] == v.0 {
+    for x in t {
+        if *x == v.0 {
             found = true;
         }
-        e += 1;
     }
     found
 }
 
 // Inner: x and y of a record that is accepted at a stage; at has the rows round its kept corner.
-pub fn accepts(t: &[u32], corners: usize, r: Record, at: &mut [usize]) -> Ends
+pub fn accepts(t: &[u32], corners: usize, r: Record, at: &mut [usize]) -> Option<(Corner, Corner)>
     requires stage_table { StageTable corners t.now }
     requires corners_in_bounds { corners ≤ length at.old }
     requires blank { Blank at.old }
@@ -67,19 +53,14 @@ pub fn accepts(t: &[u32], corners: usize, r: Record, at: &mut [usize]) -> Ends
     let removed = r.removed;
     noted::note_round(t, kept, at);
     if !in_bounds(r, t.len() / 3, corners) {
-        return Ends::Nothing;
+        return None;
     }
     if uses(t, removed) {
-        return Ends::Nothing;
+        return None;
     }
-    let e = ends::ends_of(r);
-    match e {
-        Ends::Nothing => e,
-        Ends::At(x, y) => {
-            if noted::two_near(at, x, y) {
-                return e;
-            }
-            Ends::Nothing
-        }
+    let (x, y) = ends::ends_of(r)?;
+    if !noted::two_near(at, x, y) {
+        return None;
     }
+    Some((x, y))
 }

@@ -1,8 +1,6 @@
 -- The numbers that cross, gathered in a struct for each kind of answer: the status, then its values in their order.
-use Rattle.std.specs.Prelude.{◌≡◌, [], ◌∷◌, map, pos}
+use Rattle.std.specs.Prelude.{◌≡◌, [], ◌∷◌, ℕ, map, pos, Option, Some, None}
 use Rattle.refusal.specs.Told.{Told}
-use Rattle.ring.specs.declared.Trial.{Trial}
-use Rattle.ring.specs.declared.Trial.TheVariants.{Number, Nothing}
 use Rattle.across.specs.declared.Counted.{Counted}
 use Rattle.across.specs.declared.Measure.{Measure}
 use Rattle.across.specs.declared.Exact.{Exact}
@@ -50,6 +48,6 @@ abbrev pub of_asked : Asked → Told
 of_asked r = record { number = r.status; values = pos r.found ∷ pos r.after ∷ map pos r.numbers }
 
 -- of the trial ring: 1 and the number, or 0 and 0 where there is nothing
-abbrev pub Stores : Trial → Stored → Type 0
-Stores (Number v) r = (r.there ≡ 1) × (r.number ≡ v)
-Stores Nothing r = (r.there ≡ 0) × (r.number ≡ 0)
+abbrev pub Stores : Option ℕ → Stored → Type 0
+Stores (Some v) r = (r.there ≡ 1) × (r.number ≡ v)
+Stores None r = (r.there ≡ 0) × (r.number ≡ 0)

@@ -4,7 +4,7 @@
 // pointer that each processor keeps in another register.
 #![tactic(auto)]
 
-ghost use Rattle.std.specs.Prelude.{◌≡◌, length};
+ghost use Rattle.std.specs.Prelude.{◌≡◌, length, IfOk, IfErr};
 ghost use Rattle.refusal.specs.declared.Refusal.TheVariants.{RecordFails};
 ghost use Rattle.refusal.specs.Number.{number};
 ghost use Rattle.record.specs.Layout.{width, numbers};
@@ -25,21 +25,18 @@ ghost use Rattle.across.specs.Units.{length_of_lem, order_of_lem};
 ghost use Rattle.across.specs.Says.{Says};
 ghost use Rattle.across.specs.Fields.{of_counted, of_measure, of_exact, of_stand_in, of_centimetres, of_counts, of_written, of_log_read, of_recovery, of_log_opened, of_asked, Stores};
 
-use flipped::Flipped;
-use job::Job;
-use length::{Length, Order, Reading};
-use logrecords::{Next, Opened};
-use logsheet::LogSheet;
-use record::Record;
-use recover::Recovered;
+use flipped::FlipHalt;
+use heading::Heading;
+use job::JobRefusal;
+use length::{Length, Order};
+use logrecords::Next;
+use logsheet::LogCounts;
+use record::{Corner, Record};
 use refusal::Refusal;
-use regrow::Regrown;
-use ring::Trial;
-use sheet::Sheet;
+use regrow::Halt;
 use shift::Shifted;
-use tell::Answer;
-use thin::Thinning;
-use volume::{ExactSum, Measured};
+use text::Cursor;
+use wide::Wide;
 
 // What thinning, growing back, replay, flipping and undoing answer: the status, and how many records or flips were done.
 #[repr(C)]
@@ -148,19 +145,13 @@ pub struct Stored {
 pub fn length_of(unit: u32, figure: f64) -> Length
     ensures { result ≡ length_of_lem unit figure }
 {
-    if unit == 1 {
-        return Length::Metres(figure);
+    match unit {
+        1 => Length::Metres(figure),
+        2 => Length::Feet(figure),
+        3 => Length::Centimetres(figure),
+        4 => Length::InternationalFeet(figure),
+        _ => Length::Centimetres(f64::NAN),
     }
-    if unit == 2 {
-        return Length::Feet(figure);
-    }
-    if unit == 3 {
-        return Length::Centimetres(figure);
-    }
-    if unit == 4 {
-        return Length::InternationalFeet(figure);
-    }
-    Length::Centimetres(0.0 / 0.0)
 }
 
 // Inner: unit 0 is no limit; the figure is not looked at then.
@@ -175,226 +166,195 @@ pub fn order_of(unit: u32, figure: f64) -> Order
 
 // ---- answers
 
+// The status of an answer and its value; where it is refused, the refusal's number and the value that stands for none.
+fn crossed<T: Copy, E: Copy + Into<u32>>(a: Result<T, E>, none: T) -> (u64, T)
+    ensures done { IfOk a (λ v. (result.0 ≡ 0) × (result.1 ≡ v)) }
+    ensures refused { IfErr a (λ e. E.converts e result.0 × (result.1 ≡ none)) }
+{
+    match a {
+        Ok(v) => (0, v),
+        Err(e) => (u64::from(e.into()), none),
+    }
+}
+
 // The status where a record fails.
 fn record_fails() -> u64
     ensures { result ≡ number RecordFails }
 {
-    refusal::number_of(Refusal::RecordFails) as u64
+    u32::from(Refusal::RecordFails) as u64
 }
 
 // Inner: what a thinning answers.
-pub fn counted_thinning(a: Thinning) -> Counted
+pub fn counted_thinning(a: Result<usize, Refusal>) -> Counted
     ensures { Says (ThinAnswer.told a) (of_counted result) }
 {
-    match a {
-        Thinning::Done(k) => Counted {
-            status: 0,
-            records: k as u64,
-        },
-        Thinning::Refused(e) => Counted {
-            status: refusal::number_of(e) as u64,
-            records: 0,
-        },
+    let (status, k) = crossed(a, 0);
+    Counted {
+        status,
+        records: k as u64,
     }
 }
 
 // Inner: what growing back or a replay answers.
-pub fn counted_regrown(a: Regrown) -> Counted
+pub fn counted_regrown(a: Result<usize, Halt>) -> Counted
     ensures { Says (RegrowAnswer.told a) (of_counted result) }
 {
     match a {
-        Regrown::Done(k) => Counted {
+        Ok(k) => Counted {
             status: 0,
             records: k as u64,
         },
-        Regrown::Stopped(k) => Counted {
+        Err(Halt::Stopped(k)) => Counted {
             status: record_fails(),
             records: k as u64,
         },
-        Regrown::Refused(e) => Counted {
-            status: refusal::number_of(e) as u64,
+        Err(Halt::Refused(e)) => Counted {
+            status: u32::from(e) as u64,
             records: 0,
         },
     }
 }
 
 // Inner: what flipping a list or undoing a log answers.
-pub fn counted_flipped(a: Flipped) -> Counted
+pub fn counted_flipped(a: Result<usize, FlipHalt>) -> Counted
     ensures { Says (FlipAnswer.told a) (of_counted result) }
 {
     match a {
-        Flipped::Done(k) => Counted {
+        Ok(k) => Counted {
             status: 0,
             records: k as u64,
         },
-        Flipped::Stopped(r, k) => Counted {
-            status: flipped::number_of(r) as u64,
+        Err(FlipHalt::Stopped(r, k)) => Counted {
+            status: u32::from(r) as u64,
             records: k as u64,
         },
-        Flipped::Refused(e) => Counted {
-            status: refusal::number_of(e) as u64,
+        Err(FlipHalt::Refused(e)) => Counted {
+            status: u32::from(e) as u64,
             records: 0,
         },
     }
 }
 
 // Inner: what a volume or a change answers.
-pub fn measure_of(a: Measured) -> Measure
+pub fn measure_of(a: Result<i64, Refusal>) -> Measure
     ensures { Says (VolumeAnswer.told a) (of_measure result) }
 {
-    match a {
-        Measured::Figure(f) => Measure {
-            status: 0,
-            figure: f,
-        },
-        Measured::Refused(e) => Measure {
-            status: refusal::number_of(e) as u64,
-            figure: 0,
-        },
-    }
+    let (status, figure) = crossed(a, 0);
+    Measure { status, figure }
 }
 
 // Inner: what a job answers.
-pub fn measure_of_job(a: Job) -> Measure
+pub fn measure_of_job(a: Result<i64, JobRefusal>) -> Measure
     ensures { Says (JobAnswer.told a) (of_measure result) }
 {
-    match a {
-        Job::Net(f) => Measure {
-            status: 0,
-            figure: f,
-        },
-        Job::Refused(e) => Measure {
-            status: job::number_of(e) as u64,
-            figure: 0,
-        },
-    }
+    let (status, figure) = crossed(a, 0);
+    Measure { status, figure }
 }
 
 // Inner: what an exact sum answers.
-pub fn exact_of(a: ExactSum) -> Exact
+pub fn exact_of(a: Result<Wide, Refusal>) -> Exact
     ensures { Says (VolumeAnswer.told_exact a) (of_exact result) }
 {
-    match a {
-        ExactSum::Sum(w) => Exact {
-            status: 0,
-            whole: w.whole,
-            rest: w.rest,
-        },
-        ExactSum::Refused(e) => Exact {
-            status: refusal::number_of(e) as u64,
-            whole: 0,
-            rest: 0,
-        },
+    let (status, w) = crossed(a, Wide { whole: 0, rest: 0 });
+    Exact {
+        status,
+        whole: w.whole,
+        rest: w.rest,
     }
 }
 
 // Inner: what a shift report answers.
-pub fn stand_in_of(a: Shifted) -> StandIn
+pub fn stand_in_of(a: Result<Shifted, Refusal>) -> StandIn
     ensures { Says (ShiftAnswer.told a) (of_stand_in result) }
 {
-    match a {
-        Shifted::StandIn(c, k, d) => StandIn {
-            status: 0,
-            corner: c.0 as u64,
-            count: k as u64,
-            squared: d,
-        },
-        Shifted::Refused(e) => StandIn {
-            status: refusal::number_of(e) as u64,
-            corner: 0,
-            count: 0,
-            squared: 0,
-        },
+    let none = Shifted {
+        stand_in: Corner(0),
+        count: 0,
+        squared: 0,
+    };
+    let (status, s) = crossed(a, none);
+    StandIn {
+        status,
+        corner: s.stand_in.0 as u64,
+        count: s.count as u64,
+        squared: s.squared,
     }
 }
 
 // Inner: what the limit reader answers.
-pub fn centimetres_of(a: Reading) -> Centimetres
+pub fn centimetres_of(a: Option<u64>) -> Centimetres
     ensures { Says (LengthAnswer.told a) (of_centimetres result) }
 {
     match a {
-        Reading::Whole(c) => Centimetres {
+        Some(c) => Centimetres {
             status: 0,
             whole: c,
         },
-        Reading::Unusable => Centimetres {
-            status: refusal::number_of(Refusal::LimitUnusable) as u64,
+        None => Centimetres {
+            status: u32::from(Refusal::LimitUnusable) as u64,
             whole: 0,
         },
     }
 }
 
 // Inner: what the sheet reader answers.
-pub fn counts_of(a: Sheet) -> Counts
+pub fn counts_of(a: Result<(usize, usize), Refusal>) -> Counts
     ensures { Says (SheetAnswer.told a) (of_counts result) }
 {
-    match a {
-        Sheet::Read(n, m) => Counts {
-            status: 0,
-            corners: n as u64,
-            rows: m as u64,
-        },
-        Sheet::Refused(e) => Counts {
-            status: refusal::number_of(e) as u64,
-            corners: 0,
-            rows: 0,
-        },
+    let (status, (n, m)) = crossed(a, (0, 0));
+    Counts {
+        status,
+        corners: n as u64,
+        rows: m as u64,
     }
 }
 
 // Inner: what the desk answers.
-pub fn written_of(a: Answer) -> Written
+pub fn written_of(a: Result<usize, Refusal>) -> Written
     ensures { Says (ReplyAnswer.told a) (of_written result) }
 {
-    match a {
-        Answer::Written(n) => Written {
-            status: 0,
-            bytes: n as u64,
-        },
-        Answer::Refused(e) => Written {
-            status: refusal::number_of(e) as u64,
-            bytes: 0,
-        },
+    let (status, n) = crossed(a, 0);
+    Written {
+        status,
+        bytes: n as u64,
     }
 }
 
 // Inner: what the log sheet's reader answers.
-pub fn log_read_of(a: LogSheet) -> LogRead
+pub fn log_read_of(a: Result<LogCounts, Refusal>) -> LogRead
     ensures { Says (LogAnswer.told a) (of_log_read result) }
 {
-    match a {
-        LogSheet::Read(n, m, k) => LogRead {
-            status: 0,
-            corners: n as u64,
-            rows: m as u64,
-            records: k as u64,
-        },
-        LogSheet::Refused(e) => LogRead {
-            status: refusal::number_of(e) as u64,
-            corners: 0,
-            rows: 0,
-            records: 0,
-        },
+    let none = LogCounts {
+        corners: 0,
+        rows: 0,
+        records: 0,
+    };
+    let (status, c) = crossed(a, none);
+    LogRead {
+        status,
+        corners: c.corners as u64,
+        rows: c.rows as u64,
+        records: c.records as u64,
     }
 }
 
 // Inner: what recovery answers.
-pub fn recovery_of(a: Recovered) -> Recovery
+pub fn recovery_of(a: Result<(usize, usize), Halt>) -> Recovery
     ensures { Says (RecoverAnswer.told a) (of_recovery result) }
 {
     match a {
-        Recovered::Done(k, all) => Recovery {
+        Ok((k, all)) => Recovery {
             status: 0,
             kept: k as u64,
             records: all as u64,
         },
-        Recovered::Stopped(k) => Recovery {
+        Err(Halt::Stopped(k)) => Recovery {
             status: record_fails(),
             kept: k as u64,
             records: k as u64,
         },
-        Recovered::Refused(e) => Recovery {
-            status: refusal::number_of(e) as u64,
+        Err(Halt::Refused(e)) => Recovery {
+            status: u32::from(e) as u64,
             kept: 0,
             records: 0,
         },
@@ -402,22 +362,20 @@ pub fn recovery_of(a: Recovered) -> Recovery
 }
 
 // Inner: what opening a log sheet answers.
-pub fn log_opened_of(a: Opened) -> LogOpened
+pub fn log_opened_of(a: Result<Heading, Refusal>) -> LogOpened
     ensures { Says (told_opened a) (of_log_opened result) }
 {
-    match a {
-        Opened::At(n, m, c) => LogOpened {
-            status: 0,
-            corners: n as u64,
-            rows: m as u64,
-            place: c.at as u64,
-        },
-        Opened::Refused(e) => LogOpened {
-            status: refusal::number_of(e) as u64,
-            corners: 0,
-            rows: 0,
-            place: 0,
-        },
+    let none = Heading {
+        corners: 0,
+        rows: 0,
+        after: Cursor { at: 0 },
+    };
+    let (status, h) = crossed(a, none);
+    LogOpened {
+        status,
+        corners: h.corners as u64,
+        rows: h.rows as u64,
+        place: h.after.at as u64,
     }
 }
 
@@ -448,7 +406,7 @@ pub fn asked_of(a: Next) -> Asked
             numbers: [0; record::WIDTH],
         },
         Next::Bad => Asked {
-            status: refusal::number_of(Refusal::SheetForm) as u64,
+            status: u32::from(Refusal::SheetForm) as u64,
             found: 0,
             after: 0,
             numbers: [0; record::WIDTH],
@@ -457,15 +415,15 @@ pub fn asked_of(a: Next) -> Asked
 }
 
 // Inner: what the trial ring answers.
-pub fn stored_of(a: Trial) -> Stored
+pub fn stored_of(a: Option<u32>) -> Stored
     ensures { Stores a result }
 {
     match a {
-        Trial::Number(v) => Stored {
+        Some(v) => Stored {
             there: 1,
             number: v as u64,
         },
-        Trial::Nothing => Stored {
+        None => Stored {
             there: 0,
             number: 0,
         },

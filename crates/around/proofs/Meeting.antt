@@ -1,7 +1,7 @@
 -- Neighbours met one by one.
-use mathlib.Core.Path.{◌≡◌, refl, sym, ◌∙◌}
-use mathlib.Core.Logic.{◌≢◌, ◌⊎◌, inl, inr}
-use mathlib.Core.Bool.{Bool, true, false}
+use mathlib.Core.Path.{◌≡◌, refl, sym, ◌∙◌, ap}
+use mathlib.Core.Logic.{◌≢◌, ◌⊎◌, ◌↔◌, inl, inr}
+use mathlib.Core.Bool.{Bool, true, false, not}
 use mathlib.Core.List.Memᴰ
 use mathlib.Core.List.{List}
 use Prim.Native.Nat.{ℕ, ◌+◌, ◌≤◌, ◌<◌}
@@ -9,13 +9,16 @@ use native.Mathlib.Decide.{ℕ_discrete}
 use native.Mathlib.Omega.{arith}
 use lib.ListN.{length, get_or, set, take, length-set}
 use lib.Seq.{take_all, get_or-set_same, get_or-set_other}
+use Rattle.std.specs.Prelude.{nat_eq, nat_lt}
+use Rattle.std.proofs.lemmas.Bool.Decides.{nat_tests}
+use Rattle.std.proofs.lemmas.Bool.{ltb-true, lt-ltb}
 use Rattle.surface.specs.Limits.{most_corners}
 use Rattle.surface.specs.Lists.{◌∈◌}
 use Rattle.surface.proofs.Flat.{at_place}
 use Rattle.neighbours.proofs.Firsts.{first_split, first_old, first_new}
-use Rattle.waiting.specs.InnerWaiting.{Waiting, Member, Joined}
+use Rattle.waiting.specs.InnerWaiting.{Member, Joined}
 use Rattle.around.specs.InnerRing.{next_to}
-use Rattle.around.specs.InnerMeeting.{Listed, Waits, Met}
+use Rattle.around.specs.InnerMeeting.{Listed, Met}
 use Rattle.around.proofs.Nears.{next_to_length, next_to_at}
 
 module _ {h ring : List ℕ} (g : Listed h ring) {i : ℕ} (l : i < length ring) where
@@ -26,9 +29,20 @@ module _ {h ring : List ℕ} (g : Listed h ring) {i : ℕ} (l : i < length ring)
   pub corner_below : get_or h (get_or ring i 0) 0 < most_corners
   corner_below = g.below (rw (next_to_at h ring i l) at (at_place (next_to h ring) i 0 (let q = next_to_length h ring in omega arith)))
 
-pub met_none : (u but : ℕ) (l m bits tops : List ℕ) → Waiting bits tops → Met u but (take 0 l) m bits m bits tops
-met_none u but l m bits tops w = record {
-  waiting = w;
+-- on tells whether m is not but and w is above u
+pub told : {on : Bool} {m but w u : ℕ} → m ≢ but → on ≡ nat_lt u w → (on ≡ true) ↔ ((m ≢ but) × (u < w))
+told n e = (λ q. (n, ltb-true _ _ (sym e ∙ q)), λ z. e ∙ lt-ltb _ _ z.1)
+
+pub told_not : {on : Bool} {m but w u : ℕ} → m ≡ but → on ≡ not (nat_eq m but) → (on ≡ true) ↔ ((m ≢ but) × (u < w))
+told_not {m = m} {but} k e =
+    let same : nat_eq m but ≡ true = grind (arith, nat_tests) in
+    (λ q. absurd (apart (ap not (sym same) ∙ sym e ∙ q)), λ z. absurd (z.0 k))
+  where
+    apart : false ≡ true → ⊥
+    apart q = cc
+
+pub met_none : (u but : ℕ) (l m bits : List ℕ) → Met u but (take 0 l) m bits m bits
+met_none u but l m bits = record {
   size = refl;
   changes = λ z. inl refl;
   marks = λ z k. absurd (Memᴰ.not-nil k);
@@ -38,7 +52,7 @@ met_none u but l m bits tops w = record {
 }
 
 -- one more: w, the corner at place i of l
-module _ (u but : ℕ) (l m₀ bits₀ m bits tops : List ℕ) (i w : ℕ) (h : i < length l) (e : w ≡ get_or l i 0) (fits : w < length m₀) (g : Met u but (take i l) m₀ bits₀ m bits tops) where
+module _ (u but : ℕ) (l m₀ bits₀ m bits : List ℕ) (i w : ℕ) (h : i < length l) (e : w ≡ get_or l i 0) (fits : w < length m₀) (g : Met u but (take i l) m₀ bits₀ m bits) where
   is_new : {z : ℕ} → z ≡ w → z ∈ take (i + 1) l
   is_new q = first_new l i h (q ∙ e)
 
@@ -71,9 +85,8 @@ module _ (u but : ℕ) (l m₀ bits₀ m bits tops : List ℕ) (i w : ℕ) (h : 
       go (inl a) = g.marks z a
       go (inr a) = absurd (k a)
 
-  pub met_more : {on : Bool} {bits' tops' : List ℕ} → Waits (get_or m w 0) but w u on → Joined on w bits bits' tops' → Met u but (take (i + 1) l) m₀ bits₀ (set m w (u + 1)) bits' tops'
+  pub met_more : {on : Bool} {bits' : List ℕ} → ((on ≡ true) ↔ ((get_or m w 0 ≢ but) × (u < w))) → Joined on w bits bits' → Met u but (take (i + 1) l) m₀ bits₀ (set m w (u + 1)) bits'
   met_more {on} {bits'} j k = record {
-    waiting = k.waiting;
     size = length-set m w (u + 1) ∙ g.size;
     changes = λ z. changes z (ℕ_discrete z w);
     marks = λ z q. marks z (ℕ_discrete z w) q;
@@ -88,14 +101,7 @@ module _ (u but : ℕ) (l m₀ bits₀ m bits tops : List ℕ) (i w : ℕ) (h : 
       new z a b (inr q) = go (g.changes w)
         where
           go : (get_or m w 0 ≡ get_or m₀ w 0) ⊎ ((get_or m w 0 ≡ u + 1) × (w ∈ take i l)) → Member bits' z
-          go (inl c) = rw q (k.here (tells on refl))
-            where
-              so : (get_or m w 0 ≢ but) × (u < w)
-              so = (λ x. b (rw q (sym c ∙ x)), rw q at a)
-
-              tells : (b : Bool) → on ≡ b → on ≡ true
-              tells true o = o
-              tells false o = absurd (j.when_false o so)
+          go (inl c) = rw q (k.here (j.1 (λ x. b (rw q (sym c ∙ x)), rw q at a)))
           go (inr c) = k.kept z (g.waits_new z (rw q c.1) a b)
 
       only : (z : ℕ) → Member bits z ⊎ ((z ≡ w) × (on ≡ true)) → Member bits₀ z ⊎ ((z ∈ take (i + 1) l) × (u < z) × (but ≡ u + 1 → get_or m₀ z 0 ≢ but))
@@ -107,12 +113,12 @@ module _ (u but : ℕ) (l m₀ bits₀ m bits tops : List ℕ) (i w : ℕ) (h : 
       only z (inr q) = inr (is_new q.0, rw q.0 so.1, λ e. rw q.0 (unmarked e (g.changes w)))
         where
           so : (get_or m w 0 ≢ but) × (u < w)
-          so = j.when_true q.1
+          so = j.0 q.1
 
           -- its mark now is its first one, or that of u's neighbours
           unmarked : but ≡ u + 1 → (get_or m w 0 ≡ get_or m₀ w 0) ⊎ ((get_or m w 0 ≡ u + 1) × (w ∈ take i l)) → get_or m₀ w 0 ≢ but
           unmarked e (inl c) z = so.0 (c ∙ z)
           unmarked e (inr c) z = so.0 (c.0 ∙ sym e)
 
-pub met_end : {u but : ℕ} {l m₀ bits₀ m bits tops : List ℕ} {i : ℕ} → length l ≤ i → Met u but (take i l) m₀ bits₀ m bits tops → Met u but l m₀ bits₀ m bits tops
+pub met_end : {u but : ℕ} {l m₀ bits₀ m bits : List ℕ} {i : ℕ} → length l ≤ i → Met u but (take i l) m₀ bits₀ m bits → Met u but l m₀ bits₀ m bits
 met_end {l = l} {i = i} h g = rw (take_all i l h) at g

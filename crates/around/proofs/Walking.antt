@@ -1,14 +1,19 @@
 -- The walk along the list of a corner in the first table.
 use mathlib.Core.Path.{◌≡◌, refl, sym, ◌∙◌, ap}
 use mathlib.Core.Logic.{◌≢◌, ◌⊎◌, inl, inr}
+use mathlib.Core.Bool.{Bool, true, false, not}
 use mathlib.Core.List.Memᴰ
 use mathlib.Core.List.{List, [], ◌∷◌, ◌++◌, map-append}
-use Prim.Native.Nat.{ℕ, ◌+◌, ◌*◌, ◌≤◌, ◌<◌}
+use Prim.Native.Nat.{ℕ, ◌+◌, ◌-◌, ◌*◌, ◌≤◌, ◌<◌}
 use native.Mathlib.Decide.{ℕ_discrete}
 use native.Mathlib.Omega.{arith}
 use native.Mathlib.Numerals.{add-one}
-use lib.ListN.{length, get_or, set, take, length-append, length-set}
+use lib.ListN.{length, get_or, set, take, drop, length-append, length-set}
 use lib.Seq.{take-suc-set, take-set-le, length-take-le}
+use Rattle.std.specs.Int.{from_bool}
+use Rattle.std.specs.Prelude.{nat_eq}
+use Rattle.std.proofs.lemmas.Bool.Decides.{nat_tests}
+use Rattle.std.proofs.lemmas.List.{get_or-drop, get_or-take, length-take}
 use Rattle.surface.specs.Limits.{most_rows, most_corners}
 use Rattle.surface.specs.Lists.{◌∈◌, Distinct, none, more, Exactly}
 use Rattle.surface.proofs.Count.{fits, length-map}
@@ -19,8 +24,30 @@ use Rattle.spots.specs.InnerHeld.{flat_of, wide, wides, HoldsSomeStage}
 use Rattle.spots.specs.InnerLists.{Mapped}
 use Rattle.spots.proofs.Held.{wide_inside, wide_one, after_at}
 use Rattle.spots.proofs.Live.{slot_below, clean_back, slot_one}
-use Rattle.around.specs.InnerRing.{SameBit, DifferBit, next_to, MarkedIn, WalkedRound}
+use Rattle.around.specs.InnerRing.{next_to, MarkedIn, WalkedRound}
 use Rattle.around.proofs.Nears.{nears, nears_out, next_to_wides}
+
+-- r is one where x is y, else nought
+abbrev SameBit : ℕ → ℕ → ℕ → Type 0
+SameBit x y r = ((x ≡ y) × (r ≡ 1)) ⊎ ((x ≢ y) × (r ≡ 0))
+
+pub same_bit : (x y : ℕ) → SameBit x y (from_bool (nat_eq x y))
+same_bit x y = go (ℕ_discrete x y)
+  where
+    go : Dec (x ≡ y) → SameBit x y (from_bool (nat_eq x y))
+    go (yes e) = inl (e, let q : nat_eq x y ≡ true = grind (arith, nat_tests) in ap from_bool q)
+    go (no e) = inr (e, let q : nat_eq x y ≡ false = grind (arith, nat_tests) in ap from_bool q)
+
+-- r is nought where x is y, else one
+abbrev DifferBit : ℕ → ℕ → ℕ → Type 0
+DifferBit x y r = ((x ≡ y) × (r ≡ 0)) ⊎ ((x ≢ y) × (r ≡ 1))
+
+differ_bit : {x y r : ℕ} → r ≡ from_bool (not (nat_eq x y)) → DifferBit x y r
+differ_bit {x} {y} is = rw is (go (ℕ_discrete x y))
+  where
+    go : Dec (x ≡ y) → DifferBit x y (from_bool (not (nat_eq x y)))
+    go (yes e) = inl (e, let q : nat_eq x y ≡ true = grind (arith, nat_tests) in ap (λ (b : Bool). from_bool (not b)) q)
+    go (no e) = inr (e, let q : nat_eq x y ≡ false = grind (arith, nat_tests) in ap (λ (b : Bool). from_bool (not b)) q)
 
 -- a list with one number more
 one_on : {l : List ℕ} {x : ℕ} → Distinct l → ¬ (x ∈ l) → Distinct (l ++ (x ∷ []))
@@ -88,6 +115,12 @@ walk_start mark {v} stamp ring p l = record {
 -- the places of v's list are inside
 pub walk_places : {h start list : List ℕ} {v : ℕ} → Mapped h start list v → v < most_corners → (v + 1 < length start) × (get_or start (v + 1) 0 ≤ length list)
 walk_places {v = v} p l = let a = p.lists.corners in let b = p.lists.within v l in let d = p.lists.room in (omega arith, omega arith)
+
+-- a part of the list, place by place
+pub listed_at : (l : List ℕ) (from to j : ℕ) → j < length (take (to - from) (drop from l)) → (from + j < to) × (get_or (take (to - from) (drop from l)) j 0 ≡ get_or l (from + j) 0)
+listed_at l from to j h =
+    let i : j < to - from = omega (arith, length-take (to - from) (drop from l)) in
+    (omega arith, get_or-take (to - from) (drop from l) j 0 i ∙ get_or-drop from l j 0)
 
 module _ {h start list mark : List ℕ} {v stamp i k c : ℕ} {ring : List ℕ} (g : Walking h start list mark v stamp i k c ring) (more_left : i < get_or start (v + 1) 0) (s : HoldsSomeStage h) (small : v < most_corners) where
   abbrev t : List ℕ
@@ -215,8 +248,8 @@ module _ {h start list mark : List ℕ} {v stamp i k c : ℕ} {ring : List ℕ} 
         counted = rw nears' count;
       }
 
-    pub walk_more : get_or mark most_corners 0 ≢ stamp → {r q : ℕ} → DifferBit (get_or h (get_or list i 0) 0) most_corners r → SameBit (get_or mark (get_or h (get_or list i 0) 0) 0) stamp q → Walking h start list mark v stamp (i + 1) (k + r) (c + q) ring'
-    walk_more n {r} {q} a b = go a b
+    pub walk_more : get_or mark most_corners 0 ≢ stamp → {r q : ℕ} → r ≡ from_bool (not (nat_eq (get_or h (get_or list i 0) 0) most_corners)) → q ≡ from_bool (nat_eq (get_or mark (get_or h (get_or list i 0) 0) 0) stamp) → Walking h start list mark v stamp (i + 1) (k + r) (c + q) ring'
+    walk_more n {r} {q} a b = go (differ_bit a) (rw b (same_bit _ stamp))
       where
         go : DifferBit (get_or h (get_or list i 0) 0) most_corners r → SameBit (get_or mark (get_or h (get_or list i 0) 0) 0) stamp q → Walking h start list mark v stamp (i + 1) (k + r) (c + q) ring'
         go (inl z) (inl y) = absurd (n (rw z.0 at y.0))
@@ -251,10 +284,3 @@ few_marked {h} {k = k} {ring = ring} g =
     let l = length-take-le k ring g.fits in
     let m = g.few in
     (omega arith, omega arith)
-
-pub same_there : (x y : ℕ) → (r : ℕ) × SameBit x y r
-same_there x y = go (ℕ_discrete x y)
-  where
-    go : Dec (x ≡ y) → (r : ℕ) × SameBit x y r
-    go (yes e) = (1, inl (e, refl))
-    go (no e) = (0, inr (e, refl))

@@ -1,15 +1,7 @@
 -- The slots of a corner gathered into a ring, and the corners next to them, its neighbours.
-use Rattle.std.specs.Prelude.{◌≡◌, ◌≢◌, ◌⊎◌, List, map, ℕ, ◌≤◌, ◌<◌, length, get_or, take}
+use Rattle.std.specs.Prelude.{◌≡◌, List, map, ℕ, ◌≤◌, ◌<◌, length, get_or, take}
 use Rattle.surface.specs.Lists.{◌∈◌, Distinct, Exactly}
 use Rattle.spots.specs.InnerHeld.{flat_of, wides}
-
--- r is one where x is y, else nought
-abbrev pub SameBit : ℕ → ℕ → ℕ → Type 0
-SameBit x y r = ((x ≡ y) × (r ≡ 1)) ⊎ ((x ≢ y) × (r ≡ 0))
-
--- r is nought where x is y, else one
-abbrev pub DifferBit : ℕ → ℕ → ℕ → Type 0
-DifferBit x y r = ((x ≡ y) × (r ≡ 0)) ⊎ ((x ≢ y) × (r ≡ 1))
 
 -- l lists the slots of v in the flat table t, each once
 pub record SlotsOf (t : List ℕ) (v : ℕ) (l : List ℕ) : Type 0 where

@@ -5,7 +5,8 @@ use Prim.Native.Nat.{ℕ}
 use lib.IntN.{ℤ}
 use lib.Ieee.{Float}
 use denote.Ref.{Bor}
-use Rattle.thin.specs.declared.Thinning.{Thinning}
+use Rattle.std.specs.Prelude.{Result}
+use Rattle.refusal.specs.declared.Refusal.{Refusal}
 use Rattle.thin.specs.Thin.{Thinned}
 use Rattle.thin.specs.Answer as ThinAnswer
 use Rattle.thin.proofs.Main.{thinned_one}
@@ -55,7 +56,7 @@ places_same e (of_second n lt p k) = of_second (λ z. n (e.1 ∙ z)) lt (record 
 places_same e (of_first n lt p k) = of_first (λ z. n (e.1 ∙ z)) lt (record { place = sym e.0 ∙ p.place; holds = sym e.1 ∙ p.holds }) k
 
 -- thinning by either engine
-thin_as_told : (u : ℕ) (v : Float) {xs : List ℤ} {t l : List ℕ} {r : Counted} {t₁ t₂ l₁ l₂ : List ℕ} {a : Thinning} → ThinShown u v xs t l r t₁ l₁ → Thinned (order_of_lem u v) xs t l a t₂ l₂ →
+thin_as_told : (u : ℕ) (v : Float) {xs : List ℤ} {t l : List ℕ} {r : Counted} {t₁ t₂ l₁ l₂ : List ℕ} {a : Result ℕ Refusal} → ThinShown u v xs t l r t₁ l₁ → Thinned (order_of_lem u v) xs t l a t₂ l₂ →
     Says (ThinAnswer.told a) (of_counted r) × (t₁ ≡ t₂) × (l₁ ≡ l₂)
 thin_as_told u v p w = let e = thinned_one w p.gives in (said ThinAnswer.told e.0 p.says, sym e.1, sym e.2)
 

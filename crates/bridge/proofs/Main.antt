@@ -38,8 +38,7 @@ use Rattle.recover.proofs.Main.{recovered_one}
 use Rattle.recover.specs.Answer as RecoverAnswer
 use Rattle.lines.proofs.Plain.{pos_same}
 use Rattle.ring.proofs.Rule.{trial_one}
-use Rattle.ring.specs.declared.Trial.{Trial}
-use Rattle.ring.specs.declared.Trial.TheVariants.{Number, Nothing}
+use Rattle.std.specs.Prelude.{Option, Some, None}
 use Rattle.link.proofs.Laws.{chosen_one}
 use Rattle.catchup.proofs.One.{caught_up_one}
 use Rattle.across.specs.declared.Counted.{Counted}
@@ -216,9 +215,9 @@ next_crosses p q = asked_once (p.many ∙ sym q.many) p.shown.says (said told_ne
 
 -- ---- the same of those that refuse nothing
 
-stored_once : (a : Trial) {r q : Stored} → Stores a r → Stores a q → r ≡ q
-stored_once (Number v) h k = let e = h.0 ∙ sym k.0 in let n = h.1 ∙ sym k.1 in λ i. record { there = e i; number = n i }
-stored_once Nothing h k = let e = h.0 ∙ sym k.0 in let n = h.1 ∙ sym k.1 in λ i. record { there = e i; number = n i }
+stored_once : (a : Option ℕ) {r q : Stored} → Stores a r → Stores a q → r ≡ q
+stored_once (Some v) h k = let e = h.0 ∙ sym k.0 in let n = h.1 ∙ sym k.1 in λ i. record { there = e i; number = n i }
+stored_once None h k = let e = h.0 ∙ sym k.0 in let n = h.1 ∙ sym k.1 in λ i. record { there = e i; number = n i }
 
 pub trial_crosses : {k : ℕ} {r q : Stored} → TrialShown k r → TrialShown k q → r ≡ q
 trial_crosses {k} {r} {q} p h = stored_once p.answer p.stores (rw (trial_one k p.answer h.answer p.tells h.tells) h.stores)

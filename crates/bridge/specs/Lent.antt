@@ -1,7 +1,6 @@
 -- The calls that refuse nothing: a number of the trial ring, and the caller's own memory told by places in it.
-use Rattle.std.specs.Prelude.{◌≡◌, List, [], ℕ, ◌<◌, length, drop}
+use Rattle.std.specs.Prelude.{◌≡◌, List, [], ℕ, ◌<◌, length, drop, Option}
 use Rattle.std.specs.Borrow.{Bor}
-use Rattle.ring.specs.declared.Trial.{Trial}
 use Rattle.ring.specs.Ring.{AnswerAt}
 use Rattle.link.specs.Chosen.{Chosen}
 use Rattle.catchup.specs.CatchUp.{PartOf, CaughtUp}
@@ -11,7 +10,7 @@ use Rattle.bridge.specs.declared.Part.{Part}
 
 -- as the call answers
 pub record TrialShown (at : ℕ) (r : Stored) : Type 0 where
-  pub answer : Trial
+  pub answer : Option ℕ
   pub tells : AnswerAt at answer
   pub stores : Stores answer r
 

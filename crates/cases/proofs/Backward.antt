@@ -6,6 +6,7 @@ use Prim.Native.Nat.{ℕ}
 use native.Mathlib.Omega.{arith}
 use lib.IntN.{pos}
 use lib.ListN.{get_or, replicate, drop}
+use Rattle.std.specs.Prelude.{Ok, Err, Result}
 use Rattle.surface.specs.Rows.{rows, flat, row}
 use Rattle.surface.specs.Table.{Used}
 use Rattle.follow.specs.Leads.{one_step}
@@ -17,8 +18,8 @@ use Rattle.record.specs.Layout.{width, first_records}
 use Rattle.length.specs.declared.Order.TheVariants.{NoLimit}
 use Rattle.refusal.specs.declared.Refusal.TheVariants.{RecordFails}
 use Rattle.refusal.specs.Told.{Told}
-use Rattle.regrow.specs.declared.Regrown.{Regrown}
-use Rattle.regrow.specs.declared.Regrown.TheVariants.{Done, Stopped}
+use Rattle.regrow.specs.declared.Halt.{Halt}
+use Rattle.regrow.specs.declared.Halt.TheVariants.{Stopped}
 use Rattle.regrow.specs.Answer.{told}
 use Rattle.growable.specs.Refusals.{GrowFits}
 use Rattle.regrow.specs.Outcome.{GrownAs}
@@ -29,26 +30,26 @@ use Rattle.cases.specs.Skins.{O}
 use Rattle.cases.specs.Cases.{O_last, O_log, O_one, O_two}
 use Rattle.cases.proofs.Starred.{case_O, k₂, second_step, O_one_table, O_two_table}
 
-told_count : {k m : ℕ} → told (Done k) ≡ told (Done m) → k ≡ m
+told_count : {k m : ℕ} → told (Ok k) ≡ told (Ok m) → k ≡ m
 told_count {k} {m} e = let f : pos k ∷ [] ≡ pos m ∷ [] = ap (λ (v : Told). v.values) e in cc
 
-stopped_count : {k m : ℕ} → Stopped k ≡ Stopped m → k ≡ m
+stopped_count : {k m : ℕ} → ◌≡◌ {A = Result ℕ Halt} (Err (Stopped k)) (Err (Stopped m)) → k ≡ m
 stopped_count e = cc
 
 -- a replay that writes no zeros behind the stage reached
-pub replay_no_zeros : (a : Regrown) (r : List ℕ) → get_or r 12 0 ≡ get_or O 12 0 → ¬ ReplayedAs 6 O O_log a r
+pub replay_no_zeros : (a : Result ℕ Halt) (r : List ℕ) → get_or r 12 0 ≡ get_or O 12 0 → ¬ ReplayedAs 6 O O_log a r
 replay_no_zeros a r e h = let k = ap (λ l. get_or l 12 0) (replayed NoLimit case_O.0 h).1 in let f : ◌≡◌ {A = ℕ} 5 0 = sym e ∙ k in omega arith
 
 -- a count of records that is off by one, forward and back
-pub replay_miscounts : (k : ℕ) (r : List ℕ) → k ≢ 2 → ¬ ReplayedAs 6 O O_log (Done k) r
+pub replay_miscounts : (k : ℕ) (r : List ℕ) → k ≢ 2 → ¬ ReplayedAs 6 O O_log (Ok k) r
 replay_miscounts k r n h = n (told_count (replayed NoLimit case_O.0 h).0)
 
-pub grow_miscounts : (k : ℕ) (r : List ℕ) → k ≢ 2 → ¬ GrownAs 6 4 O_last O_log (Done k) r
+pub grow_miscounts : (k : ℕ) (r : List ℕ) → k ≢ 2 → ¬ GrownAs 6 4 O_last O_log (Ok k) r
 unfolding rows
 grow_miscounts k r n h = n (told_count (restored NoLimit case_O.0 h).0)
 
 -- 13 where every record was done
-pub grow_stops_where_done : (k : ℕ) (r : List ℕ) → ¬ GrownAs 6 4 O_last O_log (Stopped k) r
+pub grow_stops_where_done : (k : ℕ) (r : List ℕ) → ¬ GrownAs 6 4 O_last O_log (Err (Stopped k)) r
 unfolding rows
 grow_stops_where_done k r h = let e : ◌≡◌ {A = ℕ} 13 0 = ap (λ (v : Told). v.number) (restored NoLimit case_O.0 h).0 in omega arith
 
@@ -58,7 +59,7 @@ grow_stops_where_done k r h = let e : ◌≡◌ {A = ℕ} 13 0 = ap (λ (v : Tol
 abbrev pub later_first : List ℕ
 later_first = flat (put 0 (row 0 1 2) (put 3 (row 0 4 1) (row 0 2 3 ∷ row 0 3 4 ∷ row 5 3 2 ∷ row 5 2 1 ∷ row 5 4 3 ∷ row 5 1 4 ∷ [])))
 
-pub grow_later_first : (a : Regrown) → ¬ GrownAs 6 4 O_last O_log a later_first
+pub grow_later_first : (a : Result ℕ Halt) → ¬ GrownAs 6 4 O_last O_log a later_first
 unfolding rows flat put
 grow_later_first a h = let f : ◌≡◌ {A = ℕ} 5 0 = ap (λ l. get_or l 9 0) (restored NoLimit case_O.0 h).1 in omega arith
 
@@ -79,7 +80,7 @@ used_two = go second_step
     go (one_step r t) = (0, O_one_table.stage.both r.meets.edge)
 
 -- the second record is grown back, the first is not: one done, and past O-one's rows the nines
-stops : GrownAs 6 4 nines spoiled (Stopped 1) (O_one ++ replicate 8 9)
+stops : GrownAs 6 4 nines spoiled (Err (Stopped 1)) (O_one ++ replicate 8 9)
 unfolding rows flat first_records
 stops =
     let fits : GrowFits 6 4 spoiled = record { rows = record { least = omega arith; most = omega arith }; corners = record { few = omega arith; many = omega arith }; whole = refl; most = omega arith } in
@@ -89,9 +90,9 @@ stops =
     }
 
 -- 13 that leaves scribbles past the rows reached
-pub grow_scribbles : (a : Regrown) (r : List ℕ) → get_or r 18 0 ≢ 9 → ¬ GrownAs 6 4 nines spoiled a r
+pub grow_scribbles : (a : Result ℕ Halt) (r : List ℕ) → get_or r 18 0 ≢ 9 → ¬ GrownAs 6 4 nines spoiled a r
 grow_scribbles a r n h = n (ap (λ l. get_or l 18 0) (grown_one h stops).1)
 
 -- 13 that counts the failing record too
-pub grow_counts_failing : (r : List ℕ) → ¬ GrownAs 6 4 nines spoiled (Stopped 2) r
+pub grow_counts_failing : (r : List ℕ) → ¬ GrownAs 6 4 nines spoiled (Err (Stopped 2)) r
 grow_counts_failing r h = let e = stopped_count (grown_one h stops).0 in omega arith

@@ -10,6 +10,8 @@ use native.Mathlib.Omega.{arith}
 use lib.Dec.{T as So, ltb, ltb→lt}
 use lib.IntN.{ℤ, pos}
 use lib.ListN.{get_or}
+use Rattle.std.specs.Prelude.{Ok, Result, None}
+use Rattle.refusal.specs.declared.Refusal.{Refusal}
 use Rattle.surface.specs.Lists.{◌∈◌, Exactly}
 use Rattle.surface.specs.Rows.{Row, row, rows, flat}
 use Rattle.surface.specs.Table.{Edge, edges}
@@ -24,10 +26,7 @@ use Rattle.trapped.specs.Trapped.{Any}
 use Rattle.trapped.specs.ByCorner.{ByCorner}
 use Rattle.trapped.proofs.Order.{run_by_corner, by_corner_one}
 use Rattle.length.specs.declared.Order.TheVariants.{NoLimit}
-use Rattle.least.specs.declared.Bound.TheVariants.{Free}
 use Rattle.record.specs.Layout.{log_of, width, room_for}
-use Rattle.thin.specs.declared.Thinning.{Thinning}
-use Rattle.thin.specs.declared.Thinning.TheVariants.{Done}
 use Rattle.thin.specs.Thin.{Thinned, done}
 use Rattle.thin.proofs.Main.{thinned_one, thin_passes}
 use Rattle.thin.proofs.Judging.{under_usable}
@@ -74,9 +73,9 @@ D_run = run_sound any (goes_on {k = d₁} tt refl (goes_on {k = d₂} tt refl (s
 pub D_by_corner : ByCorner 6 (rows D) (d₁ ∷ d₂ ∷ []) D_end
 D_by_corner = run_by_corner 6 D_skin.stage D_run
 
-pub D_thins : Thinned NoLimit D_corners D (lent (room_for 2)) (Done 2) D_last D_log
+pub D_thins : Thinned NoLimit D_corners D (lent (room_for 2)) (Ok 2) D_last D_log
 unfolding rows flat log_of
-D_thins = done {b = Free} {log = d₁ ∷ d₂ ∷ []} {last = D_end} (thin_passes D (under_usable refl) refl D_skin (omega arith)) D_skin refl D_run refl refl refl
+D_thins = done {b = None} {log = d₁ ∷ d₂ ∷ []} {last = D_end} (thin_passes D (under_usable refl) refl D_skin (omega arith)) D_skin refl D_run refl refl refl
 
 -- a record that is written where its edge meets the condition
 step : (T : List Row) (k : Record) {T' : List Row} → So (ltb k.kept k.removed) → So (linked k.kept k.removed T) → contract k.kept k.removed T ≡ T' →
@@ -147,7 +146,7 @@ three_first_five {k} f = first (Memᴰ.cases_cons (near_whole 0 k.removed (rows 
 pub three_first_not : {k : Record} {T'' : List Row} → ThreeFirst 0 (rows D) k T'' → (l : List Record) (T' : List Row) → ¬ ByCorner 6 (rows D) (k ∷ l) T'
 three_first_not f l T' h = let e = ap (λ k. k.removed) (head-eq_of_cons-eq (by_corner_one 6 h D_by_corner).0) in let g : ◌≡◌ {A = ℕ} 5 4 = sym (three_first_five f) ∙ e in omega arith
 
-pub three_first_thins : {k : Record} {T'' : List Row} → ThreeFirst 0 (rows D) k T'' → (b : Thinning) (u m : List ℕ) → get_or m 1 0 ≡ k.removed → ¬ Thinned NoLimit D_corners D (lent (room_for 2)) b u m
+pub three_first_thins : {k : Record} {T'' : List Row} → ThreeFirst 0 (rows D) k T'' → (b : Result ℕ Refusal) (u m : List ℕ) → get_or m 1 0 ≡ k.removed → ¬ Thinned NoLimit D_corners D (lent (room_for 2)) b u m
 three_first_thins f b u m e h = let k = ap (λ l. get_or l 1 0) (thinned_one h D_thins).2 in let g : ◌≡◌ {A = ℕ} 5 4 = sym (three_first_five f) ∙ sym e ∙ k in omega arith
 
 -- one that takes the first free neighbour in the order round the corner, or only numbers above the last one that it took: after 4 it takes 5, though 3 came to 0 with 4. Its walk round 0 begins
@@ -165,5 +164,5 @@ round_first = (one_step (step (rows D) d₁ tt tt refl refl) (one_step (step (co
 pub round_first_not : (l : List Record) (T' : List Row) → ¬ ByCorner 6 (rows D) (d₁ ∷ f₂ ∷ l) T'
 round_first_not l T' h = let e = ap (λ k. k.removed) (head-eq_of_cons-eq (tail-eq_of_cons-eq (by_corner_one 6 h D_by_corner).0)) in let f : ◌≡◌ {A = ℕ} 5 3 = e in omega arith
 
-pub round_first_thins : (b : Thinning) (u m : List ℕ) → get_or m (width + 1) 0 ≡ 5 → ¬ Thinned NoLimit D_corners D (lent (room_for 2)) b u m
+pub round_first_thins : (b : Result ℕ Refusal) (u m : List ℕ) → get_or m (width + 1) 0 ≡ 5 → ¬ Thinned NoLimit D_corners D (lent (room_for 2)) b u m
 round_first_thins b u m e h = let k = ap (λ l. get_or l (width + 1) 0) (thinned_one h D_thins).2 in let f : ◌≡◌ {A = ℕ} 5 3 = sym e ∙ k in omega arith

@@ -7,6 +7,7 @@ use Prim.Native.Nat.{ℕ, ◌≤◌, ◌<◌}
 use native.Mathlib.Omega.{arith}
 use lib.Dec.{T as So, eqb, eqb→eq, T_not}
 use lib.ListN.{length, get_or, drop}
+use Rattle.std.specs.Prelude.{Ok, Err, Result}
 use Rattle.follow.specs.Leads.{Leads, no_step, one_step}
 use Rattle.follow.specs.Follow.{all, some, refused, followed}
 use Rattle.surface.specs.Rows.{Row, row, rows, flat, turn_0, turn_1}
@@ -22,8 +23,8 @@ use Rattle.flips.proofs.Flips.{flip_stage, flip_undone}
 use Rattle.refusal.specs.declared.Refusal.TheVariants.{RoomShort, NumberNotBelow, NumberTwice}
 use Rattle.laid.specs.Laid.{laid, first_items}
 use Rattle.flipped.specs.declared.FlipRefusal.TheVariants.{EdgeMissing, EdgeBlocked, UndoFails}
-use Rattle.flipped.specs.declared.Flipped.{Flipped}
-use Rattle.flipped.specs.declared.Flipped.TheVariants.{Done, Stopped, Refused}
+use Rattle.flipped.specs.declared.FlipHalt.{FlipHalt}
+use Rattle.flipped.specs.declared.FlipHalt.TheVariants.{Stopped, Refused}
 use Rattle.flipped.proofs.Telling.{flipped_apart}
 use Rattle.flip.specs.Refused.{missing, blocked}
 use Rattle.fliplist.specs.Outcome.{FlipsOn, FlippedAs}
@@ -65,7 +66,7 @@ T_blocked {a} {b} e =
 
 module _ {a b : ℕ} (e : Edge (rows T) a b) (l : List ℕ) (room : 8 ≤ length l) where
   -- nothing is done, and nothing is changed
-  pub T_stops : FlippedAs 4 T (a ∷ b ∷ []) l (Stopped EdgeBlocked 0) T l
+  pub T_stops : FlippedAs 4 T (a ∷ b ∷ []) l (Err (Stopped EdgeBlocked 0)) T l
   unfolding rows flat first_items laid
   T_stops = record {
     outcome = followed (flip_passes 4 T (a ∷ b ∷ []) l (record { counts = counts_fit_lem refl T_skin.stage; whole = refl }) room T_skin.stage, T_skin.stage)
@@ -73,11 +74,11 @@ module _ {a b : ℕ} (e : Edge (rows T) a b) (l : List ℕ) (room : 8 ≤ length
   }
 
   -- one that flips it all the same and so makes a double edge, whatever it writes
-  pub double_edge : (k : ℕ) (t' l' : List ℕ) → ¬ FlippedAs 4 T (a ∷ b ∷ []) l (Done k) t' l'
+  pub double_edge : (k : ℕ) (t' l' : List ℕ) → ¬ FlippedAs 4 T (a ∷ b ∷ []) l (Ok k) t' l'
   double_edge k t' l' h = flipped_apart.finished_stopped (flipped_one h T_stops).0
 
   -- nor one that flips it and answers otherwise: T stands, whatever is told
-  pub double_edge_untold : (v : Flipped) (t' l' : List ℕ) → FlippedAs 4 T (a ∷ b ∷ []) l v t' l' → t' ≡ T
+  pub double_edge_untold : (v : Result ℕ FlipHalt) (t' l' : List ℕ) → FlippedAs 4 T (a ∷ b ∷ []) l v t' l' → t' ≡ T
   double_edge_untold v t' l' h = (flipped_one h T_stops).1
 
 -- ---- O, whose edge 0 1 is flipped, and then the edge 2 4 that came
@@ -142,7 +143,7 @@ one_led = one_step {i = 0 ⇒ 1} (k₁, first_flip, refl) (no_step refl)
 
 module _ (l : List ℕ) (room : 8 ≤ length l) where
   -- the flip is done, and logged
-  pub O_flips : FlippedAs 6 O (0 ∷ 1 ∷ []) l (Done 1) O_flipped (one_record ++ drop 8 l)
+  pub O_flips : FlippedAs 6 O (0 ∷ 1 ∷ []) l (Ok 1) O_flipped (one_record ++ drop 8 l)
   unfolding rows flat first_items laid
   O_flips = record {
     outcome = followed (flip_passes 6 O (0 ∷ 1 ∷ []) l (record { counts = counts_fit_lem refl O_skin.stage; whole = refl }) room O_skin.stage, O_skin.stage)
@@ -150,15 +151,15 @@ module _ (l : List ℕ) (room : 8 ≤ length l) where
   }
 
   -- one that logs the rows that came, not the old ones
-  pub logs_new_rows : (a : Flipped) (t' l' : List ℕ) → ¬ FlippedAs 6 O (0 ∷ 1 ∷ []) l a t' (0 ∷ 2 ∷ 0 ∷ 4 ∷ 3 ∷ 2 ∷ 4 ∷ 1 ∷ l')
+  pub logs_new_rows : (a : Result ℕ FlipHalt) (t' l' : List ℕ) → ¬ FlippedAs 6 O (0 ∷ 1 ∷ []) l a t' (0 ∷ 2 ∷ 0 ∷ 4 ∷ 3 ∷ 2 ∷ 4 ∷ 1 ∷ l')
   logs_new_rows a t' l' h = let e : ◌≡◌ {A = ℕ} 2 0 = ap (λ m. get_or m 1 0) (flipped_one h O_flips).2 in omega arith
 
   -- one that writes (2,4,1) in the first one's place and (2,0,4) in the second's
-  pub places_exchanged : (a : Flipped) (l' : List ℕ) → ¬ FlippedAs 6 O (0 ∷ 1 ∷ []) l a (2 ∷ 4 ∷ 1 ∷ 0 ∷ 2 ∷ 3 ∷ 0 ∷ 3 ∷ 4 ∷ 2 ∷ 0 ∷ 4 ∷ 5 ∷ 2 ∷ 1 ∷ 5 ∷ 3 ∷ 2 ∷ 5 ∷ 4 ∷ 3 ∷ 5 ∷ 1 ∷ 4 ∷ []) l'
+  pub places_exchanged : (a : Result ℕ FlipHalt) (l' : List ℕ) → ¬ FlippedAs 6 O (0 ∷ 1 ∷ []) l a (2 ∷ 4 ∷ 1 ∷ 0 ∷ 2 ∷ 3 ∷ 0 ∷ 3 ∷ 4 ∷ 2 ∷ 0 ∷ 4 ∷ 5 ∷ 2 ∷ 1 ∷ 5 ∷ 3 ∷ 2 ∷ 5 ∷ 4 ∷ 3 ∷ 5 ∷ 1 ∷ 4 ∷ []) l'
   places_exchanged a l' h = let e : ◌≡◌ {A = ℕ} 4 0 = ap (λ t. get_or t 1 0) (flipped_one h O_flips).1 in omega arith
 
   -- one that writes in the log past the record
-  pub writes_past : (a : Flipped) (t' l' : List ℕ) → drop 8 l' ≢ drop 8 l → ¬ FlippedAs 6 O (0 ∷ 1 ∷ []) l a t' l'
+  pub writes_past : (a : Result ℕ FlipHalt) (t' l' : List ℕ) → drop 8 l' ≢ drop 8 l → ¬ FlippedAs 6 O (0 ∷ 1 ∷ []) l a t' l'
   writes_past a t' l' n h = n (ap (drop 8) (flipped_one h O_flips).2)
 
 -- ---- the edge the other way, 1 0: its first row is the one at place 3
@@ -182,7 +183,7 @@ other_way = record {
 
 module _ (l : List ℕ) (room : 8 ≤ length l) where
   -- the flip is done, and logged
-  pub O_flips_back : FlippedAs 6 O (1 ∷ 0 ∷ []) l (Done 1) O_flipped_back (3 ∷ 0 ∷ 4 ∷ 1 ∷ 0 ∷ 0 ∷ 1 ∷ 2 ∷ drop 8 l)
+  pub O_flips_back : FlippedAs 6 O (1 ∷ 0 ∷ []) l (Ok 1) O_flipped_back (3 ∷ 0 ∷ 4 ∷ 1 ∷ 0 ∷ 0 ∷ 1 ∷ 2 ∷ drop 8 l)
   unfolding rows flat first_items laid
   O_flips_back = record {
     outcome = followed (flip_passes 6 O (1 ∷ 0 ∷ []) l (record { counts = counts_fit_lem refl O_skin.stage; whole = refl }) room O_skin.stage, O_skin.stage)
@@ -190,22 +191,22 @@ module _ (l : List ℕ) (room : 8 ≤ length l) where
   }
 
   -- one that sorts the two ends, and so flips 0 1
-  pub sorts_ends : (a : Flipped) (l' : List ℕ) → ¬ FlippedAs 6 O (1 ∷ 0 ∷ []) l a O_flipped l'
+  pub sorts_ends : (a : Result ℕ FlipHalt) (l' : List ℕ) → ¬ FlippedAs 6 O (1 ∷ 0 ∷ []) l a O_flipped l'
   sorts_ends a l' h = let e : ◌≡◌ {A = ℕ} 2 4 = ap (λ t. get_or t 0 0) (flipped_one h O_flips_back).1 in omega arith
 
   -- one that logs the row at the earlier place first, as thinning does
-  pub earlier_place_first : (a : Flipped) (t' l' : List ℕ) → ¬ FlippedAs 6 O (1 ∷ 0 ∷ []) l a t' (0 ∷ 0 ∷ 1 ∷ 2 ∷ 3 ∷ 0 ∷ 4 ∷ 1 ∷ l')
+  pub earlier_place_first : (a : Result ℕ FlipHalt) (t' l' : List ℕ) → ¬ FlippedAs 6 O (1 ∷ 0 ∷ []) l a t' (0 ∷ 0 ∷ 1 ∷ 2 ∷ 3 ∷ 0 ∷ 4 ∷ 1 ∷ l')
   earlier_place_first a t' l' h = let e : ◌≡◌ {A = ℕ} 0 3 = ap (λ m. get_or m 0 0) (flipped_one h O_flips_back).2 in omega arith
 
   -- one that logs the first row as (1,0,4), not as stored
-  pub logs_turned : (a : Flipped) (t' l' : List ℕ) → ¬ FlippedAs 6 O (1 ∷ 0 ∷ []) l a t' (3 ∷ 1 ∷ 0 ∷ 4 ∷ 0 ∷ 0 ∷ 1 ∷ 2 ∷ l')
+  pub logs_turned : (a : Result ℕ FlipHalt) (t' l' : List ℕ) → ¬ FlippedAs 6 O (1 ∷ 0 ∷ []) l a t' (3 ∷ 1 ∷ 0 ∷ 4 ∷ 0 ∷ 0 ∷ 1 ∷ 2 ∷ l')
   logs_turned a t' l' h = let e : ◌≡◌ {A = ℕ} 1 0 = ap (λ m. get_or m 1 0) (flipped_one h O_flips_back).2 in omega arith
 
 -- ---- edges that are missing from the start
 
 module _ {x y : ℕ} (m : ¬ Edge (rows O) x y) (l : List ℕ) (room : 8 ≤ length l) where
   -- nothing is done, and nothing is changed
-  O_missing : FlippedAs 6 O (x ∷ y ∷ []) l (Stopped EdgeMissing 0) O l
+  O_missing : FlippedAs 6 O (x ∷ y ∷ []) l (Err (Stopped EdgeMissing 0)) O l
   unfolding rows flat first_items laid
   O_missing = record {
     outcome = followed (flip_passes 6 O (x ∷ y ∷ []) l (record { counts = counts_fit_lem refl O_skin.stage; whole = refl }) room O_skin.stage, O_skin.stage)
@@ -214,21 +215,21 @@ module _ {x y : ℕ} (m : ¬ Edge (rows O) x y) (l : List ℕ) (room : 8 ≤ len
 
 module _ (l : List ℕ) (room : 8 ≤ length l) where
   -- 9 is no corner, so 0 9 is no edge
-  pub O_no_corner : FlippedAs 6 O (0 ∷ 9 ∷ []) l (Stopped EdgeMissing 0) O l
+  pub O_no_corner : FlippedAs 6 O (0 ∷ 9 ∷ []) l (Err (Stopped EdgeMissing 0)) O l
   unfolding rows edges
   O_no_corner = O_missing (no_edge (rows O) 0 9 tt) l room
 
   -- one that refuses the list for it, as a table is refused for such a number
-  pub five_for_thirty : (t' l' : List ℕ) → ¬ FlippedAs 6 O (0 ∷ 9 ∷ []) l (Refused NumberNotBelow) t' l'
+  pub five_for_thirty : (t' l' : List ℕ) → ¬ FlippedAs 6 O (0 ∷ 9 ∷ []) l (Err (Refused NumberNotBelow)) t' l'
   five_for_thirty t' l' h = flipped_apart.refused_stopped (flipped_one h O_no_corner).0
 
   -- 3 3 is no edge either
-  pub O_one_corner : FlippedAs 6 O (3 ∷ 3 ∷ []) l (Stopped EdgeMissing 0) O l
+  pub O_one_corner : FlippedAs 6 O (3 ∷ 3 ∷ []) l (Err (Stopped EdgeMissing 0)) O l
   unfolding rows edges
   O_one_corner = O_missing (no_edge (rows O) 3 3 tt) l room
 
   -- one that refuses the list for it, as a table is refused for a row that has a number twice
-  pub one_corner : (t' l' : List ℕ) → ¬ FlippedAs 6 O (3 ∷ 3 ∷ []) l (Refused NumberTwice) t' l'
+  pub one_corner : (t' l' : List ℕ) → ¬ FlippedAs 6 O (3 ∷ 3 ∷ []) l (Err (Refused NumberTwice)) t' l'
   one_corner t' l' h = flipped_apart.refused_stopped (flipped_one h O_one_corner).0
 
 -- ---- a list of three edges
@@ -239,7 +240,7 @@ three_edges = 0 ∷ 1 ∷ 0 ∷ 1 ∷ 2 ∷ 4 ∷ []
 
 module _ (l : List ℕ) (room : 24 ≤ length l) where
   -- one is done, and the next is missing
-  pub O_stops : FlippedAs 6 O three_edges l (Stopped EdgeMissing 1) O_flipped (one_record ++ drop 8 l)
+  pub O_stops : FlippedAs 6 O three_edges l (Err (Stopped EdgeMissing 1)) O_flipped (one_record ++ drop 8 l)
   unfolding rows flat first_items laid edges
   O_stops = record {
     outcome = followed (flip_passes 6 O three_edges l (record { counts = counts_fit_lem refl O_skin.stage; whole = refl }) room O_skin.stage, O_skin.stage)
@@ -247,24 +248,24 @@ module _ (l : List ℕ) (room : 24 ≤ length l) where
   }
 
   -- one that leaves the missing edge out and goes on with the rest of the list
-  pub goes_on : (a : Flipped) (l' : List ℕ) → ¬ FlippedAs 6 O three_edges l a O_twice l'
+  pub goes_on : (a : Result ℕ FlipHalt) (l' : List ℕ) → ¬ FlippedAs 6 O three_edges l a O_twice l'
   goes_on a l' h = let e : ◌≡◌ {A = ℕ} 1 2 = ap (λ t. get_or t 0 0) (flipped_one h O_stops).1 in omega arith
 
   -- one that takes back what was done before it
-  pub takes_back : (a : Flipped) (l' : List ℕ) → ¬ FlippedAs 6 O three_edges l a O l'
+  pub takes_back : (a : Result ℕ FlipHalt) (l' : List ℕ) → ¬ FlippedAs 6 O three_edges l a O l'
   takes_back a l' h = let e : ◌≡◌ {A = ℕ} 0 2 = ap (λ t. get_or t 0 0) (flipped_one h O_stops).1 in omega arith
 
   -- one that counts the missing edge too
-  pub counts_failing_edge : (t' l' : List ℕ) → ¬ FlippedAs 6 O three_edges l (Stopped EdgeMissing 2) t' l'
+  pub counts_failing_edge : (t' l' : List ℕ) → ¬ FlippedAs 6 O three_edges l (Err (Stopped EdgeMissing 2)) t' l'
   counts_failing_edge t' l' h = let e : ◌≡◌ {A = ℕ} 2 1 = flipped_apart.stopped_one (flipped_one h O_stops).0 in omega arith
 
 module _ (l : List ℕ) (short : length l < 24) where
   -- 3, before any flip, with room for one record or for two as with none
-  pub O_short : FlippedAs 6 O three_edges l (Refused RoomShort) O l
+  pub O_short : FlippedAs 6 O three_edges l (Err (Refused RoomShort)) O l
   O_short = record { outcome = refused (judge_3 6 O three_edges l (record { counts = counts_fit_lem refl O_skin.stage; whole = refl }) short).holds refl refl }
 
   -- one that asks for room as it goes, and so does the first flip, whether it then tells 3 or that the next edge is missing
-  pub room_as_it_goes : (a : Flipped) (l' : List ℕ) → ¬ FlippedAs 6 O three_edges l a O_flipped l'
+  pub room_as_it_goes : (a : Result ℕ FlipHalt) (l' : List ℕ) → ¬ FlippedAs 6 O three_edges l a O_flipped l'
   room_as_it_goes a l' h = let e : ◌≡◌ {A = ℕ} 2 0 = ap (λ t. get_or t 0 0) (flipped_one h O_short).1 in omega arith
 
 -- ---- the records undone
@@ -274,7 +275,7 @@ not_yet : (S : List Row) → ¬ Undone 6 (rows O_twice) k₁ S
 unfolding rows
 not_yet S u = let e = u.is in let f = u.flips.leaves in let k : ◌≡◌ {A = ℕ} 4 2 = cc in omega arith
 
-pub O_kept : UndoneAs 6 O_twice one_record (Stopped UndoFails 0) O_twice
+pub O_kept : UndoneAs 6 O_twice one_record (Err (Stopped UndoFails 0)) O_twice
 unfolding rows flat first_items laid
 O_kept = record {
   outcome = followed (undo_passes 6 O_twice one_record (record { counts = counts_fit_lem refl twice_stage; whole = refl }) twice_stage, twice_stage)
@@ -282,11 +283,11 @@ O_kept = record {
 }
 
 -- one that undoes a record wherever its two rows put back give a stage whose flip is allowed, as they give O: that flip does not write the present table
-pub writes_another_table : (a : Flipped) → ¬ UndoneAs 6 O_twice one_record a O
+pub writes_another_table : (a : Result ℕ FlipHalt) → ¬ UndoneAs 6 O_twice one_record a O
 writes_another_table a h = let e : ◌≡◌ {A = ℕ} 0 1 = ap (λ t. get_or t 0 0) (undid_one h O_kept).1 in omega arith
 
 -- both are undone, the second first
-pub O_undone : UndoneAs 6 O_twice two_records (Done 2) O
+pub O_undone : UndoneAs 6 O_twice two_records (Ok 2) O
 unfolding rows flat first_items laid
 O_undone = record {
   outcome = followed (undo_passes 6 O_twice two_records (record { counts = counts_fit_lem refl twice_stage; whole = refl }) twice_stage, twice_stage)
@@ -294,9 +295,9 @@ O_undone = record {
 }
 
 -- one that begins with the first record, which is not undone there
-pub first_record_first : (t' : List ℕ) → ¬ UndoneAs 6 O_twice two_records (Stopped UndoFails 0) t'
+pub first_record_first : (t' : List ℕ) → ¬ UndoneAs 6 O_twice two_records (Err (Stopped UndoFails 0)) t'
 first_record_first t' h = flipped_apart.finished_stopped (undid_one O_undone h).0
 
 -- or that puts the rows back in that order unasked, and leaves O_flipped
-pub first_put_first : (a : Flipped) → ¬ UndoneAs 6 O_twice two_records a O_flipped
+pub first_put_first : (a : Result ℕ FlipHalt) → ¬ UndoneAs 6 O_twice two_records a O_flipped
 first_put_first a h = let e : ◌≡◌ {A = ℕ} 2 0 = ap (λ t. get_or t 0 0) (undid_one h O_undone).1 in omega arith

@@ -6,12 +6,12 @@ use Prim.Native.Nat.{ℕ, ◌+◌, ◌≤◌, ◌<◌}
 use native.Mathlib.Omega.{arith}
 use lib.IntN.{pos, nat_abs}
 use lib.ListN.{length, get_or, drop}
+use Rattle.std.specs.Prelude.{Ok, Err}
 use Rattle.surface.specs.Record as surface
 use Rattle.refusal.specs.Told.{Told}
 use Rattle.refusal.specs.First.{First, FirstOf}
 use Rattle.refusal.specs.declared.Refusal.{Refusal}
 use Rattle.refusal.specs.declared.Refusal.TheVariants.{CountsOutside}
-use Rattle.refusal.specs.declared.Verdict.TheVariants as verdict
 use Rattle.refusal.proofs.Laws.{verdicts, passed}
 use Rattle.refusal.proofs.Outcome.{refused_done}
 use Rattle.record.specs.Layout.{width, record_at, first_records}
@@ -24,15 +24,12 @@ use Rattle.lines.specs.Lines.{line, FewDigits}
 use Rattle.lines.specs.Kinds.{K}
 use Rattle.lines.proofs.Lengths.{line_length}
 use Rattle.heading.specs.Heading.{most_digits, first_line_lem}
-use Rattle.heading.proofs.Heading.{same_first}
-use Rattle.tell.specs.declared.Answer.TheVariants.{Written}
+use Rattle.heading.proofs.First.{same_first}
 use Rattle.logform.specs.LogSheet.{LOG, log_text, LogSheetOf}
-use Rattle.logsheet.specs.declared.LogSheet.TheVariants.{Read, Refused}
 use Rattle.logsheet.specs.Answer.{told}
 use Rattle.logsheet.specs.Outcome.{read_refusals, ReadLogSheet, refused, read, Writable, WroteLogSheet, unwritten, wrote}
 use Rattle.logform.proofs.Forming.{its_line}
 use Rattle.logsheet.proofs.Main.{its_log_sheet, reads_back}
-use Rattle.logrecords.specs.declared.Opened.TheVariants.{At}
 use Rattle.logrecords.specs.declared.Next.TheVariants.{Found, End, Bad}
 use Rattle.logrecords.specs.Answer.{told_opened, told_next}
 use Rattle.logrecords.specs.Outcome.{CountsOut, open_refusals, OpenedLog, unopened, opened, NextRecord, found, ended, other}
@@ -67,23 +64,23 @@ O_sheet = log_text 6 8 O_log
 
 module _ {room room' : List ℕ} (fits : 20 ≤ length room) where
   -- a reader that refuses everything
-  pub refuses_every_log : (r : Refusal) → ¬ ReadLogSheet O_sheet room room' (Refused r)
+  pub refuses_every_log : (r : Refusal) → ¬ ReadLogSheet O_sheet room room' (Err r)
   refuses_every_log r h = refused_done r (ap told (reads_back O_writable fits h).0)
 
   -- one that answers with no record for everything
-  pub no_record_for_all : ¬ ReadLogSheet O_sheet room room' (Read 6 8 0)
+  pub no_record_for_all : ¬ ReadLogSheet O_sheet room room' (Ok (record { corners = 6; rows = 8; records = 0 }))
   no_record_for_all h = let e = ap (λ (v : Told). nat_abs (get_or v.values 2 (pos 0))) (ap told (reads_back O_writable fits h).0) in let f : ◌≡◌ {A = ℕ} 0 2 = e in omega arith
 
   -- one that exchanges corners and rows
-  pub log_counts_exchanged : ¬ ReadLogSheet O_sheet room room' (Read 8 6 2)
+  pub log_counts_exchanged : ¬ ReadLogSheet O_sheet room room' (Ok (record { corners = 8; rows = 6; records = 2 }))
   log_counts_exchanged h = let e = ap (λ (v : Told). nat_abs (get_or v.values 0 (pos 0))) (ap told (reads_back O_writable fits h).0) in let f : ◌≡◌ {A = ℕ} 8 6 = e in omega arith
 
   -- one that reads each record as the first
-  pub first_record_again : {k : ℕ} → get_or room' 11 0 ≡ 1 → ¬ ReadLogSheet O_sheet room room' (Read 6 8 k)
+  pub first_record_again : {k : ℕ} → get_or room' 11 0 ≡ 1 → ¬ ReadLogSheet O_sheet room room' (Ok (record { corners = 6; rows = 8; records = k }))
   first_record_again e h = let f : ◌≡◌ {A = ℕ} 1 2 = sym e ∙ ap (λ l. get_or l 11 0) (reads_back O_writable fits h).1 in omega arith
 
 -- one that writes in the room and then refuses
-pub scribbles_and_refuses : {b room room' : List ℕ} {r : Refusal} → room' ≢ room → ¬ ReadLogSheet b room room' (Refused r)
+pub scribbles_and_refuses : {b room room' : List ℕ} {r : Refusal} → room' ≢ room → ¬ ReadLogSheet b room room' (Err r)
 scribbles_and_refuses n (refused f e p) = n p
 scribbles_and_refuses {r = r} n (read f s e p) = refused_done r (ap told e)
 
@@ -92,7 +89,7 @@ two_for_five : LogSheetOf (log_text 5 8 O_log) 5 8 O_log
 two_for_five = record { text = refl; whole = refl; counts_short = (one_digit 5 (omega arith), (one_digit 8 (omega arith), tt)); short = O_short }
 
 -- one that takes more records than the corners but four: two of them for five corners
-pub one_record_too_many : {room room' : List ℕ} → ¬ ReadLogSheet (log_text 5 8 O_log) room room' (Read 5 8 2)
+pub one_record_too_many : {room room' : List ℕ} → ¬ ReadLogSheet (log_text 5 8 O_log) room room' (Ok (record { corners = 5; rows = 8; records = 2 }))
 unfolding read_refusals
 one_record_too_many (refused {r = r} f e p) = refused_done r (sym (ap told e))
 one_record_too_many (read f s e p) =
@@ -102,7 +99,7 @@ one_record_too_many (read f s e p) =
     counts.0 (record { n = 5; m = 8; log = O_log; sheet = two_for_five; out = λ c. let h = c.fewer in omega arith })
 
 -- a writer that tells another number of bytes than it wrote
-pub bytes_miscounted : {text text' : List ℕ} {k : ℕ} → k ≢ length O_sheet → ¬ WroteLogSheet 6 8 O_log text text' (Written k)
+pub bytes_miscounted : {text text' : List ℕ} {k : ℕ} → k ≢ length O_sheet → ¬ WroteLogSheet 6 8 O_log text text' (Ok k)
 bytes_miscounted n (unwritten f e p) = let z : ◌≡◌ {A = ℕ} 0 1 = cc in omega arith
 bytes_miscounted n (wrote f w e p) = n cc
 
@@ -134,12 +131,13 @@ bad_told_as_end h (other k none e) = let z : ◌≡◌ {A = ℕ} 0 1 = cc in ome
 -- ---- opened, asked, and read record by record
 
 -- opened at another place than the one after the first line
-pub opened_elsewhere : {b : List ℕ} {n m : ℕ} {c : Cursor} → c.at ≢ length (first_line_lem LOG n m) → ¬ OpenedLog b (At n m c)
+pub opened_elsewhere : {b : List ℕ} {n m : ℕ} {c : Cursor} → c.at ≢ length (first_line_lem LOG n m) → ¬ OpenedLog b (Ok (record { corners = n; rows = m; after = c }))
 opened_elsewhere n (unopened {r = r} f e) = refused_done r (sym (ap told_opened e))
 opened_elsewhere {n = n} {m} {c} apart (opened {n = x} {m = y} f s e) =
-    let hx : n ≡ x = cc in
-    let hy : m ≡ y = cc in
-    let hc : c.at ≡ length (first_line_lem LOG x y) = cc in
+    let g = ap told_opened e in
+    let hx : n ≡ x = ap (λ (v : Told). nat_abs (get_or v.values 0 (pos 0))) g in
+    let hy : m ≡ y = ap (λ (v : Told). nat_abs (get_or v.values 1 (pos 0))) g in
+    let hc : c.at ≡ length (first_line_lem LOG x y) = ap (λ (v : Told). nat_abs (get_or v.values 2 (pos 0))) g in
     apart (hc ∙ (λ i. length (first_line_lem LOG (sym hx i) (sym hy i))))
 
 -- a reader that is given a record and does not move past it
@@ -160,7 +158,7 @@ five_inside o =
     o.out (rw (sym e.corners, sym e.rows) (record { few = omega arith; many = omega arith; least = omega arith; most = omega arith; fewer = omega arith }))
 
 -- one that, opened or reading record by record, holds the records against the corners
-not_for_counts : (room : ℕ) → ¬ First (each_refusals (log_text 5 8 O_log) room) (verdict.Refused CountsOutside)
+not_for_counts : (room : ℕ) → ¬ First (each_refusals (log_text 5 8 O_log) room) (Err CountsOutside)
 unfolding each_refusals open_refusals FirstOf
 not_for_counts room (inl (g, q)) = let z : ◌≡◌ {A = ℕ} 0 1 = cc in omega arith
 not_for_counts room (inr (n, inl (g, q))) = let z : ◌≡◌ {A = ℕ} 0 1 = cc in omega arith
@@ -169,6 +167,6 @@ not_for_counts room (inr (n, inr (m, inr (k, inl (g, q))))) = let z : ◌≡◌ 
 not_for_counts room (inr (n, inr (m, inr (k, inr (j, inl (g, q)))))) = let z : ◌≡◌ {A = ℕ} 0 1 = cc in omega arith
 not_for_counts room (inr (n, inr (m, inr (k, inr (j, inr (i, q)))))) = let z : ◌≡◌ {A = ℕ} 0 1 = cc in omega arith
 
-pub each_counts_records : {room room' : List ℕ} → ¬ EachRecord (log_text 5 8 O_log) room room' (Refused CountsOutside)
-each_counts_records {room} (unread {r = r} f e p) = let q : r ≡ CountsOutside = cc in not_for_counts (length room) (subst (λ x. First (each_refusals (log_text 5 8 O_log) (length room)) (verdict.Refused x)) q f)
+pub each_counts_records : {room room' : List ℕ} → ¬ EachRecord (log_text 5 8 O_log) room room' (Err CountsOutside)
+each_counts_records {room} (unread {r = r} f e p) = let q : r ≡ CountsOutside = cc in not_for_counts (length room) (subst (λ x. First (each_refusals (log_text 5 8 O_log) (length room)) (Err x)) q f)
 each_counts_records (each f s e p) = refused_done CountsOutside (ap told e)

@@ -8,6 +8,8 @@ use native.Mathlib.Omega.{arith}
 use lib.Ieee.{binary64, of_bits}
 use lib.IntN.{ℤ, pos}
 use lib.ListN.{get_or}
+use Rattle.std.specs.Prelude.{Ok, Result, Some}
+use Rattle.refusal.specs.declared.Refusal.{Refusal}
 use Rattle.surface.specs.Rows.{row, rows, flat}
 use Rattle.surface.specs.Table.{edges}
 use Rattle.surface.specs.Contract.{contract, renumber, replace, stays?, holds?}
@@ -18,10 +20,7 @@ use Rattle.length.specs.declared.Order.{Order}
 use Rattle.length.specs.declared.Order.TheVariants.{Limit}
 use Rattle.length.specs.declared.Length.TheVariants.{Centimetres}
 use Rattle.length.specs.Limit.{capped, reading, limit_of}
-use Rattle.least.specs.declared.Bound.TheVariants.{Within}
 use Rattle.record.specs.Layout.{log_of, width, room_for}
-use Rattle.thin.specs.declared.Thinning.{Thinning}
-use Rattle.thin.specs.declared.Thinning.TheVariants.{Done}
 use Rattle.thin.specs.Thin.{Thinned, done}
 use Rattle.thin.proofs.Main.{thinned_one, thin_passes}
 use Rattle.thin.proofs.Judging.{under_usable}
@@ -56,11 +55,11 @@ six_last = 1 ∷ 2 ∷ 4 ∷ 1 ∷ 0 ∷ 2 ∷ 0 ∷ 1 ∷ 4 ∷ 0 ∷ 4 ∷ 2 �
 abbrev six_log : List ℕ
 six_log = 2 ∷ 3 ∷ 0 ∷ 2 ∷ 3 ∷ 1 ∷ 4 ∷ 3 ∷ 2 ∷ 5 ∷ 1 ∷ 5 ∷ 1 ∷ 2 ∷ 5 ∷ 1 ∷ 2 ∷ 1 ∷ 5 ∷ 4 ∷ []
 
-pub returns : Thinned cm_3 six_corners six (lent (room_for 2)) (Done 2) six_last six_log
+pub returns : Thinned cm_3 six_corners six (lent (room_for 2)) (Ok 2) six_last six_log
 unfolding edges rows flat log_of contract renumber replace stays? holds? ℕ_discrete leaving later limit_of reading capped of_bits squared_distance_lem
-returns = done {b = Within 3} {log = r₁ ∷ r₂ ∷ []} {last = row 1 2 4 ∷ row 1 0 2 ∷ row 0 1 4 ∷ row 0 4 2 ∷ []} (thin_passes six (under_usable {b = Within 3} refl) refl six_skin (omega arith)) six_skin refl
+returns = done {b = Some 3} {log = r₁ ∷ r₂ ∷ []} {last = row 1 2 4 ∷ row 1 0 2 ∷ row 0 1 4 ∷ row 0 4 2 ∷ []} (thin_passes six (under_usable {b = Some 3} refl) refl six_skin (omega arith)) six_skin refl
     (limited 3 six_corners (run_sound (within 3 six_corners) (goes_on {k = r₁} tt refl (goes_on {k = r₂} tt refl (stays_at refl))) tt)) refl refl refl
 
 -- one that never returns to a lower corner does not keep 1 in its second record
-pub never_returning : (b : Thinning) (u m : List ℕ) → get_or m width 0 ≢ 1 → ¬ Thinned cm_3 six_corners six (lent (room_for 2)) b u m
+pub never_returning : (b : Result ℕ Refusal) (u m : List ℕ) → get_or m width 0 ≢ 1 → ¬ Thinned cm_3 six_corners six (lent (room_for 2)) b u m
 never_returning b u m n h = n (ap (λ l. get_or l width 0) (thinned_one h returns).2)

@@ -1,2 +1,1 @@
 pub mod CatchUp
-pub mod Inner

@@ -9,7 +9,7 @@ use lib.ListN.{length, get_or}
 use Rattle.surface.specs.Rows.{rows, flat}
 use Rattle.surface.specs.Table.{Edge}
 use Rattle.surface.proofs.Flat.{flat_rows}
-use Rattle.slots.specs.Slot.{next_slot, Under}
+use Rattle.slots.specs.Slot.{next_slot}
 use Rattle.slots.specs.Chain.{Last}
 use Rattle.slots.proofs.Slots.{follows_at, at_follows, whole_rows}
 use Rattle.edges.specs.Sweep.{Found}
@@ -23,9 +23,6 @@ pub record Looked (t : List ℕ) (a b x : ℕ) : Type 0 where
   pub miss : (e : ℕ) → x ≤ e → e < length t → get_or t e 0 ≡ a → get_or t (next_slot e) 0 ≢ b
 
 module _ (t : List ℕ) (a b : ℕ) where
-  pub look_none : (x : ℕ) → Last t a (length t) x → Looked t a b x
-  look_none x l = record { upto = l.upto; hit = l.hit; miss = λ e h i k. absurd (l.miss e h i k) }
-
   pub look_more : (x y : ℕ) → 0 < x → Looked t a b x → Last t a (x - 1) y → get_or t (next_slot (x - 1)) 0 ≢ b → Looked t a b y
   look_more x y p k l n = record {
     upto = let u = l.upto in let v = k.upto in omega arith;
@@ -38,28 +35,24 @@ module _ (t : List ℕ) (a b : ℕ) where
       go e h i q (no s) (yes d) = rw d n
       go e h i q (no s) (no d) = k.miss e (omega arith) i q
 
-  pub look_found : (x : ℕ) → Looked t a b x → get_or t (next_slot (x - 1)) 0 ≡ b → 0 < x → Found t a b x
-  look_found x k e p = record { upto = k.upto; from = k.hit; to = λ q. e; miss = k.miss }
+-- the corners of the edge at the slot where it is found
+module _ {t : List ℕ} {a b e : ℕ} (f : Found t a b (suc e)) where
+  before : suc e - 1 ≡ e
+  before = omega arith
 
-  pub look_end : (x : ℕ) → Looked t a b x → x ≡ 0 → Found t a b 0
-  look_end x k e = record { upto = omega arith; from = λ q. absurd (omega arith); to = λ q. absurd (omega arith); miss = λ f h. k.miss f (omega arith) }
+  pub found_from : get_or t e 0 ≡ a
+  found_from = rw before at (f.from (omega arith))
 
--- a number that has no chain stands nowhere
-pub look_past : (t : List ℕ) (n a b : ℕ) → Under t n → n ≤ a → Found t a b 0
-look_past t n a b u h = record {
-  upto = omega arith;
-  from = λ q. absurd (omega arith);
-  to = λ q. absurd (omega arith);
-  miss = λ e i k q. absurd (let z = u.under e k in omega arith);
-}
+  pub found_to : get_or t (next_slot e) 0 ≡ b
+  found_to = rw before at (f.to (omega arith))
 
 -- the rows have the edge where it is found, and not where it is not
-module _ (t : List ℕ) (w : length t % 3 ≡ 0) (a b r : ℕ) (f : Found t a b r) where
-  pub none_found : r ≡ 0 → ¬ Edge (rows t) a b
-  none_found e g = let s = follows_at t w g.1 in f.miss s.e (omega arith) s.inside s.is_v s.is_p
+module _ (t : List ℕ) (w : length t % 3 ≡ 0) (a b : ℕ) where
+  pub none_found : Found t a b 0 → ¬ Edge (rows t) a b
+  none_found f g = let s = follows_at t w g.1 in f.miss s.e (omega arith) s.inside s.is_v s.is_p
 
-  pub found_edge : 0 < r → Edge (rows t) a b
-  found_edge p = (get_or t (next_slot (next_slot (r - 1))) 0, rw (f.from p, f.to p) at (at_follows t w (r - 1) (let u = f.upto in omega arith)))
+  pub found_edge : (e : ℕ) → Found t a b (suc e) → Edge (rows t) a b
+  found_edge e f = (get_or t (next_slot (next_slot e)) 0, rw (found_from f, found_to f) at (at_follows t w e (let u = f.upto in omega arith)))
 
 -- on the way down the chain of u to the slot e: x is a link above it, and y hangs on x
 pub record Walked (t : List ℕ) (u e x y : ℕ) : Type 0 where

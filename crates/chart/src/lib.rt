@@ -3,29 +3,25 @@
 #![tactic(auto)]
 
 ghost use Rattle.std.specs.Prelude.{◌≡◌, ◌+◌, ◌*◌, ◌≤◌, ◌<◌, length, set};
-ghost use Rattle.edges.specs.Sweep.{Found};
-ghost use Rattle.chart.specs.Chart.{InChains, Above, Numbered};
+ghost use Rattle.chart.specs.Chart.{InChains, SlotIs, Above, Numbered};
 ghost use Rattle.chart.specs.Links.{after, hung_last, hung_prev};
 
 use record::{Corner, Leaving};
 
-// Inner: one more than the slot of the directed edge a to b; 0 where there is none.
-pub fn slot_of(t: &[u32], last: &[usize], prev: &[usize], a: Corner, b: Corner) -> usize
+// Inner: the slot of the directed edge a to b.
+pub fn slot_of(t: &[u32], last: &[usize], prev: &[usize], a: Corner, b: Corner) -> Option<usize>
     requires { InChains t.now last.now prev.now }
-    ensures { Found t.now a.0 b.0 result }
+    ensures { SlotIs t.now a.0 b.0 result }
 {
-    let corner = a.0 as usize;
-    if last.len() <= corner {
-        return 0;
-    }
-    let mut x = last[corner];
+    let mut x = *last.get(a.0 as usize)?;
     while x != 0 {
-        if t[slots::next(x - 1)] == b.0 {
-            return x;
+        let e = x - 1;
+        if t[slots::next(e)] == b.0 {
+            return Some(e);
         }
-        x = prev[x - 1];
+        x = prev[e];
     }
-    0
+    None
 }
 
 // Which of a corner's slots is the next above e in its chain.

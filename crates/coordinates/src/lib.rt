@@ -11,22 +11,12 @@ ghost use Rattle.refusal.specs.InnerTells.{Tells};
 fn far(x: i32) -> bool
     ensures { Tells result (most_coordinate < nat_abs x) (nat_abs x ≤ most_coordinate) }
 {
-    if x < -corners::MOST_COORDINATE {
-        return true;
-    }
-    corners::MOST_COORDINATE < x
+    x < -corners::MOST_COORDINATE || corners::MOST_COORDINATE < x
 }
 
 // Inner: 4, a coordinate out of range.
 pub fn out_of_range(xs: &[i32]) -> bool
     ensures { Tells result (OutOfRange xs.now) (InRange xs.now) }
 {
-    let mut i: usize = 0;
-    while i < xs.len() {
-        if far(xs[i]) {
-            return true;
-        }
-        i += 1;
-    }
-    false
+    xs.iter().any(|x| far(*x))
 }

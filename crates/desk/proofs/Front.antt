@@ -5,10 +5,9 @@ use Prim.Native.Nat.{ℕ, ◌≤◌}
 use native.Mathlib.Omega.{arith}
 use lib.ListN.{length, length-append, take, drop}
 use lib.Seq.{take_at, length-take-le}
+use Rattle.std.specs.Prelude.{Result, Ok}
 use Rattle.io.specs.Counts.{IsPrefixLen}
 use Rattle.refusal.specs.declared.Refusal.{Refusal}
-use Rattle.tell.specs.declared.Answer.{Answer}
-use Rattle.tell.specs.declared.Answer.TheVariants.{Written, Refused}
 use Rattle.tell.specs.Text.{most_text}
 use Rattle.reply.specs.Outcome.{Answers, Replied}
 use Rattle.reply.proofs.Main.{reply_suffices}
@@ -17,20 +16,12 @@ use Rattle.reply.proofs.Main.{reply_suffices}
 pub counted : (n : ℕ) (l : List ℕ) → n ≤ length l → IsPrefixLen n l
 counted n l h = (h, sym (length-take-le n l h))
 
-module _ {b text text' : List ℕ} {a : Answer} (enough : most_text ≤ length text) (r : Replied b text a text') where
-  pub stands_there : {n : ℕ} → a ≡ Written n → Answers b (take n text') × IsPrefixLen n text'
+module _ {b text text' : List ℕ} {a : Result ℕ Refusal} (enough : most_text ≤ length text) (r : Replied b text a text') where
+  pub stands_there : {n : ℕ} → a ≡ Ok n → Answers b (take n text') × IsPrefixLen n text'
   stands_there {n} e =
       let s = reply_suffices enough r in
       let t = r.txt in
-      let k : n ≡ length t = same (sym e ∙ s.0) in
+      let d = s.0 in
+      let k : n ≡ length t = cc in
       let f : take n text' ≡ t = ap (take n) s.1 ∙ take_at t (drop (length t) text) n (sym k) in
       (subst (Answers b) (sym f) r.answers, counted n text' (omega (arith, ap length s.1, length-append t (drop (length t) text))))
-    where
-      same : {m n : ℕ} → Written m ≡ Written n → m ≡ n
-      same e = cc
-
-  pub never_short : {X : Type 0} {e : Refusal} → a ≡ Refused e → X
-  never_short e = other (sym e ∙ (reply_suffices enough r).0)
-    where
-      other : {X : Type 0} {e : Refusal} {n : ℕ} → Refused e ≡ Written n → X
-      other e = let z : ◌≡◌ {A = ℕ} 0 1 = cc in absurd (omega arith)

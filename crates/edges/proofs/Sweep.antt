@@ -25,18 +25,6 @@ pub record Entering (t ends : List ℕ) (u x : ℕ) : Type 0 where
   pub entries : Entries t ends u x
   pub done : Entered t ends u x
 
-pub enter_start : (t ends : List ℕ) (u x : ℕ) → Last t u (length t) x → Entries t ends u (length t) → Entering t ends u x
-enter_start t ends u x l a = record {
-  upto = l.upto;
-  from = l.hit;
-  entries = record { upto = a.upto; to = a.to; who = λ w p. go w p (a.upto w) (a.who w p) };
-  done = record { entered = λ e b c d. absurd (l.miss e b c d) };
-}
-  where
-    go : (w : ℕ) → 0 < get_or ends w 0 → get_or ends w 0 ≤ length t → Swept t u (length t) (get_or ends w 0 - 1) → Swept t u x (get_or ends w 0 - 1)
-    go w p b (inl h) = inl h
-    go w p b (inr h) = let c = h.1 in absurd (omega arith)
-
 module _ (t : List ℕ) (w : Whole t) where
   -- the directed edge is at another slot too
   pub enter_twice : (ends : List ℕ) (u x r : ℕ) → (x ≡ 0 → ⊥) → Entering t ends u x → Picked t (get_or ends (get_or t (next_slot (x - 1)) 0) 0) u r → (r ≡ 0 → ⊥) →
@@ -103,9 +91,6 @@ module _ (t : List ℕ) (w : Whole t) where
           let h : get_or ends c₀ 0 - 1 ≡ e = omega arith in
           absurd (p.miss z (omega arith) (ap (λ (z : ℕ). get_or t z 0) h ∙ k))
       all e i j k v (no q) (no d) (no f) = get_or-set_other ends c₀ (get_or t (next_slot e) 0) x 0 f ∙ s.done.entered e (omega arith) j k
-
-pub enter_end : (t ends : List ℕ) (u x : ℕ) → x ≡ 0 → Entering t ends u x → Entries t ends u 0 × Entered t ends u 0
-enter_end t ends u x e s = let r = rw e at s in (r.entries, r.done)
 
 -- where every slot of u stands in ends, what is picked is the slot of the directed edge from u to c
 pub picked_found : (t ends : List ℕ) (u c r : ℕ) → Entries t ends u 0 → Entered t ends u 0 → Picked t (get_or ends c 0) u r → Found t u c r
@@ -174,9 +159,6 @@ find_more t ends reverse u x r y w nz m f l =
             two : Dec (next_slot k < x) → x ≤ next_slot k
             two (yes d) = let o = other in absurd (l.miss (next_slot k) a.1 (omega arith) (a.0 ∙ sym v))
             two (no d) = omega arith
-
-pub find_end : (t reverse : List ℕ) (u x : ℕ) → x ≡ 0 → Finding t reverse u x → FoundTo t reverse u 0
-find_end t reverse u x e m = (rw e at m).back
 
 -- one corner done
 pub entries_next : (t ends : List ℕ) (u : ℕ) → Entries t ends u 0 → Entries t ends (u + 1) (length t)

@@ -10,21 +10,20 @@ ghost use Rattle.slots.specs.Slot.{Whole, Under};
 ghost use Rattle.slots.specs.Chain.{Chained};
 ghost use Rattle.edges.specs.Sweep.{Picked, Entries, Entered, FoundTo};
 
-// y where it stands for a slot of u, else 0.
+// y where it stands for a slot of u, else 0: not an Option, since `reverse` has 0 for none as the chains have.
 fn pick(t: &[u32], y: usize, u: usize) -> usize
     requires { y ≤ length t.now }
     ensures { Picked t.now y u result }
 {
-    if y == 0 {
-        return 0;
+    if y != 0 && t[y - 1] as usize == u {
+        y
+    } else {
+        0
     }
-    if t[y - 1] as usize == u {
-        return y;
-    }
-    0
 }
 
 // Puts down the slots of u by where their directed edges end, unless two end at one corner.
+#[tactic(auto, using(slots::proofs::Slots::next_inside))]
 fn enter(t: &[u32], last: &[usize], prev: &[usize], ends: &mut [usize], u: usize) -> bool
     requires whole { Whole t.now }
     requires chained { Chained t.now last.now prev.now }
@@ -87,13 +86,11 @@ pub fn edge_twice(
     ensures { Tells result (EdgeRepeats (rows t.now)) (EdgesOnce (rows t.now) × FoundTo t.now reverse.new n (length t.now)) }
 {
     let mut ends = [0usize; surface::MOST_CORNERS];
-    let mut u: usize = 0;
-    while u < n {
+    for u in 0..n {
         if enter(t, last, prev, &mut ends, u) {
             return true;
         }
         find(t, last, prev, &ends, reverse, u);
-        u += 1;
     }
     false
 }

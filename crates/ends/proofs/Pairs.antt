@@ -1,11 +1,11 @@
 -- x and y of a record, from its rows' directed edges.
 use mathlib.Core.Path.{◌≡◌}
 use Prim.Native.Nat.{ℕ}
+use Rattle.std.specs.Prelude.{Option, Some, None}
 use Rattle.surface.specs.Rows.{Row, row, Turned, turn_0, turn_1, turn_2}
 use Rattle.growth.specs.Grow as grow
 use Rattle.growth.specs.Grow.{in_order, crossed}
-use Rattle.ends.specs.declared.Ends.{Ends}
-use Rattle.ends.specs.declared.Ends.TheVariants.{At, Nothing}
+use Rattle.record.specs.declared.Corner.{Corner}
 use Rattle.ends.specs.Rows.{PairIs, EndsAre}
 
 -- a row has the directed edge p to q at one of its three turns
@@ -22,7 +22,7 @@ module _ {a b : ℕ} {r z : Row} where
   no_ends m n x y (crossed u t) = n x y t u
 
   -- the other way, of which a pair or none is known
-  pub other_way : (e : Ends) → ((x y : ℕ) → Turned r a b x → Turned z b a y → ⊥) → PairIs a b z r e → EndsAre a b r z e
+  pub other_way : (e : Option (Corner × Corner)) → ((x y : ℕ) → Turned r a b x → Turned z b a y → ⊥) → PairIs a b z r e → EndsAre a b r z e
   unfolding PairIs EndsAre
-  other_way (At x y) m p = crossed p.1 p.0
-  other_way Nothing m p = no_ends m p
+  other_way (Some (x, y)) m p = crossed p.1 p.0
+  other_way None m p = no_ends m p

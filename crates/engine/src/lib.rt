@@ -5,36 +5,30 @@ ghost use Rattle.std.specs.Prelude.{◌≤◌, length};
 ghost use Rattle.surface.specs.Limits.{most_corners};
 ghost use Rattle.surface.specs.Rows.{rows};
 ghost use Rattle.surface.specs.InnerStageTable.{StageTable};
-ghost use Rattle.neighbours.specs.Around.{Unmarked};
 ghost use Rattle.least.specs.Limited.{Allowed};
 ghost use Rattle.least.specs.Inner.{Measurable};
 ghost use Rattle.least.specs.InnerSearch.{FoundLeast};
 ghost use Rattle.going.specs.Going.{CanGoOn, WentOn};
 
-use least::{Bound, Found};
+use neighbours::Scratch;
+use record::Corner;
 
-// The least edge of a stage that qualifies. The chains round its corners are built anew for each step; the rest is the search's scratch.
+// The least edge of a stage that qualifies. The chains round its corners are built anew for each step.
 fn next_edge(
     t: &[u32],
     n: usize,
     xs: &[i32],
-    bound: Bound,
-    ring: &mut [u32],
-    near: &mut [u8],
-    second: &mut [u32],
-    far: &mut [u8],
-) -> Found
+    bound: Option<u64>,
+    scratch: &mut Scratch,
+) -> Option<(Corner, Corner)>
     requires stage_table { StageTable n t.now }
     requires measurable { Measurable bound n xs.now }
-    requires most_corners_in_bounds { (most_corners ≤ length ring.old) × (most_corners ≤ length second.old) }
-    requires unmarked { Unmarked near.old × Unmarked far.old }
-    ensures found_least { FoundLeast (Allowed bound xs.now) (rows t.now) result }
-    ensures unmarked_2 { Unmarked near.new × Unmarked far.new }
+    ensures { FoundLeast (Allowed bound xs.now) (rows t.now) result }
 {
     let mut last = [0usize; surface::MOST_CORNERS];
     let mut prev = [0usize; slots::MOST_SLOTS];
     slots::chains(t, &mut last, &mut prev);
-    least::least_edge(t, n, &last, &prev, xs, bound, ring, near, second, far)
+    least::least_edge(t, n, &last, &prev, xs, bound, scratch)
 }
 
 // Inner: goes on thinning the first rows of a lent table, with done records in the log already; answers how many records there are in all.
@@ -44,7 +38,7 @@ pub fn go_on(
     rows: usize,
     n: usize,
     xs: &[i32],
-    bound: Bound,
+    bound: Option<u64>,
     log: &mut [u32],
     done: usize,
 ) -> usize
@@ -52,32 +46,14 @@ pub fn go_on(
     requires measurable { Measurable bound n xs.now }
     ensures { WentOn (Allowed bound xs.now) table.old rows log.old done result table.new log.new }
 {
-    let mut ring = [0u32; surface::MOST_CORNERS];
-    let mut near = [0u8; surface::MOST_CORNERS];
-    let mut second = [0u32; surface::MOST_CORNERS];
-    let mut far = [0u8; surface::MOST_CORNERS];
+    let mut scratch = Scratch::new();
     let mut r = rows;
     let mut k = done;
-    loop {
-        let end = 3 * r;
-        let found = next_edge(
-            &table[..end],
-            n,
-            xs,
-            bound,
-            &mut ring,
-            &mut near,
-            &mut second,
-            &mut far,
-        );
-        match found {
-            Found::Nothing => return k,
-            Found::Between(kept, removed) => {
-                let e = step::contract_front(table, r, kept, removed);
-                record::write_record(log, record::WIDTH * k, e);
-                r = r - 2;
-                k = k + 1;
-            }
-        }
+    while let Some((kept, removed)) = next_edge(&table[..3 * r], n, xs, bound, &mut scratch) {
+        let e = step::contract_front(table, r, kept, removed);
+        record::write_record(log, record::WIDTH * k, e);
+        r -= 2;
+        k += 1;
     }
+    k
 }

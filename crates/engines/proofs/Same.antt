@@ -5,6 +5,7 @@ use mathlib.Core.List.{List, ◌++◌}
 use Prim.Native.Nat.{ℕ, ◌+◌, ◌-◌, ◌*◌}
 use lib.IntN.{ℤ}
 use lib.ListN.{length, take, drop, replicate}
+use Rattle.std.specs.Prelude.{None, Option}
 use Rattle.surface.specs.Rows.{Row, rows, flat}
 use Rattle.surface.specs.Stage.{Stage}
 use Rattle.surface.specs.Record as surface
@@ -14,8 +15,6 @@ use Rattle.trapped.specs.ByCorner.{ByCorner}
 use Rattle.trapped.proofs.Order.{by_corner_run, run_by_corner}
 use Rattle.record.specs.Layout.{log_of, room_for}
 use Rattle.record.specs.Front.{front_rows}
-use Rattle.least.specs.declared.Bound.{Bound}
-use Rattle.least.specs.declared.Bound.TheVariants.{Free}
 use Rattle.least.specs.Limited.{Allowed}
 use Rattle.going.specs.Going.{WentBy, WentOn}
 
@@ -52,5 +51,5 @@ module _ {t : List ℕ} {r : ℕ} {l : List ℕ} {d : ℕ} where
     engines_same a b = went_one (λ T T' T'' p q. run_one) a (quick_as_plain b)
 
 -- without a limit every edge is allowed
-pub free : {b : Bound} (xs : List ℤ) {t : List ℕ} {r : ℕ} {l : List ℕ} {d k : ℕ} {t' l' : List ℕ} → b ≡ Free → WentOn Any t r l d k t' l' → WentOn (Allowed b xs) t r l d k t' l'
+pub free : {b : Option ℕ} (xs : List ℤ) {t : List ℕ} {r : ℕ} {l : List ℕ} {d k : ℕ} {t' l' : List ℕ} → b ≡ None → WentOn Any t r l d k t' l' → WentOn (Allowed b xs) t r l d k t' l'
 free xs e w = rw e w

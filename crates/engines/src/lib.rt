@@ -5,8 +5,6 @@ ghost use Rattle.least.specs.Limited.{Allowed};
 ghost use Rattle.least.specs.Inner.{Measurable};
 ghost use Rattle.going.specs.Going.{CanGoOn, WentOn};
 
-use least::Bound;
-
 // The engine that thins where there is no limit.
 #[derive(Clone, Copy)]
 pub enum Engine {
@@ -21,7 +19,7 @@ pub fn go_on(
     rows: usize,
     n: usize,
     xs: &[i32],
-    bound: Bound,
+    bound: Option<u64>,
     log: &mut [u32],
     done: usize,
 ) -> usize
@@ -32,8 +30,8 @@ pub fn go_on(
     match by {
         Engine::Plain => engine::go_on(table, rows, n, xs, bound, log, done),
         Engine::Quick => match bound {
-            Bound::Free => quick::go_on(table, rows, n, log, done),
-            Bound::Within(_) => engine::go_on(table, rows, n, xs, bound, log, done),
+            None => quick::go_on(table, rows, n, log, done),
+            Some(_) => engine::go_on(table, rows, n, xs, bound, log, done),
         },
     }
 }

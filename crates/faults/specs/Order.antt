@@ -1,10 +1,8 @@
 -- 01's table of refusals for what a check is given, line by line, and what passing gives. 3 is the caller's: it stands between 2 and 4.
-use Rattle.std.specs.Prelude.{◌≡◌, Bool, true, false, List, [], ◌∷◌, ◌++◌, ℕ, ℤ}
+use Rattle.std.specs.Prelude.{◌≡◌, Bool, true, false, List, [], ◌∷◌, ◌++◌, ℕ, ℤ, Ok, Result}
 use Rattle.surface.specs.Rows.{Row, rows}
 use Rattle.surface.specs.Stage.{Stage}
 use Rattle.corners.specs.Skin.{InRange}
-use Rattle.refusal.specs.declared.Verdict.{Verdict}
-use Rattle.refusal.specs.declared.Verdict.TheVariants.{Passes}
 use Rattle.refusal.specs.declared.Refusal.{Refusal}
 use Rattle.refusal.specs.declared.Refusal.TheVariants.{CountsOutside, CoordinateOutOfRange, NumberNotBelow, NumberTwice, EdgeTwice, ReverseMissing, CornerUnused, RingsMany, NotConnected}
 use Rattle.refusal.specs.First.{Clause, ◌when◌, First, Refusals}
@@ -39,8 +37,8 @@ unfoldable pub refusals_at : Bool → List ℤ → List ℕ → Refusals
 refusals_at first xs t = (CountsOutside when (¬ CountsFitAt xs t)) ∷ refusals_after_counts first xs t
 
 -- the verdict on a stage's table with its coordinates: the first that holds, and where none does, a stage, with coordinates in range
-pub record CheckedStageAt (xs : List ℤ) (t : List ℕ) (v : Verdict) : Type 0 where
+pub record CheckedStageAt (xs : List ℤ) (t : List ℕ) (v : Result Unit Refusal) : Type 0 where
   pub holds : First (refusals_at false xs t) v
-  pub fits : v ≡ Passes → CountsFitAt xs t
-  pub stage : v ≡ Passes → Stage (corners xs) (rows t)
-  pub in_range : v ≡ Passes → InRange xs
+  pub fits : v ≡ Ok tt → CountsFitAt xs t
+  pub stage : v ≡ Ok tt → Stage (corners xs) (rows t)
+  pub in_range : v ≡ Ok tt → InRange xs

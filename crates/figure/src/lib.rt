@@ -38,10 +38,8 @@ fn sixfold_sum(t: &[u32], xs: &[i32]) -> i64
     ensures { (result ≡ sixfold xs.now (rows t.now)) × (nat_abs result ≤ sum_bound) }
 {
     let mut s: i64 = 0;
-    let mut i: usize = 0;
-    while 3 <= t.len() - i {
-        s = s + determinant_of(xs, t[i], t[i + 1], t[i + 2]);
-        i = i + 3;
+    for [a, b, c] in t.as_chunks::<3>().0 {
+        s += determinant_of(xs, *a, *b, *c);
     }
     s
 }

@@ -1,9 +1,11 @@
 -- What the slots found say of the flip: it is refused as 02 says, or its two rows stand where the slots are, and the new ones come in their places.
 use mathlib.Core.Path.{◌≡◌, refl, sym, ◌∙◌}
+use mathlib.Core.Bool.{true, false}
 use mathlib.Core.List.{List}
-use Prim.Native.Nat.{ℕ, zero, suc, ◌-◌, ◌*◌, ◌/◌, ◌≤◌, ◌<◌}
+use Prim.Native.Nat.{ℕ, suc, ◌*◌, ◌/◌, ◌≤◌, ◌<◌}
 use native.Mathlib.Omega.{arith}
 use lib.ListN.{length, get_or}
+use Rattle.std.specs.Prelude.{Option, Some, None, Ok, Err, IsSome, is_some}
 use Rattle.surface.specs.Limits.{most_corners}
 use Rattle.surface.specs.Rows.{row, rows, Turned, turn_0, turn_1, turn_2}
 use Rattle.surface.specs.Table.{Follows}
@@ -19,12 +21,10 @@ use Rattle.slots.proofs.Staged.{table_whole, table_under}
 use Rattle.neighbours.specs.Around.{Charted}
 use Rattle.edges.specs.Sweep.{Found}
 use Rattle.ends.specs.Rows.{row_of}
-use Rattle.chart.specs.Chart.{InChains, Numbered}
-use Rattle.chart.proofs.Looking.{none_found, found_edge}
+use Rattle.chart.specs.Chart.{InChains, SlotIs}
+use Rattle.chart.proofs.Looking.{found_from, found_to, none_found, found_edge}
 use Rattle.flipped.specs.declared.FlipRefusal.TheVariants.{EdgeMissing, EdgeBlocked}
-use Rattle.fliplog.specs.declared.FlipRecord.{FlipRecord}
 use Rattle.fliplog.specs.InnerMeant.{meant}
-use Rattle.flip.specs.declared.Tried.TheVariants.{Logs, Refused}
 use Rattle.flip.specs.Refused.{missing, blocked}
 use Rattle.flip.specs.Inner.{third_at, RowAt, new_rows_lem, Tries}
 use Rattle.flip.proofs.Rowwise.{slots_inside}
@@ -46,72 +46,67 @@ turned_at t e = go (third e)
     go (third_1 i k) = let q : e / 3 ≡ i = omega arith in rw (q, k, next_1 i, next_2 i) (turn_2 refl)
     go (third_2 i k) = let q : e / 3 ≡ i = omega arith in rw (q, k, next_2 i, next_0 i) (turn_1 refl)
 
-module _ (t : List ℕ) (w : Whole t) {a b x : ℕ} (f : Found t a b x) (some : 0 < x) where
-  pub slot_inside : x - 1 < length t
+module _ (t : List ℕ) (w : Whole t) {a b e : ℕ} (f : Found t a b (suc e)) where
+  pub slot_inside : e < length t
   slot_inside = let u = f.upto in omega arith
 
-  pub place_inside : (x - 1) / 3 < length (rows t)
-  place_inside = let h = slot_inside in let e = whole_rows t w.threes in omega arith
+  pub place_inside : e / 3 < length (rows t)
+  place_inside = let h = slot_inside in let k = whole_rows t w.threes in omega arith
 
   -- its corners are numbers of the table
   pub first_small : {n : ℕ} → Under t n → a < n
-  first_small u = rw (f.from some) at (u.under (x - 1) slot_inside)
+  first_small u = rw (found_from f) at (u.under e slot_inside)
 
-  pub third_small : {n : ℕ} → Under t n → third_at t (x - 1) < n
-  third_small u = u.under (next_slot (next_slot (x - 1))) (slots_inside t w (x - 1) slot_inside).1
+  pub third_small : {n : ℕ} → Under t n → third_at t e < n
+  third_small u = u.under (next_slot (next_slot e)) (slots_inside t w e slot_inside).1
 
-  follows_third : Follows (rows t) a b (third_at t (x - 1))
-  follows_third = rw (f.from some, f.to some) at (at_follows t w.threes (x - 1) slot_inside)
+  follows_third : Follows (rows t) a b (third_at t e)
+  follows_third = rw (found_from f, found_to f) at (at_follows t w.threes e slot_inside)
 
-  turned_third : (r : Leaving) → RowAt t ((x - 1) / 3) r → Turned (row_of r) a b (third_at t (x - 1))
-  turned_third r k = rw (stands_row t k.stands).1 (rw (f.from some, f.to some) at (turned_at t (x - 1)))
-
--- what a flip writes fits where its record does
-pub new_fits : (m n : ℕ) (r old : FlipRecord) (A B C D : Corner) → r ≡ new_rows_lem old A B C D → old.first.place.0 < m → old.second.place.0 < m → A.0 < n → B.0 < n → C.0 < n → D.0 < n →
-    ((r.first.place.0 < m) × Numbered r.first n) × ((r.second.place.0 < m) × Numbered r.second n)
-new_fits m n r old A B C D e p q ha hb hc hd = rw e ((p, record { a = hc; b = ha; c = hd }), (q, record { a = hc; b = hd; c = hb }))
+  turned_third : (r : Leaving) → RowAt t (e / 3) r → Turned (row_of r) a b (third_at t e)
+  turned_third r k = rw (stands_row t k.stands).1 (rw (found_from f, found_to f) at (turned_at t e))
 
 -- what was found, by equal corners
-pub found_as : {t : List ℕ} {a b a' b' x : ℕ} → a ≡ a' → b ≡ b' → Found t a b x → Found t a' b' x
-found_as e g f = rw (sym e, sym g) f
+pub found_as : (t : List ℕ) {a b a' b' : ℕ} (r : Option ℕ) → a ≡ a' → b ≡ b' → SlotIs t a b r → SlotIs t a' b' r
+found_as t r e g f = rw (sym e, sym g) f
 
-module _ {t last prev : List ℕ} (c : Charted t last prev) {a b x : ℕ} (f : Found t a b x) where
+module _ {t last prev : List ℕ} (c : Charted t last prev) where
   abbrev w : Whole t
   w = table_whole c.table
 
+module _ {t last prev : List ℕ} (c : Charted t last prev) {a b : ℕ} where
   -- 30
-  pub edge_missing : x ≡ 0 → Tries t a b (Refused EdgeMissing) t
+  pub edge_missing : Found t a b 0 → Tries t a b (Err EdgeMissing) t
   unfolding Tries
-  edge_missing e = (missing (none_found t w.threes a b x f e) refl, refl)
+  edge_missing f = (missing (none_found t (w c).threes a b f) refl, refl)
 
-  module _ (some : 0 < x) {y : ℕ} (g : Found t b a y) where
+  module _ {x : ℕ} (f : Found t a b (suc x)) where
     -- an edge has its reverse
-    pub reverse_found : 0 < y
-    reverse_found = go y g
-      where
-        go : (y : ℕ) → Found t b a y → 0 < y
-        go zero g = absurd (none_found t w.threes b a 0 g refl (c.table.stage.both (found_edge t w.threes a b x f some)))
-        go (suc y) g = omega arith
+    pub reverse_found : (r : Option ℕ) → SlotIs t b a r → IsSome r
+    reverse_found None g = absurd (none_found t (w c).threes b a g (c.table.stage.both (found_edge t (w c).threes a b x f)))
+    reverse_found (Some y) g = refl
 
-    module _ {z : ℕ} (h : Found t (third_at t (x - 1)) (third_at t (y - 1)) z) where
+    module _ {y : ℕ} (g : Found t b a (suc y)) where
       -- 31
-      pub edge_blocked : 0 < z → Tries t a b (Refused EdgeBlocked) t
+      pub edge_blocked : (r : Option ℕ) → SlotIs t (third_at t x) (third_at t y) r → is_some r ≡ true → Tries t a b (Err EdgeBlocked) t
       unfolding Tries
-      edge_blocked p =
-          (blocked (record { c = third_at t (x - 1); d = third_at t (y - 1); first = follows_third t w f some; second = follows_third t w g reverse_found; edge = found_edge t w.threes (third_at t (x - 1)) (third_at t (y - 1)) z h p }) refl, refl)
+      edge_blocked None h e = absurd (cc)
+      edge_blocked (Some z) h e =
+          (blocked (record { c = third_at t x; d = third_at t y; first = follows_third t (w c) f; second = follows_third t (w c) g; edge = found_edge t (w c).threes (third_at t x) (third_at t y) z h }) refl, refl)
 
-      module _ (first second : Leaving) (r₁ : RowAt t ((x - 1) / 3) first) (r₂ : RowAt t ((y - 1) / 3) second) where
+      module _ (first second : Leaving) (r₁ : RowAt t (x / 3) first) (r₂ : RowAt t (y / 3) second) where
         -- done
-        pub flip_logs : (t' : List ℕ) {A B C D : Corner} → A.0 ≡ a → B.0 ≡ b → C.0 ≡ third_at t (x - 1) → D.0 ≡ third_at t (y - 1) → z ≡ 0 →
-            rows t' ≡ put_rows_lem (meant (new_rows_lem (record { first = first; second = second }) A B C D)) (rows t) → Tries t a b (Logs (record { first = first; second = second })) t'
+        pub flip_logs : (r : Option ℕ) → SlotIs t (third_at t x) (third_at t y) r → is_some r ≡ false → (t' : List ℕ) {A B C D : Corner} → A.0 ≡ a → B.0 ≡ b → C.0 ≡ third_at t x → D.0 ≡ third_at t y →
+            rows t' ≡ put_rows_lem (meant (new_rows_lem (record { first = first; second = second }) A B C D)) (rows t) → Tries t a b (Ok (record { first = first; second = second })) t'
         unfolding Tries
-        flip_logs t' ea eb ec ed e left = record {
-          c = third_at t (x - 1);
-          d = third_at t (y - 1);
+        flip_logs (Some z) h n t' ea eb ec ed left = absurd (cc)
+        flip_logs None h n t' ea eb ec ed left = record {
+          c = third_at t x;
+          d = third_at t y;
           stands_1 = rw r₁.place r₁.stands;
-          turned_1 = turned_third t w f some first r₁;
+          turned_1 = turned_third t (w c) f first r₁;
           stands_2 = rw r₂.place r₂.stands;
-          turned_2 = turned_third t w g reverse_found second r₂;
-          no_edge = none_found t w.threes (third_at t (x - 1)) (third_at t (y - 1)) z h e;
+          turned_2 = turned_third t (w c) g second r₂;
+          no_edge = none_found t (w c).threes (third_at t x) (third_at t y) h;
           leaves = left ∙ (λ i. put_rows_lem (record { place_1 = first.place.0; row_1 = row (ec i) (ea i) (ed i); place_2 = second.place.0; row_2 = row (ec i) (ed i) (eb i) }) (rows t));
         }

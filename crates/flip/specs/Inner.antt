@@ -1,15 +1,14 @@
 -- What the functions of this crate give; inner.
-use Rattle.std.specs.Prelude.{◌≡◌, List, ℕ, get_or}
+use Rattle.std.specs.Prelude.{◌≡◌, List, ℕ, get_or, Ok, Err, Result}
 use Rattle.surface.specs.Rows.{rows}
 use Rattle.flips.specs.Flip.{Stands, Flips}
 use Rattle.record.specs.declared.Corner.{Corner}
 use Rattle.record.specs.declared.Leaving.{Leaving}
 use Rattle.slots.specs.Slot.{next_slot}
 use Rattle.ends.specs.Rows.{row_of}
+use Rattle.flipped.specs.declared.FlipRefusal.{FlipRefusal}
 use Rattle.fliplog.specs.declared.FlipRecord.{FlipRecord}
 use Rattle.fliplog.specs.InnerMeant.{meant}
-use Rattle.flip.specs.declared.Tried.{Tried}
-use Rattle.flip.specs.declared.Tried.TheVariants.{Logs, Refused}
 use Rattle.flip.specs.Refused.{FlipRefused}
 
 -- the third corner of the row of the directed edge at the slot e
@@ -25,7 +24,7 @@ pub record RowAt (t : List ℕ) (p : ℕ) (r : Leaving) : Type 0 where
 abbrev pub new_rows_lem : FlipRecord → Corner → Corner → Corner → Corner → FlipRecord
 new_rows_lem k a b c d = record { first = record { place = k.first.place; a = c; b = a; c = d }; second = record { place = k.second.place; a = c; b = d; c = b } }
 
--- what comes of the flip of a b on the table t, and the table after it
-unfoldable pub Tries : List ℕ → ℕ → ℕ → Tried → List ℕ → Type 0
-Tries t a b (Logs k) t' = Flips (rows t) a b (meant k) (rows t')
-Tries t a b (Refused r) t' = FlipRefused (rows t) a b r × (t' ≡ t)
+-- what comes of the flip of a b on the table t, its record or why it is refused, and the table after it
+unfoldable pub Tries : List ℕ → ℕ → ℕ → Result FlipRecord FlipRefusal → List ℕ → Type 0
+Tries t a b (Ok k) t' = Flips (rows t) a b (meant k) (rows t')
+Tries t a b (Err r) t' = FlipRefused (rows t) a b r × (t' ≡ t)

@@ -15,13 +15,6 @@ use fliplog::FlipRecord;
 use flipped::FlipRefusal;
 use record::{Corner, Leaving, Place};
 
-// What comes of the flip of an edge: its record, or why it is refused.
-#[derive(Clone, Copy)]
-pub enum Tried {
-    Logs(FlipRecord),
-    Refused(FlipRefusal),
-}
-
 // The third corner of the row of a directed edge, by the edge's slot.
 fn third_of(t: &[u32], e: usize) -> Corner
     requires whole { Whole t.now }
@@ -54,60 +47,57 @@ pub fn put_rows(t: &mut [u32], last: &mut [usize], prev: &mut [usize], r: FlipRe
     ensures t_after { rows t.new ≡ put_rows_lem (meant r) (rows t.old) }
     ensures in_chains_2 { InChains t.new last.new prev.new }
 {
-    let first = r.first;
-    let second = r.second;
-    chart::put_row(t, last, prev, second);
-    chart::put_row(t, last, prev, first);
+    chart::put_row(t, last, prev, r.second);
+    chart::put_row(t, last, prev, r.first);
 }
 
 // What a flip writes, in the places of the rows (a, b, c) and (b, a, d).
 fn new_rows(old: FlipRecord, a: Corner, b: Corner, c: Corner, d: Corner) -> FlipRecord
     ensures { result ≡ new_rows_lem old a b c d }
 {
-    let p = old.first.place;
-    let q = old.second.place;
-    let first = Leaving {
-        place: p,
-        a: c,
-        b: a,
-        c: d,
-    };
-    let second = Leaving {
-        place: q,
-        a: c,
-        b: d,
-        c: b,
-    };
     FlipRecord {
-        first: first,
-        second: second,
+        first: Leaving {
+            place: old.first.place,
+            a: c,
+            b: a,
+            c: d,
+        },
+        second: Leaving {
+            place: old.second.place,
+            a: c,
+            b: d,
+            c: b,
+        },
     }
 }
 
-// Inner: flips the edge a b where that is allowed: the rows (a, b, c) and (b, a, d) become (c, a, d) and (c, d, b).
-pub fn flip(t: &mut [u32], last: &mut [usize], prev: &mut [usize], a: Corner, b: Corner) -> Tried
+// Inner: flips the edge a b where that is allowed: the rows (a, b, c) and (b, a, d) become (c, a, d) and (c, d, b). It gives the flip's record.
+pub fn flip(
+    t: &mut [u32],
+    last: &mut [usize],
+    prev: &mut [usize],
+    a: Corner,
+    b: Corner,
+) -> Result<FlipRecord, FlipRefusal>
     requires charted { Charted t.old last.old prev.old }
     requires most_corners_in_bounds { most_corners ≤ length last.old }
     ensures tries { Tries t.old a.0 b.0 result t.new }
     ensures in_chains { InChains t.new last.new prev.new }
 {
-    let x = chart::slot_of(t, last, prev, a, b);
-    if x == 0 {
-        return Tried::Refused(FlipRefusal::EdgeMissing);
-    }
-    let y = chart::slot_of(t, last, prev, b, a);
-    let c = third_of(t, x - 1);
-    let d = third_of(t, y - 1);
-    if chart::slot_of(t, last, prev, c, d) != 0 {
-        return Tried::Refused(FlipRefusal::EdgeBlocked);
-    }
-    let first = row_at(t, (x - 1) / 3);
-    let second = row_at(t, (y - 1) / 3);
-    let old = FlipRecord {
-        first: first,
-        second: second,
+    let Some(x) = chart::slot_of(t, last, prev, a, b) else {
+        return Err(FlipRefusal::EdgeMissing);
     };
-    let new = new_rows(old, a, b, c, d);
-    put_rows(t, last, prev, new);
-    Tried::Logs(old)
+    // an edge of a stage has its reverse
+    let y = chart::slot_of(t, last, prev, b, a).unwrap();
+    let c = third_of(t, x);
+    let d = third_of(t, y);
+    if chart::slot_of(t, last, prev, c, d).is_some() {
+        return Err(FlipRefusal::EdgeBlocked);
+    }
+    let old = FlipRecord {
+        first: row_at(t, x / 3),
+        second: row_at(t, y / 3),
+    };
+    put_rows(t, last, prev, new_rows(old, a, b, c, d));
+    Ok(old)
 }

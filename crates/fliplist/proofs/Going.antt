@@ -5,6 +5,7 @@ use Prim.Native.Nat.{ℕ, ◌+◌, ◌*◌, ◌≤◌, ◌<◌}
 use native.Mathlib.Omega.{arith}
 use lib.ListN.{length, length-append, get_or}
 use lib.Seq.{sets}
+use Rattle.std.specs.Prelude.{Ok, Err}
 use Rattle.follow.proofs.Upto.{Upto, upto_none, upto_all, upto_fails, upto_more}
 use Rattle.surface.specs.Rows.{rows, flat}
 use Rattle.surface.specs.Table.{Arrow, ◌⇒◌}
@@ -18,13 +19,12 @@ use Rattle.laid.proofs.Laws.{first_length, first_at, none_in_front, front_length
 use Rattle.chart.specs.Chart.{InChains}
 use Rattle.chart.proofs.Looking.{chained_flat}
 use Rattle.flipped.specs.declared.FlipRefusal.{FlipRefusal}
-use Rattle.flipped.specs.declared.Flipped.TheVariants.{Done, Stopped}
+use Rattle.flipped.specs.declared.FlipHalt.TheVariants.{Stopped}
 use Rattle.fliplog.specs.declared.FlipRecord.{FlipRecord}
 use Rattle.fliplog.specs.InnerMeant.{meant}
 use Rattle.fliplog.specs.Layout.{edge_list, width, numbers, flip_log}
 use Rattle.fliplog.proofs.Logging.{flip_log_sound, edge_there}
 use Rattle.flip.proofs.Flipping.{stage_charted}
-use Rattle.flip.specs.declared.Tried.TheVariants.{Logs, Refused}
 use Rattle.flip.specs.Inner.{Tries}
 use Rattle.fliplist.specs.Outcome.{Reached, flipping}
 use Rattle.fliplist.specs.Inner.{FlipReady, FlippedOn}
@@ -79,8 +79,8 @@ module _ (t edges l : List ℕ) (g : FlipReady t edges l) where
         let h = g.fits in
         ap length w.log ∙ front_length flip_log flip_log_sound w.state.log l (omega arith)
 
-    pub done_all : count edge_list edges ≤ done → FlippedOn t edges l (Done done) t' l'
-    done_all h = record { followed = λ m. record { state = w.state; reached = upto_all (flipping m t edges l) (w.upto m) (omega (arith, many_items, h)); left = λ i. record { table = w.table i; log = w.log i } } }
+    pub done_all : done ≡ count edge_list edges → FlippedOn t edges l (Ok (count edge_list edges)) t' l'
+    done_all h = rw (sym h) (record { followed = λ m. record { state = w.state; reached = upto_all (flipping m t edges l) (w.upto m) (omega (arith, many_items, h)); left = λ i. record { table = w.table i; log = w.log i } } })
 
     module _ (more : done < count edge_list edges) where
       -- the edge after those done
@@ -96,7 +96,7 @@ module _ (t edges l : List ℕ) (g : FlipReady t edges l) where
       pub room_left : width * done + width ≤ length l'
       room_left = let h = g.fits in let e = same_log in omega arith
 
-      pub next_stops : {r : FlipRefusal} (t'' : List ℕ) → Tries t' (get_or edges (2 * done) 0) (get_or edges (2 * done + 1) 0) (Refused r) t'' → FlippedOn t edges l (Stopped r done) t'' l'
+      pub next_stops : {r : FlipRefusal} (t'' : List ℕ) → Tries t' (get_or edges (2 * done) 0) (get_or edges (2 * done + 1) 0) (Err r) t'' → FlippedOn t edges l (Err (Stopped r done)) t'' l'
       unfolding Tries
       next_stops {r} t'' f = record {
         followed = λ m. record {
@@ -106,7 +106,7 @@ module _ (t edges l : List ℕ) (g : FlipReady t edges l) where
         };
       }
 
-      module _ (k : FlipRecord) (t'' l'' : List ℕ) (f : Tries t' (get_or edges (2 * done) 0) (get_or edges (2 * done + 1) 0) (Logs k) t'') (wrote : l'' ≡ sets l' (width * done) (numbers (meant k))) where
+      module _ (k : FlipRecord) (t'' l'' : List ℕ) (f : Tries t' (get_or edges (2 * done) 0) (get_or edges (2 * done + 1) 0) (Ok k) t'') (wrote : l'' ≡ sets l' (width * done) (numbers (meant k))) where
         flips : Flips w.state.table (get_or edges (2 * done) 0) (get_or edges (2 * done + 1) 0) (meant k) (rows t'')
         unfolding Tries
         flips = rw stands at f

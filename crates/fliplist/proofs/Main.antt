@@ -5,6 +5,7 @@ use Prim.Native.Nat.{ℕ, suc, ◌*◌, ◌≤◌, ◌<◌}
 use native.Mathlib.Omega.{arith}
 use lib.ListN.{length, take, drop}
 use lib.Seq.{length-take-le, drop_at}
+use Rattle.std.specs.Prelude.{Ok, Err, Result}
 use Rattle.follow.specs.Follow.{Outcome}
 use Rattle.follow.specs.Leads.{Leads, no_step, one_step}
 use Rattle.follow.proofs.Leading.{leads_keep}
@@ -21,15 +22,14 @@ use Rattle.flips.specs.Kept.{StageKept}
 use Rattle.flips.proofs.Keeping.{kept_none, kept_on, flip_keeps}
 use Rattle.flips.proofs.Flips.{flip_one, missing_blocked, missing_flips, blocked_flips}
 use Rattle.refusal.specs.declared.Refusal.{Refusal}
-use Rattle.refusal.specs.declared.Verdict.TheVariants.{Passes}
 use Rattle.refusal.specs.First.{First}
 use Rattle.refusal.proofs.Laws.{verdicts, first_one, refused_one, refused_passes, rest_decides, passed, none_yet, ◌nor◌}
 use Rattle.faults.proofs.Order.{after_2, stage_passes}
 use Rattle.laid.specs.Laid.{laid, count, items, in_front}
 use Rattle.laid.proofs.Laws.{first_length, laid_length, front_laid, front_length}
 use Rattle.flipped.specs.declared.FlipRefusal.{FlipRefusal}
-use Rattle.flipped.specs.declared.Flipped.{Flipped}
-use Rattle.flipped.specs.declared.Flipped.TheVariants.{Refused}
+use Rattle.flipped.specs.declared.FlipHalt.{FlipHalt}
+use Rattle.flipped.specs.declared.FlipHalt.TheVariants.{Refused}
 use Rattle.flipped.specs.Answer.{told, FlipsTold}
 use Rattle.flipped.proofs.Telling.{flipped_apart, did}
 use Rattle.fliplog.specs.Layout.{edge_list, width, flip_log}
@@ -77,31 +77,31 @@ flipping_plain n t edges l = record {
 }
 
 module _ {n : ℕ} {t edges l : List ℕ} where
-  on_stages : {a : Flipped} {t' l' : List ℕ} → FlippedAs n t edges l a t' l' → Outcome (within (OnStage n) (flipping n t edges l)) a (record { table = t'; log = l' })
+  on_stages : {a : Result ℕ FlipHalt} {t' l' : List ℕ} → FlippedAs n t edges l a t' l' → Outcome (within (OnStage n) (flipping n t edges l)) a (record { table = t'; log = l' })
   on_stages w = outcome_within (OnStage n) (flipping n t edges l) (λ h. h.1) (λ s s' i z f. (keeps n s s' i z f).after) w.outcome
 
   -- no second outcome satisfies the same words
-  pub flipped_one : {a b : Flipped} {t₁ t₂ l₁ l₂ : List ℕ} → FlippedAs n t edges l a t₁ l₁ → FlippedAs n t edges l b t₂ l₂ → (a ≡ b) × (t₁ ≡ t₂) × (l₁ ≡ l₂)
+  pub flipped_one : {a b : Result ℕ FlipHalt} {t₁ t₂ l₁ l₂ : List ℕ} → FlippedAs n t edges l a t₁ l₁ → FlippedAs n t edges l b t₂ l₂ → (a ≡ b) × (t₁ ≡ t₂) × (l₁ ≡ l₂)
   flipped_one v w =
       let e = outcome_one (within (OnStage n) (flipping n t edges l)) (flipping_plain n t edges l) (on_stages v) (on_stages w) in
       (e.0, ap (λ (b : TableAndLog). b.table) e.1, ap (λ (b : TableAndLog). b.log) e.1)
 
   -- what is refused before any flip is unchanged
-  pub refused_same : {r : Refusal} {t' l' : List ℕ} → FlippedAs n t edges l (Refused r) t' l' → (t' ≡ t) × (l' ≡ l)
+  pub refused_same : {r : Refusal} {t' l' : List ℕ} → FlippedAs n t edges l (Err (Refused r)) t' l' → (t' ≡ t) × (l' ≡ l)
   refused_same w =
       let e = following.refused_same (flipping n t edges l) flipped_apart w.outcome in
       (ap (λ (b : TableAndLog). b.table) e, ap (λ (b : TableAndLog). b.log) e)
 
 -- a stage within its counts and with room passes
-pub flip_passes : (n : ℕ) (t edges l : List ℕ) → FlipFits n t edges → flip_room edges ≤ length l → Stage n (rows t) → First (flip_refusals n t edges l) Passes
+pub flip_passes : (n : ℕ) (t edges l : List ℕ) → FlipFits n t edges → flip_room edges ≤ length l → Stage n (rows t) → First (flip_refusals n t edges l) (Ok tt)
 flip_passes n t edges l fits h s = unfold flip_refusals in
-    rest_decides verdicts ((λ k. k fits) nor (λ k. omega arith) nor none_yet) _ (after_2 n t Passes fits.counts (stage_passes t fits.counts.table.threes n s))
+    rest_decides verdicts ((λ k. k fits) nor (λ k. omega arith) nor none_yet) _ (after_2 n t (Ok tt) fits.counts (stage_passes t fits.counts.table.threes n s))
 
 not_less : {i j : ℕ} → ¬ (i < j) → j ≤ i
 not_less h = omega arith
 
 -- what passes is whole rows, and has room
-module _ (n : ℕ) (t edges l : List ℕ) (f : First (flip_refusals n t edges l) Passes) where
+module _ (n : ℕ) (t edges l : List ℕ) (f : First (flip_refusals n t edges l) (Ok tt)) where
   passed_table : flat (rows t) ≡ t
   unfolding flip_refusals
   passed_table = whole_table n t (λ m. (passed verdicts _ _ f).0 (λ k. m k.counts))
@@ -122,11 +122,11 @@ logged {s} ((a ⇒ b) ∷ es) (one_step f w) =
     (f.0 ∷ r.0, one_step (a, b, f.1) r.1, r.2 ∙ ap (λ z. z ++ r.0) f.2 ∙ append_assoc s.log (f.0 ∷ []) r.0, ap suc r.3)
 
 -- k flips told
-module _ {n : ℕ} {t edges l : List ℕ} {a : Flipped} {t' l' : List ℕ} (w : FlippedAs n t edges l a t' l') {k : ℕ} (d : FlipsTold k (told a)) where
-  led : (First (flip_refusals n t edges l) Passes × Stage n (rows t)) × (s : Reached) × Upto (flipping n t edges l) k s × (record { table = t'; log = l' } ≡ (flipping n t edges l).left s)
+module _ {n : ℕ} {t edges l : List ℕ} {a : Result ℕ FlipHalt} {t' l' : List ℕ} (w : FlippedAs n t edges l a t' l') {k : ℕ} (d : FlipsTold k (told a)) where
+  led : (First (flip_refusals n t edges l) (Ok tt) × Stage n (rows t)) × (s : Reached) × Upto (flipping n t edges l) k s × (record { table = t'; log = l' } ≡ (flipping n t edges l).left s)
   led = outcome_upto (flipping n t edges l) flipped_apart (did a d) w.outcome
 
-  passes : First (flip_refusals n t edges l) Passes
+  passes : First (flip_refusals n t edges l) (Ok tt)
   passes = led.0.0
 
   -- where they lead

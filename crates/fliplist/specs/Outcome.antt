@@ -1,5 +1,5 @@
 -- Flipping a list of edges in 02's words: the refusals in their order, or the flips done up to the first refusal and what they leave.
-use Rattle.std.specs.Prelude.{◌≡◌, false, List, [], ◌∷◌, ◌++◌, ℕ, ◌*◌, ◌<◌, length}
+use Rattle.std.specs.Prelude.{◌≡◌, false, List, [], ◌∷◌, ◌++◌, ℕ, ◌*◌, ◌<◌, length, Ok, Err, Result}
 use Rattle.follow.specs.Follow.{Call, Outcome}
 use Rattle.surface.specs.Rows.{Row, rows, flat}
 use Rattle.surface.specs.Table.{Arrow, ◌⇒◌}
@@ -7,13 +7,12 @@ use Rattle.surface.specs.Stage.{Stage}
 use Rattle.flips.specs.Flip.{Flip, Flips}
 use Rattle.refusal.specs.declared.Refusal.{Refusal}
 use Rattle.refusal.specs.declared.Refusal.TheVariants.{CountsOutside, RoomShort}
-use Rattle.refusal.specs.declared.Verdict.TheVariants as verdict
 use Rattle.refusal.specs.First.{Refusals, ◌when◌, First}
 use Rattle.faults.specs.Counts.{CountsFit}
 use Rattle.faults.specs.Order.{row_refusals}
 use Rattle.laid.specs.Laid.{count, items, WholeItems, in_front}
 use Rattle.flipped.specs.declared.FlipRefusal.{FlipRefusal}
-use Rattle.flipped.specs.declared.Flipped.{Flipped}
+use Rattle.flipped.specs.declared.FlipHalt.{FlipHalt}
 use Rattle.flipped.specs.Answer.{flipped}
 use Rattle.fliplog.specs.Layout.{edge_list, width, flip_log}
 use Rattle.flip.specs.Refused.{FlipRefused}
@@ -53,11 +52,11 @@ pub record TableAndLog : Type 0 where
   pub log : List ℕ
 
 -- flipping a list of edges of the table t over n corners, with the room l for the log
-abbrev pub flipping : ℕ → List ℕ → List ℕ → List ℕ → Call Reached Arrow FlipRefusal Refusal Flipped TableAndLog
+abbrev pub flipping : ℕ → List ℕ → List ℕ → List ℕ → Call Reached Arrow FlipRefusal Refusal (Result ℕ FlipHalt) TableAndLog
 flipping n t edges l = record {
   -- the first that holds; where none does, the table is a stage
-  Given = λ e. First (flip_refusals n t edges l) (verdict.Refused e);
-  Else = First (flip_refusals n t edges l) verdict.Passes × Stage n (rows t);
+  Given = λ e. First (flip_refusals n t edges l) (Err e);
+  Else = First (flip_refusals n t edges l) (Ok tt) × Stage n (rows t);
   -- "done in order up to the first refusal"
   items = items edge_list edges;
   start = record { table = rows t; log = [] };
@@ -70,5 +69,5 @@ flipping n t edges l = record {
 }
 
 -- the answer a to flipping a list, and what then stands in table and log
-pub record FlippedAs (n : ℕ) (t edges l : List ℕ) (a : Flipped) (t' l' : List ℕ) : Type 0 where
+pub record FlippedAs (n : ℕ) (t edges l : List ℕ) (a : Result ℕ FlipHalt) (t' l' : List ℕ) : Type 0 where
   pub outcome : Outcome (flipping n t edges l) a (record { table = t'; log = l' })

@@ -3,9 +3,9 @@ use mathlib.Core.List.{List}
 use Prim.Native.Nat.{ℕ, ◌≤◌, ◌<◌}
 use native.Mathlib.Omega.{arith}
 use lib.IntN.{ℤ}
+use Rattle.std.specs.Prelude.{Ok}
 use Rattle.surface.specs.Limits.{least_rows, least_corners}
 use Rattle.refusal.specs.First.{First}
-use Rattle.refusal.specs.declared.Verdict.TheVariants.{Passes}
 use Rattle.refusal.proofs.Laws.{verdicts, passed}
 use Rattle.form.specs.Limits.{most_sheet_rows, most_sheet_corners}
 use Rattle.form.specs.Form.{CountsIn, SheetOf, form_refusals}
@@ -14,7 +14,7 @@ use Rattle.form.proofs.Formed.{its_line}
 not_over : (a b : ℕ) → ¬ (b < a) → a ≤ b
 not_over a b h = omega arith
 
-pub counts_within : {b : List ℕ} {n m : ℕ} {xs : List ℤ} {t : List ℕ} → First (form_refusals b) Passes → SheetOf b n m xs t → CountsIn n m
+pub counts_within : {b : List ℕ} {n m : ℕ} {xs : List ℤ} {t : List ℕ} → First (form_refusals b) (Ok tt) → SheetOf b n m xs t → CountsIn n m
 unfolding form_refusals
 counts_within {b} {n} {m} f s =
     let no-out = (passed verdicts _ _ (passed verdicts _ _ (passed verdicts _ _ f).1).1).0 in

@@ -5,24 +5,24 @@ use Prim.Native.Nat.{ℕ, ◌*◌, ◌≤◌, ◌<◌}
 use native.Mathlib.Omega.{arith}
 use lib.IntN.{ℤ, pos}
 use lib.ListN.{length, take}
+use Rattle.std.specs.Prelude.{Ok, Err}
 use Rattle.refusal.specs.First.{First}
 use Rattle.refusal.specs.declared.Refusal.TheVariants.{SheetForm, CountsOutside}
-use Rattle.refusal.specs.declared.Verdict.TheVariants.{Passes, Refused}
 use Rattle.refusal.proofs.Laws.{verdicts, given_first, passes_none, none_yet, ◌nor◌}
 use Rattle.lines.specs.Lines.{LineAt}
 use Rattle.lines.specs.Kinds.{corner_lines, row_lines}
 use Rattle.heading.specs.Heading.{most_digits, first_line_lem, Begins, NoFirstLine}
-use Rattle.heading.proofs.Heading.{same_first}
+use Rattle.heading.proofs.First.{same_first}
 use Rattle.form.specs.Limits.{most_sheet_bytes}
 use Rattle.form.specs.Form.{SKIN, CountsIn, SheetOf, CountsOut, NoSheet, form_refusals}
 use Rattle.form.specs.Inner.{BodyAt, NoBody, FormRead}
 
-pub too_long : (b : List ℕ) → most_sheet_bytes < length b → First (form_refusals b) (Refused SheetForm)
+pub too_long : (b : List ℕ) → most_sheet_bytes < length b → First (form_refusals b) (Err SheetForm)
 unfolding form_refusals
 too_long b h = given_first verdicts none_yet h
 
 module _ (b : List ℕ) (size : length b ≤ most_sheet_bytes) where
-  pub no_first_line : NoFirstLine SKIN b → First (form_refusals b) (Refused SheetForm)
+  pub no_first_line : NoFirstLine SKIN b → First (form_refusals b) (Err SheetForm)
   unfolding form_refusals
   no_first_line h = given_first verdicts ((λ k. omega arith) nor none_yet) h
 
@@ -34,7 +34,7 @@ module _ (b : List ℕ) (size : length b ≤ most_sheet_bytes) (n m : ℕ) (l : 
   begins : Begins SKIN b n m
   begins = record { rest = l; line = f }
 
-  pub refuse_counts : (¬ CountsIn n m) → First (form_refusals b) (Refused CountsOutside)
+  pub refuse_counts : (¬ CountsIn n m) → First (form_refusals b) (Err CountsOutside)
   unfolding form_refusals
   refuse_counts h = given_first verdicts ((λ k. omega arith) nor (λ k. k n m begins) nor none_yet) (record { n = n; m = m; begins = begins; out = h })
 
@@ -44,7 +44,7 @@ module _ (b : List ℕ) (size : length b ≤ most_sheet_bytes) (n m : ℕ) (l : 
         let u = same_first SKIN b n m o.n o.m l o.begins.rest f o.begins.line in
         o.out (subst (λ (k : ℕ). CountsIn k o.m) u.corners (subst (CountsIn n) u.rows fit))
 
-    pub refuse_lines : NoBody l n m → First (form_refusals b) (Refused SheetForm)
+    pub refuse_lines : NoBody l n m → First (form_refusals b) (Err SheetForm)
     unfolding form_refusals
     refuse_lines h = given_first verdicts ((λ k. omega arith) nor (λ k. k n m begins) nor not_out nor none_yet) no_sheet
       where
@@ -65,7 +65,7 @@ module _ (b : List ℕ) (size : length b ≤ most_sheet_bytes) (n m : ℕ) (l : 
     }
 
     -- a sheet passes
-    pub form_passes : {xs : List ℤ} {t : List ℕ} → SheetOf b n m xs t → First (form_refusals b) Passes
+    pub form_passes : {xs : List ℤ} {t : List ℕ} → SheetOf b n m xs t → First (form_refusals b) (Ok tt)
     unfolding form_refusals
     form_passes {xs} {t} s = (passes_none verdicts _).1 ((λ k. omega arith) nor (λ k. k n m begins) nor not_out nor (λ k. k n m xs t s) nor none_yet)
 

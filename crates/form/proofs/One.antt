@@ -9,7 +9,7 @@ use Rattle.lines.specs.Kinds.{C, R, corner_lines, row_lines}
 use Rattle.lines.proofs.Cut.{lines_unique}
 use Rattle.lines.proofs.Plain.{pos_same}
 use Rattle.form.specs.Form.{SKIN, sheet_text, SheetOf}
-use Rattle.heading.proofs.Heading.{same_first}
+use Rattle.heading.proofs.First.{same_first}
 use Rattle.form.proofs.Formed.{its_line}
 
 -- ---- one text for its corners and rows

@@ -5,9 +5,10 @@ use Prim.Native.Nat.{ℕ, ◌*◌}
 use native.Mathlib.Omega.{arith}
 use lib.IntN.{ℤ}
 use lib.ListN.{take}
+use Rattle.std.specs.Prelude.{Result}
+use Rattle.refusal.specs.declared.Refusal.{Refusal}
 use Rattle.surface.proofs.Flat.{rows_length}
 use Rattle.refusal.specs.First.{First}
-use Rattle.refusal.specs.declared.Verdict.{Verdict}
 use Rattle.faults.specs.Counts.{CountsFitAt}
 use Rattle.faults.specs.Order.{refusals_at, refusals_after_counts}
 use Rattle.faults.proofs.Order.{after_2_at}
@@ -28,7 +29,7 @@ module _ {n m : ℕ} {xs : List ℤ} {t : List ℕ} (held : Held n m xs t) where
       }
 
   -- so what is left to be asked is 4 to 11
-  pub held_refusals : (v : Verdict) → First (refusals_at true xs t) v → First (refusals_after_counts true xs t) v
+  pub held_refusals : (v : Result Unit Refusal) → First (refusals_at true xs t) v → First (refusals_after_counts true xs t) v
   held_refusals v k = after_2_at true xs t v library_fits k
 
 pub its_held : {b : List ℕ} {n m : ℕ} {xroom : List ℤ} {troom : List ℕ} → FormRead b n m xroom troom → Held n m (take (n * 3) xroom) (take (m * 3) troom)

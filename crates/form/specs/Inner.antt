@@ -1,13 +1,11 @@
 -- What inner functions are asked on and give: no public contract names it.
-use Rattle.std.specs.Prelude.{◌≡◌, List, ◌++◌, map, ℕ, ◌*◌, ◌≤◌, ℤ, pos, length, take}
+use Rattle.std.specs.Prelude.{◌≡◌, List, ◌++◌, map, ℕ, ◌*◌, ◌≤◌, ℤ, pos, length, take, Result, Ok, Err}
 use Rattle.refusal.specs.First.{First}
-use Rattle.refusal.specs.declared.Verdict.TheVariants as verdict
+use Rattle.refusal.specs.declared.Refusal.{Refusal}
 use Rattle.lines.specs.Lines.{FewDigits}
 use Rattle.lines.specs.Kinds.{corner_lines, row_lines}
 use Rattle.heading.specs.Heading.{most_digits}
 use Rattle.form.specs.Limits.{most_numbers, most_coordinates}
-use Rattle.form.specs.declared.Form.{Form}
-use Rattle.form.specs.declared.Form.TheVariants.{Read, Refused}
 use Rattle.form.specs.Form.{CountsIn, SheetOf, form_refusals}
 
 -- l is the lines of n corners with the coordinates xs and of m rows with the numbers t, and nothing else
@@ -34,10 +32,10 @@ pub record Rooms (xroom : List ℤ) (troom : List ℕ) : Type 0 where
 
 -- in the form, with its corners and rows in front of two rooms
 pub record FormRead (b : List ℕ) (n m : ℕ) (xroom : List ℤ) (troom : List ℕ) : Type 0 where
-  pub passes : First (form_refusals b) verdict.Passes
+  pub passes : First (form_refusals b) (Ok tt)
   pub counts : CountsIn n m
   pub sheet : SheetOf b n m (take (n * 3) xroom) (take (m * 3) troom)
 
-unfoldable pub ReadForm : List ℕ → List ℤ → List ℕ → Form → Type 0
-ReadForm b xroom troom (Read n m) = FormRead b n m xroom troom
-ReadForm b xroom troom (Refused r) = First (form_refusals b) (verdict.Refused r)
+unfoldable pub ReadForm : List ℕ → List ℤ → List ℕ → Result (ℕ × ℕ) Refusal → Type 0
+ReadForm b xroom troom (Ok p) = FormRead b p.0 p.1 xroom troom
+ReadForm b xroom troom (Err r) = First (form_refusals b) (Err r)

@@ -1,22 +1,21 @@
 // The link test and the two engines by themselves, for the benchmark to time: no call of the tool goes through this crate.
 #![tactic(auto)]
 
-ghost use Rattle.std.specs.Prelude.{◌≤◌, ◌<◌, length};
+ghost use Rattle.std.specs.Prelude.{◌≤◌, ◌<◌, length, None};
 ghost use Rattle.surface.specs.Limits.{most_corners};
 ghost use Rattle.surface.specs.Lists.{◌∈◌, Distinct};
 ghost use Rattle.surface.specs.Rows.{rows};
 ghost use Rattle.neighbours.specs.Around.{Charted, Marked, Unmarked};
 ghost use Rattle.link.specs.InnerBoth.{TellsEdge};
 ghost use Rattle.trapped.specs.ByCorner.{ByCorner};
-ghost use Rattle.least.specs.declared.Bound.TheVariants.{Free};
 ghost use Rattle.least.specs.Limited.{Allowed};
 ghost use Rattle.least.specs.Inner.{Measurable};
 ghost use Rattle.going.specs.Going.{CanGoOn, WentBy, WentOn};
 
-use least::Bound;
 use record::Corner;
 
-// Inner: `meets_round` of `link`, for Rust to call. It asks what the test asks, and the benchmark sees to that.
+// Inner: `meets_round` of `link`, for Rust to call. It asks what the test asks, and the benchmark sees to that. Rings and marks are slices here and
+// in `link`, and no `Scratch`, since the benchmark lends its own.
 #[unsafe(no_mangle)]
 pub extern "C" fn flaxglimmer_gauge_link(
     t: &[u32],
@@ -64,8 +63,8 @@ pub extern "C" fn flaxglimmer_gauge_plain(
     log: &mut [u32],
 ) -> usize
     requires can_go_on { CanGoOn n table.old rows log.old 0 }
-    requires measurable { Measurable Free n xs.now }
-    ensures { WentOn (Allowed Free xs.now) table.old rows log.old 0 result table.new log.new }
+    requires measurable { Measurable None n xs.now }
+    ensures { WentOn (Allowed None xs.now) table.old rows log.old 0 result table.new log.new }
 {
-    engine::go_on(table, rows, n, xs, Bound::Free, log, 0)
+    engine::go_on(table, rows, n, xs, None, log, 0)
 }

@@ -1,14 +1,13 @@
 // The functions of `gauge` as other languages call them: each calls the one of its name, with the same clauses. tools/exports writes this file.
 #![tactic(auto)]
 
-ghost use Rattle.std.specs.Prelude.{◌≤◌, ◌<◌, length};
+ghost use Rattle.std.specs.Prelude.{◌≤◌, ◌<◌, length, None};
 ghost use Rattle.surface.specs.Limits.{most_corners};
 ghost use Rattle.surface.specs.Lists.{◌∈◌, Distinct};
 ghost use Rattle.surface.specs.Rows.{rows};
 ghost use Rattle.neighbours.specs.Around.{Charted, Marked, Unmarked};
 ghost use Rattle.link.specs.InnerBoth.{TellsEdge};
 ghost use Rattle.trapped.specs.ByCorner.{ByCorner};
-ghost use Rattle.least.specs.declared.Bound.TheVariants.{Free};
 ghost use Rattle.least.specs.Limited.{Allowed};
 ghost use Rattle.least.specs.Inner.{Measurable};
 ghost use Rattle.going.specs.Going.{CanGoOn, WentBy, WentOn};
@@ -61,8 +60,8 @@ pub extern "C" fn flaxglimmer_gauge_plain(
     log: &mut [u32],
 ) -> usize
     requires can_go_on { CanGoOn n table.old rows log.old 0 }
-    requires measurable { Measurable Free n xs.now }
-    ensures { WentOn (Allowed Free xs.now) table.old rows log.old 0 result table.new log.new }
+    requires measurable { Measurable None n xs.now }
+    ensures { WentOn (Allowed None xs.now) table.old rows log.old 0 result table.new log.new }
 {
     gauge::flaxglimmer_gauge_plain(table, rows, n, xs, log)
 }

@@ -17,7 +17,7 @@ use Rattle.growth.proofs.Put.{put_length}
 use Rattle.growth.proofs.Accepting.{local_accepts}
 use Rattle.growth.proofs.Main.{accepted_local}
 use Rattle.record.specs.declared.Corner.{Corner}
-use Rattle.ends.specs.declared.Ends.TheVariants.{At, Nothing}
+use Rattle.std.specs.Prelude.{Some, None}
 use Rattle.noted.specs.Noted.{Round}
 use Rattle.accept.specs.Test.{Answered}
 use Rattle.grow.specs.Walk.{Walkable, Renamed}
@@ -29,11 +29,11 @@ module _ (n m : ℕ) (k : Record) (room : List ℕ) (w : StageTable n (front_row
   many : length (standing m room) ≡ m
   many = standing_length m room (omega arith)
 
-  pub not_grown : Answered n (standing m room) k Nothing → GrewBack n m k room false room
+  pub not_grown : Answered n (standing m room) k None → GrewBack n m k room false room
   unfolding Answered GrewBack
   not_grown a = (λ T g. a ((accepted_local n (standing m room) w.stage k).0 (T, g)), refl)
 
-  module _ (x y : Corner) (a : Answered n (standing m room) k (At x y)) where
+  module _ (x y : Corner) (a : Answered n (standing m room) k (Some (x, y))) where
     pub walkable : (at : List ℕ) → n ≤ length at → Round (front_rows m room) k.kept at → Walkable (front_rows m room) at k.kept x.0 y.0
     unfolding Answered
     walkable at h r = record { corners = n; table = w; fits = h; round = r; at_x = re_edge refl (sym a.1) a.0.at_x; at_y = re_edge refl (sym a.2) a.0.at_y }

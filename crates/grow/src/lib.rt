@@ -8,7 +8,6 @@ ghost use Rattle.grow.specs.Walk.{Walkable, Renamed};
 ghost use Rattle.record.specs.Front.{front_rows};
 ghost use Rattle.grow.specs.Room.{GrewBack};
 
-use ends::Ends;
 use record::{Corner, Record};
 
 // The removed number goes on the rows round the kept corner, from y forward to x.
@@ -32,13 +31,10 @@ pub fn grow(room: &mut [u32], rows: usize, corners: usize, r: Record) -> bool
 {
     let n = 3 * rows;
     let mut at = [0usize; surface::MOST_CORNERS];
-    let e = accept::accepts(&room[..n], corners, r, &mut at);
-    match e {
-        Ends::Nothing => false,
-        Ends::At(x, y) => {
-            rename(&mut room[..n], &at, r, x, y);
-            insert::put_rows(room, rows, r);
-            true
-        }
-    }
+    let Some((x, y)) = accept::accepts(&room[..n], corners, r, &mut at) else {
+        return false;
+    };
+    rename(&mut room[..n], &at, r, x, y);
+    insert::put_rows(room, rows, r);
+    true
 }

@@ -5,36 +5,27 @@ ghost use Rattle.refusal.specs.InnerTells.{Tells};
 ghost use Rattle.growable.specs.Refusals.{GrowFits};
 ghost use Rattle.growable.specs.Inner.{JudgedGrowing};
 
-use refusal::{Refusal, Verdict};
+use refusal::Refusal;
 
 // Whether rows told, corner count and log are within their limits, and rows would not pass the most.
 fn grow_fits(rows: usize, corners: usize, log: &[u32]) -> bool
     ensures { Tells result (GrowFits corners rows log.now) (¬ GrowFits corners rows log.now) }
 {
-    if !counts::rows_fit(rows) {
-        return false;
-    }
-    if !counts::corners_fit(corners) {
-        return false;
-    }
-    if log.len() % record::WIDTH != 0 {
-        return false;
-    }
-    if surface::MOST_ROWS < rows + 2 * (log.len() / record::WIDTH) {
-        return false;
-    }
-    true
+    counts::rows_fit(rows)
+        && counts::corners_fit(corners)
+        && log.len() % record::WIDTH == 0
+        && rows + 2 * (log.len() / record::WIDTH) <= surface::MOST_ROWS
 }
 
 // Inner: the first of the refusals 2 to 11 that holds.
-pub fn judge(room: &[u32], rows: usize, corners: usize, log: &[u32]) -> Verdict
+pub fn judge(room: &[u32], rows: usize, corners: usize, log: &[u32]) -> Result<(), Refusal>
     ensures { JudgedGrowing corners rows room.now log.now result }
 {
     if !grow_fits(rows, corners, log) {
-        return Verdict::Refused(Refusal::CountsOutside);
+        return Err(Refusal::CountsOutside);
     }
     if room.len() < 3 * (rows + 2 * (log.len() / record::WIDTH)) {
-        return Verdict::Refused(Refusal::RoomShort);
+        return Err(Refusal::RoomShort);
     }
     let end = 3 * rows;
     skin::check_stage(&room[..end], corners)

@@ -3,27 +3,29 @@
 
 ghost use Rattle.heading.specs.Inner.{ReadFirst};
 
-use text::{Cursor, Passed};
+use text::Cursor;
 
 // Numbers of a sheet have one to six digits.
 pub const MOST_DIGITS: usize = 6;
 
-// The first line's corner count, row count and the place after it, or that it is not in its form.
+// The first line's corner count, row count and the place after it.
 #[derive(Clone, Copy)]
-pub enum FirstLine {
-    Read(usize, usize, Cursor),
-    Bad,
+pub struct Heading {
+    pub corners: usize,
+    pub rows: usize,
+    pub after: Cursor,
 }
 
-// Inner: reads the first line of the word w.
-pub fn first_line(bytes: &[u8], w: &[u8]) -> FirstLine
+// Inner: the first line of the word w, where it is in its form.
+pub fn first_line(bytes: &[u8], w: &[u8]) -> Option<Heading>
     ensures { ReadFirst w.now bytes.now result }
 {
     let mut counts = [0u32; 2];
     let start = Cursor { at: 0 };
-    let read = reading::number_line(bytes, start, w, MOST_DIGITS, 2, &mut counts, 0);
-    let Passed::To(after) = read else {
-        return FirstLine::Bad;
-    };
-    FirstLine::Read(counts[0] as usize, counts[1] as usize, after)
+    let after = lines::read_line(bytes, start, w, MOST_DIGITS, &mut counts, 0, 2)?;
+    Some(Heading {
+        corners: counts[0] as usize,
+        rows: counts[1] as usize,
+        after,
+    })
 }

@@ -139,10 +139,3 @@ abs_quot (negsuc n) d = abs_neg (pos (suc n / d))
 pub abs_rem : (s : ℤ) (d : ℕ) → nat_abs (rem_z s (pos d)) ≡ nat_abs s % d
 abs_rem (pos n) d = refl
 abs_rem (negsuc n) d = abs_neg (pos (suc n % d))
-
-pub quot_rem : (s : ℤ) (d : ℕ) → pos d *ℤ quot_z s (pos d) +ℤ rem_z s (pos d) ≡ s
-quot_rem (pos n) d = ap pos (div-add-mod n d)
-quot_rem (negsuc n) d =
-    ap (λ t. t +ℤ neg_ℤ (pos (suc n % d))) (times_neg (pos d) (pos (suc n / d)))
-    ∙ sym (neg_ℤ-+ℤ (pos (d * (suc n / d))) (pos (suc n % d)))
-    ∙ ap (λ (k : ℕ). neg_ℤ (pos k)) (div-add-mod (suc n) d)

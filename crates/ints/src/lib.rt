@@ -7,9 +7,5 @@ ghost use Rattle.std.specs.Prelude.{◌≡◌, nat_abs};
 pub fn size(z: i64) -> u64
     ensures { result ≡ nat_abs z }
 {
-    if z < 0 {
-        let short = -(z + 1);
-        return short as u64 + 1;
-    }
-    z as u64
+    z.unsigned_abs()
 }

@@ -4,34 +4,32 @@ use mathlib.Core.List.{List, [], ◌∷◌}
 use Prim.Native.Nat.{ℕ, zero, suc, ◌≤◌}
 use native.Mathlib.Omega.{arith}
 use lib.IntN.{ℤ, nat_abs, +ℤ_idr}
+use Rattle.nest.specs.declared.Kind.TheVariants.{Void, Other}
+use Rattle.std.specs.Prelude.{Some, None, Result, Ok}
 use Rattle.wide.specs.Rounding.{figure}
-use Rattle.jobform.specs.declared.Name.TheVariants.{Nothing, Number}
 use Rattle.jobform.specs.declared.Entry.{Entry}
-use Rattle.jobform.specs.Inner.{kept_name_lem}
 use Rattle.jobform.specs.JobSheet.{JobSheetOf}
 use Rattle.nest.specs.Limits.{most_sum}
 use Rattle.nest.specs.Questions.{void_letter, kind, At, Every, Marked, Named, Alternates, Deep, top, below, SumIn}
 use Rattle.nest.specs.Net.{added, Nets, told_sum}
-use Rattle.nest.specs.Inner.{kind_number_lem}
-use Rattle.job.specs.declared.Job.{Job}
-use Rattle.job.specs.declared.Job.TheVariants.{Net}
+use Rattle.job.specs.declared.JobRefusal.{JobRefusal}
 use Rattle.job.specs.Outcome.{JobAnswered}
 use Rattle.job.specs.Inner.{Passing}
 use Rattle.job.proofs.Laws.{told_net, accepted}
 
 -- a void that stands in nothing
 abbrev pub alone : ℤ → Entry
-alone z = record { letter = void_letter; name = Nothing; sum = z }
+alone z = record { letter = void_letter; name = None; sum = z }
 
 module _ (z : ℤ) where
   alone_net : (net : ℕ → ℤ) → Nets (alone z ∷ []) (told_sum (alone z ∷ [])) net → net 0 ≡ z
   unfolding added
   alone_net net n = n.of_void 0 (alone z) refl refl ∙ +ℤ_idr z
 
-  nowhere : {j : ℕ} → Nothing ≡ Number j → ⊥
-  nowhere {j} e = let k : 0 ≡ suc j = ap kept_name_lem e in omega arith
+  nowhere : {j : ℕ} → None ≡ Some j → ⊥
+  nowhere e = cc
 
-  unnamed : (i : ℕ) (e : Entry) {j : ℕ} → At (alone z ∷ []) i e → e.name ≡ Number j → ⊥
+  unnamed : (i : ℕ) (e : Entry) {j : ℕ} → At (alone z ∷ []) i e → e.name ≡ Some j → ⊥
   unnamed zero e a n = nowhere (ap (λ x. x.name) a ∙ n)
   unnamed (suc i) e a n = a
 
@@ -40,7 +38,7 @@ module _ (z : ℤ) where
   alone_shallow {i} (below e a n p) = absurd (unnamed i e a n)
 
   marked : Every Marked (alone z ∷ [])
-  marked zero e a h = let k : ◌≡◌ {A = ℕ} 0 2 = ap kind_number_lem (ap kind a ∙ h) in omega arith
+  marked zero e a h = let k : Void ≡ Other = ap kind a ∙ h in cc
   marked (suc i) e a h = a
 
   named : Every Named (alone z ∷ [])
@@ -55,8 +53,8 @@ module _ (z : ℤ) where
   sums small (suc i) e a = absurd a
 
   -- its answer is the figure of its own sum
-  pub alone_figure : nat_abs z ≤ most_sum → {b : List ℕ} {a : Job} → JobSheetOf b (alone z ∷ []) → JobAnswered b a → a ≡ Net (figure z)
+  pub alone_figure : nat_abs z ≤ most_sum → {b : List ℕ} {a : Result ℤ JobRefusal} → JobSheetOf b (alone z ∷ []) → JobAnswered b a → a ≡ Ok (figure z)
   alone_figure small {b} {a} s w =
       let p : Passing (alone z ∷ []) = record { marked = marked; named = named; alternates = alternates; shallow = (λ i e h d q. alone_shallow q); sums = sums small } in
       let f = accepted s (record { some = omega arith; few = omega arith }) p w in
-      f.1 ∙ ap Net (told_net z (rw (sym f.1) w) s alone_net)
+      f.1 ∙ ap Ok (told_net z (rw (sym f.1) w) s alone_net)

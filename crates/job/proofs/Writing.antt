@@ -6,9 +6,8 @@ use native.Mathlib.Decide.{ℕ_discrete}
 use native.Mathlib.Omega.{arith}
 use lib.IntN.{nat_abs}
 use lib.ListN.{length}
+use Rattle.std.specs.Prelude.{Option, Some, None}
 use Rattle.text.proofs.Digits.{below_digits}
-use Rattle.jobform.specs.declared.Name.{Name}
-use Rattle.jobform.specs.declared.Name.TheVariants.{Nothing, Number}
 use Rattle.jobform.specs.declared.Entry.{Entry}
 use Rattle.jobform.specs.Limits.{most_entries}
 use Rattle.jobform.specs.JobSheet.{Capital, ShortName, InForm, AllInForm, job_text, JobSheetOf}
@@ -27,11 +26,11 @@ marked_capital b marked = go (ℕ_discrete b void_letter) (ℕ_discrete b solid_
     go (no n) (no m) = absurd (marked (sym (marks_other b n m)))
 
 -- the name of an earlier entry is short
-short_name : (i : ℕ) (n : Name) → NameGood i n → i < most_entries → ShortName n
-short_name zero Nothing g h = tt
-short_name zero (Number j) g h = absurd g
-short_name (suc i) Nothing g h = absurd g
-short_name (suc i) (Number j) g h = below_digits j 6 (omega arith) (omega arith)
+short_name : (i : ℕ) (n : Option ℕ) → NameGood i n → i < most_entries → ShortName n
+short_name zero None g h = tt
+short_name zero (Some j) g h = absurd g
+short_name (suc i) None g h = absurd g
+short_name (suc i) (Some j) g h = below_digits j 6 (omega arith) (omega arith)
 
 all_form : (es : List Entry) → ((i : ℕ) (e : Entry) → At es i e → InForm e) → AllInForm es
 all_form [] each = tt

@@ -1,17 +1,12 @@
 -- What inner functions give: no public contract names it.
-use Rattle.std.specs.Prelude.{◌≡◌, List, [], ◌∷◌, ℕ, ℤ}
+use Rattle.std.specs.Prelude.{◌≡◌, List, [], ◌∷◌, ℕ, ℤ, Result, Ok, Err}
 use Rattle.refusal.specs.First.{Clause, ◌when◌, FirstOf}
 use Rattle.wide.specs.Rounding.{figure}
 use Rattle.jobform.specs.declared.Entry.{Entry}
 use Rattle.nest.specs.Questions.{Every, Marked, Named, Alternates, Shallow, SumIn}
 use Rattle.nest.specs.Net.{Nets, told_sum}
-use Rattle.nest.specs.Inner.{Lists}
 use Rattle.job.specs.declared.JobRefusal.{JobRefusal}
 use Rattle.job.specs.declared.JobRefusal.TheVariants.{JobKind, JobName, JobAlternation, JobDepth, JobSum}
-use Rattle.job.specs.declared.JobVerdict.{JobVerdict}
-use Rattle.job.specs.declared.JobVerdict.TheVariants as verdict
-use Rattle.job.specs.declared.Job.{Job}
-use Rattle.job.specs.declared.Job.TheVariants.{Net, Refused}
 
 -- the questions asked of entries that are read, in their order
 unfoldable pub asked : List Entry → List (Clause JobRefusal)
@@ -23,6 +18,10 @@ asked es =
     ∷ (JobSum when (¬ Every SumIn es))
     ∷ []
 
+-- the first of them that is not answered well, or that none is
+abbrev pub AskedFirst : List Entry → Result Unit JobRefusal → Type 0
+AskedFirst es = FirstOf (Ok tt) Err (asked es)
+
 -- every question answered well
 pub record Passing (es : List Entry) : Type 0 where
   pub marked : Every Marked es
@@ -32,18 +31,11 @@ pub record Passing (es : List Entry) : Type 0 where
   pub sums : Every SumIn es
 
 -- the first that holds of the entries es, and where none does, all is well
-pub record JudgedOf (es : List Entry) (v : JobVerdict) : Type 0 where
-  pub first : FirstOf verdict.Passes verdict.Refused (asked es) v
-  pub passing : v ≡ verdict.Passes → Passing es
-
--- of the entries that are kept so
-abbrev pub Judged : List ℕ → List ℕ → List ℤ → JobVerdict → Type 0
-Judged letters names sums v = (es : List Entry) → Lists es letters names sums → JudgedOf es v
+pub record Judged (es : List Entry) (v : Result Unit JobRefusal) : Type 0 where
+  pub first : AskedFirst es v
+  pub passing : v ≡ Ok tt → Passing es
 
 -- what the entries es come to
-pub data SettledOf (es : List Entry) (a : Job) : Type 0 where
-  turned_down : {r : JobRefusal} → FirstOf verdict.Passes verdict.Refused (asked es) (verdict.Refused r) → a ≡ Refused r → SettledOf es a
-  worked_out : (net : ℕ → ℤ) → FirstOf verdict.Passes verdict.Refused (asked es) verdict.Passes → Nets es (told_sum es) net → a ≡ Net (figure (net 0)) → SettledOf es a
-
-abbrev pub Settled : List ℕ → List ℕ → List ℤ → Job → Type 0
-Settled letters names sums a = (es : List Entry) → Lists es letters names sums → SettledOf es a
+pub data Settled (es : List Entry) (a : Result ℤ JobRefusal) : Type 0 where
+  turned_down : {r : JobRefusal} → AskedFirst es (Err r) → a ≡ Err r → Settled es a
+  worked_out : (net : ℕ → ℤ) → AskedFirst es (Ok tt) → Nets es (told_sum es) net → a ≡ Ok (figure (net 0)) → Settled es a

@@ -1,5 +1,5 @@
 -- A job sheet's answer: "The answer is the topmost net, rounded once; nothing is written." The whole outcome.
-use Rattle.std.specs.Prelude.{◌≡◌, List, [], ◌∷◌, ℕ, ◌<◌, ℤ, length}
+use Rattle.std.specs.Prelude.{◌≡◌, List, [], ◌∷◌, ℕ, ◌<◌, ℤ, length, Result, Ok, Err}
 use Rattle.refusal.specs.First.{Clause, ◌when◌, FirstOf}
 use Rattle.wide.specs.Rounding.{figure}
 use Rattle.jobform.specs.declared.Entry.{Entry}
@@ -9,10 +9,6 @@ use Rattle.nest.specs.Questions.{Every, Counted, Marked, Named, Alternates, Shal
 use Rattle.nest.specs.Net.{Nets, told_sum}
 use Rattle.job.specs.declared.JobRefusal.{JobRefusal}
 use Rattle.job.specs.declared.JobRefusal.TheVariants.{SheetForm, JobCount, JobKind, JobName, JobAlternation, JobDepth, JobSum}
-use Rattle.job.specs.declared.JobVerdict.{JobVerdict}
-use Rattle.job.specs.declared.JobVerdict.TheVariants as verdict
-use Rattle.job.specs.declared.Job.{Job}
-use Rattle.job.specs.declared.Job.TheVariants.{Net, Refused}
 
 -- b is a job sheet whose entries are not good in one way
 pub record Fails (b : List ℕ) (Good : List Entry → Type 0) : Type 0 where
@@ -35,10 +31,10 @@ job_refusals b =
     ∷ []
 
 -- the first of them that holds, or that none does
-abbrev pub JobFirst : List ℕ → JobVerdict → Type 0
-JobFirst b = FirstOf verdict.Passes verdict.Refused (job_refusals b)
+abbrev pub JobFirst : List ℕ → Result Unit JobRefusal → Type 0
+JobFirst b = FirstOf (Ok tt) Err (job_refusals b)
 
 -- asking b for its job's net answers a
-pub data JobAnswered (b : List ℕ) (a : Job) : Type 0 where
-  refused : {r : JobRefusal} → JobFirst b (verdict.Refused r) → a ≡ Refused r → JobAnswered b a
-  answered : (es : List Entry) (net : ℕ → ℤ) → JobFirst b verdict.Passes → JobSheetOf b es → Nets es (told_sum es) net → a ≡ Net (figure (net 0)) → JobAnswered b a
+pub data JobAnswered (b : List ℕ) (a : Result ℤ JobRefusal) : Type 0 where
+  refused : {r : JobRefusal} → JobFirst b (Err r) → a ≡ Err r → JobAnswered b a
+  answered : (es : List Entry) (net : ℕ → ℤ) → JobFirst b (Ok tt) → JobSheetOf b es → Nets es (told_sum es) net → a ≡ Ok (figure (net 0)) → JobAnswered b a

@@ -3,7 +3,7 @@ use mathlib.Core.Path.{◌≡◌, refl, sym, ◌∙◌, ap, subst}
 use mathlib.Core.List.{List, [], ◌∷◌, ◌++◌, append-nil}
 use Prim.Native.Nat.{ℕ, ◌≤◌}
 use native.Mathlib.Omega.{arith}
-use lib.IntN.{ℤ, pos}
+use lib.IntN.{pos}
 use lib.ListN.{length, length-append, drop, get_or}
 use lib.Seq.{sets}
 use mir.Syntax.{w64}
@@ -75,13 +75,13 @@ module _ {b : List ℕ} (size : length b ≤ most_job_bytes) where
     pub no_entries : ((es : List Entry) → AllInForm es → ¬ (drop at b ≡ entry_lines es)) → BadJob b
     no_entries none = no_sheet size (λ es s. none es s.form (follows f s))
 
-    module _ {k : ℕ} {letters names : List ℕ} {sums : List ℤ} (r : EntriesRead k (drop at b) letters names sums) where
+    module _ {k : ℕ} {room : List Entry} (r : EntriesRead k (drop at b) room) where
       pub another_count : ¬ (k ≡ n) → BadJob b
       another_count other = no_sheet size (λ es s.
           let same = same_entries r.es es r.form s.form (sym r.lines ∙ follows f s) in
           other (sym r.many ∙ sym (ap length same) ∙ sym (told_count f s)))
 
-      pub job_read : k ≡ n → JobRead b k letters names sums
+      pub job_read : k ≡ n → JobRead b k room
       job_read e =
           let many : n ≡ length r.es = sym e ∙ sym r.many in
           record {

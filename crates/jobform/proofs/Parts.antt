@@ -4,6 +4,7 @@ use mathlib.Core.List.{List, [], ◌∷◌, ◌++◌, append_assoc}
 use Prim.Native.Nat.{ℕ}
 use native.Mathlib.Omega.{arith}
 use lib.IntN.{ℤ}
+use Rattle.std.specs.Prelude.{Option, Some, None}
 use Rattle.text.specs.Decimal.{minus, decimal, signed}
 use Rattle.text.specs.Inner.{Digit}
 use Rattle.text.specs.InnerReading.{NumberAt, SignedAt}
@@ -14,8 +15,6 @@ use Rattle.lines.specs.Lines.{tab, newline}
 use Rattle.lines.specs.Inner.{FieldAt}
 use Rattle.lines.proofs.Cut.{newline_no_digit}
 use Rattle.heading.specs.Heading.{most_digits}
-use Rattle.jobform.specs.declared.Name.{Name}
-use Rattle.jobform.specs.declared.Name.TheVariants.{Nothing, Number}
 use Rattle.jobform.specs.declared.Entry.{Entry}
 use Rattle.jobform.specs.Limits.{most_sum_digits}
 use Rattle.jobform.specs.JobSheet.{J, named, entry_line}
@@ -28,29 +27,29 @@ letter_unique {b = b} {b'} {r} {r'} a c = let f : tab ∷ b ∷ r ≡ tab ∷ b'
 
 -- a numbered name after its tab
 module _ {l x : List ℕ} (e : l ≡ tab ∷ x) where
-  pub name_number : {j : ℕ} {r : List ℕ} → NameAt l (Number j) r → NumberAt most_digits x j r
+  pub name_number : {j : ℕ} {r : List ℕ} → NameAt l (Some j) r → NumberAt most_digits x j r
   name_number {j} {r} a = record { bytes = (let f : tab ∷ x ≡ tab ∷ (decimal j ++ r) = sym e ∙ a.bytes in cc); short = a.short; ends = a.ends }
 
-  pub number_name : {j : ℕ} {r : List ℕ} → NumberAt most_digits x j r → NameAt l (Number j) r
+  pub number_name : {j : ℕ} {r : List ℕ} → NumberAt most_digits x j r → NameAt l (Some j) r
   number_name a = record { bytes = e ∙ ap (λ y. tab ∷ y) a.bytes; short = a.short; ends = a.ends }
 
-  pub name_none : {r : List ℕ} → NameAt l Nothing r → x ≡ minus ∷ r
+  pub name_none : {r : List ℕ} → NameAt l None r → x ≡ minus ∷ r
   name_none {r} a = let f : tab ∷ x ≡ tab ∷ (minus ∷ r) = sym e ∙ a.bytes in cc
 
 minus_no_digit : ¬ Digit minus
 minus_no_digit d = let h = d.least in omega arith
 
 -- `-` begins no number
-two_names : {l : List ℕ} {j : ℕ} {r r' : List ℕ} → NameAt l Nothing r → NameAt l (Number j) r' → ⊥
+two_names : {l : List ℕ} {j : ℕ} {r r' : List ℕ} → NameAt l None r → NameAt l (Some j) r' → ⊥
 two_names a c = none_there minus_no_digit (name_number a.bytes c)
 
-name_unique : {l : List ℕ} {r r' : List ℕ} (n n' : Name) → NameAt l n r → NameAt l n' r' → (n ≡ n') × (r ≡ r')
-name_unique {r = r} {r'} Nothing Nothing a c = let f : minus ∷ r ≡ minus ∷ r' = name_none a.bytes c in (refl, cc)
-name_unique Nothing (Number j) a c = absurd (two_names a c)
-name_unique (Number i) Nothing a c = absurd (two_names c a)
-name_unique (Number i) (Number j) a c =
+name_unique : {l : List ℕ} {r r' : List ℕ} (n n' : Option ℕ) → NameAt l n r → NameAt l n' r' → (n ≡ n') × (r ≡ r')
+name_unique {r = r} {r'} None None a c = let f : minus ∷ r ≡ minus ∷ r' = name_none a.bytes c in (refl, cc)
+name_unique None (Some j) a c = absurd (two_names a c)
+name_unique (Some i) None a c = absurd (two_names c a)
+name_unique (Some i) (Some j) a c =
     let u = number_unique (name_number a.bytes a) (name_number a.bytes c) in
-    (ap Number (decimal_injective i j u.0), u.1)
+    (ap Some (decimal_injective i j u.0), u.1)
 
 sum_unique : {most : ℕ} {l : List ℕ} {z w : ℤ} {r r' : List ℕ} → FieldAt most l z r → FieldAt most l w r' → (z ≡ w) × (r ≡ r')
 sum_unique {most} {z = z} {w} {r} {r'} a c =
@@ -77,9 +76,9 @@ entry_after e r =
 tab_no_digit : ¬ Digit tab
 tab_no_digit d = let h = d.least in omega arith
 
-name_ends : (n : Name) (x : List ℕ) → Ends n (tab ∷ x)
-name_ends Nothing x = tt
-name_ends (Number j) x = tab_no_digit
+name_ends : (n : Option ℕ) (x : List ℕ) → Ends n (tab ∷ x)
+name_ends None x = tt
+name_ends (Some j) x = tab_no_digit
 
 pub entry_parts : {l : List ℕ} {e : Entry} {r : List ℕ} → EntryAt l e r → Parts l e r
 entry_parts {l} {e} {r} a =
@@ -116,10 +115,10 @@ module _ {l x : List ℕ} (word : l ≡ J ++ x) where
     at_letter : {e : Entry} {r : List ℕ} (p : Parts l e r) → (e.letter ≡ b) × (p.after_letter ≡ y)
     at_letter {e} p = letter_unique (subst (λ k. LetterAt k e.letter p.after_letter) (at_word p) p.letter) letter
 
-    pub no_name : ((n : Name) (r : List ℕ) → ¬ NameAt y n r) → (e : Entry) (r : List ℕ) → ¬ EntryAt l e r
+    pub no_name : ((n : Option ℕ) (r : List ℕ) → ¬ NameAt y n r) → (e : Entry) (r : List ℕ) → ¬ EntryAt l e r
     no_name none e r a = let p = entry_parts a in none e.name p.after_name (subst (λ k. NameAt k e.name p.after_name) (at_letter p).1 p.name)
 
-    module _ {n : Name} {w : List ℕ} (name : NameAt y n w) where
+    module _ {n : Option ℕ} {w : List ℕ} (name : NameAt y n w) where
       at_name : {e : Entry} {r : List ℕ} (p : Parts l e r) → (e.name ≡ n) × (p.after_name ≡ w)
       at_name {e} p = name_unique e.name n (subst (λ k. NameAt k e.name p.after_name) (at_letter p).1 p.name) name
 

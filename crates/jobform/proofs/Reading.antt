@@ -1,24 +1,17 @@
 -- A letter and a name at a place: why each way out of their readers is right.
 use mathlib.Core.Path.{◌≡◌, sym, ◌∙◌, ap}
 use mathlib.Core.List.{List, ◌∷◌}
-use Prim.Native.Nat.{ℕ, suc, ◌+◌, ◌^◌, ◌≤◌, ◌<◌}
+use Prim.Native.Nat.{ℕ, suc, ◌+◌, ◌≤◌, ◌<◌}
 use native.Mathlib.Omega.{arith}
-use lib.IntN.{nat_abs}
 use lib.ListN.{length, drop, get_or, drop_of_length-le}
 use lib.Seq.{drop-cons}
-use mir.Syntax.{w32}
-use mir.Val.{Fits}
+use Rattle.std.specs.Prelude.{Option, Some, None}
 use Rattle.text.specs.Decimal.{minus}
 use Rattle.text.specs.InnerReading.{NumberAt}
-use Rattle.text.proofs.Digits.{digits_below}
 use Rattle.lines.specs.Lines.{tab}
 use Rattle.heading.specs.Heading.{most_digits}
-use Rattle.jobform.specs.declared.Name.{Name}
-use Rattle.jobform.specs.declared.Name.TheVariants.{Nothing, Number}
-use Rattle.jobform.specs.declared.Entry.{Entry}
-use Rattle.jobform.specs.Limits.{most_sum_digits}
-use Rattle.jobform.specs.JobSheet.{Capital, ShortName}
-use Rattle.jobform.specs.Inner.{LetterAt, NameAt, EntryAt, kept_name_lem, Keepable}
+use Rattle.jobform.specs.JobSheet.{Capital}
+use Rattle.jobform.specs.Inner.{LetterAt, NameAt}
 use Rattle.jobform.proofs.Parts.{name_number, name_none}
 
 -- ---- a letter
@@ -46,24 +39,13 @@ module _ {l : List ℕ} (s : List ℕ) (c : ℕ) (e : l ≡ tab ∷ drop c s) wh
 
 -- ---- a name
 
-pub untabbed_name : {l : List ℕ} → ((r : List ℕ) → ¬ (l ≡ tab ∷ r)) → (n : Name) (r : List ℕ) → ¬ NameAt l n r
+pub untabbed_name : {l : List ℕ} → ((r : List ℕ) → ¬ (l ≡ tab ∷ r)) → (n : Option ℕ) (r : List ℕ) → ¬ NameAt l n r
 untabbed_name none n r a = none _ a.bytes
 
 module _ {l x : List ℕ} (e : l ≡ tab ∷ x) where
-  pub none_named : {r : List ℕ} → x ≡ minus ∷ r → NameAt l Nothing r
+  pub none_named : {r : List ℕ} → x ≡ minus ∷ r → NameAt l None r
   none_named p = record { bytes = e ∙ ap (λ y. tab ∷ y) p; short = tt; ends = tt }
 
-  pub no_name_there : ((r : List ℕ) → ¬ (x ≡ minus ∷ r)) → ((j : ℕ) (r : List ℕ) → ¬ NumberAt most_digits x j r) → (n : Name) (r : List ℕ) → ¬ NameAt l n r
-  no_name_there dash none Nothing r a = dash r (name_none e a)
-  no_name_there dash none (Number j) r a = none j r (name_number e a)
-
-pub name_fits : {l : List ℕ} {j : ℕ} {r : List ℕ} → NumberAt most_digits l j r → Fits w32 j
-name_fits {j = j} a = record { fits = omega (arith, digits_below j most_digits a.short) }
-
--- a name of six digits has room for one more, and a sum of 18 fits
-name_small : (n : Name) → ShortName n → kept_name_lem n < 2 ^ 32
-name_small Nothing h = omega arith
-name_small (Number j) h = omega (arith, digits_below j most_digits h)
-
-pub keepable : {l : List ℕ} {e : Entry} {r : List ℕ} → EntryAt l e r → Keepable e
-keepable {e = e} a = let f = a.form in record { name = name_small e.name f.short_name; sum = omega (arith, digits_below (nat_abs e.sum) most_sum_digits f.short_sum) }
+  pub no_name_there : ((r : List ℕ) → ¬ (x ≡ minus ∷ r)) → ((j : ℕ) (r : List ℕ) → ¬ NumberAt most_digits x j r) → (n : Option ℕ) (r : List ℕ) → ¬ NameAt l n r
+  no_name_there dash none None r a = dash r (name_none e a)
+  no_name_there dash none (Some j) r a = none j r (name_number e a)

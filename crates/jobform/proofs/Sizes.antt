@@ -5,19 +5,18 @@ use Prim.Native.Nat.{ℕ, ◌*◌, ◌≤◌}
 use native.Mathlib.Omega.{arith}
 use lib.IntN.{pos}
 use lib.ListN.{length, length-append}
+use Rattle.std.specs.Prelude.{Option, Some, None}
 use Rattle.text.specs.Decimal.{signed}
 use Rattle.lines.specs.Lines.{tab, newline, line}
 use Rattle.lines.proofs.Lengths.{line_length}
 use Rattle.heading.proofs.Sizes.{signed_size, fields_size}
-use Rattle.jobform.specs.declared.Name.{Name}
-use Rattle.jobform.specs.declared.Name.TheVariants.{Nothing, Number}
 use Rattle.jobform.specs.declared.Entry.{Entry}
 use Rattle.jobform.specs.Limits.{most_job_bytes, most_entries}
 use Rattle.jobform.specs.JobSheet.{JOB, named, entry_line, entry_lines, ShortName, InForm, AllInForm, JobSheetOf}
 
-named_size : (n : Name) → ShortName n → length (named n) ≤ 6
-named_size Nothing h = omega arith
-named_size (Number j) h = h
+named_size : (n : Option ℕ) → ShortName n → length (named n) ≤ 6
+named_size None h = omega arith
+named_size (Some j) h = h
 
 entry_size : (e : Entry) → InForm e → length (entry_line e) ≤ 31
 entry_size e f = omega (

@@ -1,11 +1,9 @@
 -- A job sheet: "First line `JOB` and the count; then per entry `J`, one capital letter (21 unless `V` or `S`), the entry's number from 0 or `-` for
 -- none, and the sum, up to 18 digits; otherwise number and line rules as in 01".
-use Rattle.std.specs.Prelude.{◌≡◌, List, [], ◌∷◌, ◌++◌, ℕ, ◌≤◌, pos, nat_abs, length}
+use Rattle.std.specs.Prelude.{◌≡◌, List, [], ◌∷◌, ◌++◌, ℕ, ◌≤◌, pos, nat_abs, length, Option, Some, None}
 use Rattle.text.specs.Decimal.{minus, decimal, signed}
 use Rattle.lines.specs.Lines.{tab, newline, line, FewDigits}
 use Rattle.heading.specs.Heading.{most_digits}
-use Rattle.jobform.specs.declared.Name.{Name}
-use Rattle.jobform.specs.declared.Name.TheVariants.{Nothing, Number}
 use Rattle.jobform.specs.declared.Entry.{Entry}
 use Rattle.jobform.specs.Limits.{most_sum_digits}
 
@@ -22,9 +20,9 @@ pub record Capital (b : ℕ) : Type 0 where
   pub most : b ≤ 90
 
 -- the number of the entry that it stands in, or `-` for none
-abbrev pub named : Name → List ℕ
-named Nothing = minus ∷ []
-named (Number j) = decimal j
+abbrev pub named : Option ℕ → List ℕ
+named None = minus ∷ []
+named (Some j) = decimal j
 
 -- an entry's line: its word, then letter, name and sum, each after one tab, and one newline
 abbrev pub entry_line : Entry → List ℕ
@@ -35,9 +33,9 @@ entry_lines [] = []
 entry_lines (e ∷ es) = entry_line e ++ entry_lines es
 
 -- a name has one to six digits, as every number of a sheet
-abbrev pub ShortName : Name → Type 0
-ShortName Nothing = Unit
-ShortName (Number j) = length (decimal j) ≤ most_digits
+abbrev pub ShortName : Option ℕ → Type 0
+ShortName None = Unit
+ShortName (Some j) = length (decimal j) ≤ most_digits
 
 -- an entry as a line may tell it
 pub record InForm (e : Entry) : Type 0 where

@@ -1,10 +1,8 @@
 -- The limit of a thinning order: when an edge is short enough.
-use Rattle.std.specs.Prelude.{List, ℕ, ℤ}
+use Rattle.std.specs.Prelude.{List, ℕ, ℤ, Some, None, Option}
 use Rattle.distance.specs.Corners.{Short}
-use Rattle.least.specs.declared.Bound.{Bound}
-use Rattle.least.specs.declared.Bound.TheVariants.{Free, Within}
 
 -- its squared length is at most the squared limit; without a limit any edge will do, and no coordinate is named
-abbrev pub Allowed : Bound → List ℤ → ℕ → ℕ → Type 0
-Allowed Free xs a b = Unit
-Allowed (Within l) xs a b = Short xs l a b
+abbrev pub Allowed : Option ℕ → List ℤ → ℕ → ℕ → Type 0
+Allowed None xs a b = Unit
+Allowed (Some l) xs a b = Short xs l a b

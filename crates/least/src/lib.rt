@@ -10,30 +10,17 @@ ghost use Rattle.least.specs.Limited.{Allowed};
 ghost use Rattle.least.specs.Inner.{MeasurableAt};
 ghost use Rattle.least.specs.InnerSearch.{Searchable, SearchableAt, FoundAt, FoundLeast};
 
+use neighbours::Scratch;
 use record::Corner;
 
-// The limit of an order, as steps use it: none, or whole centimetres.
-#[derive(Clone, Copy)]
-pub enum Bound {
-    Free,
-    Within(u64),
-}
-
-// What a search finds: nothing, or an edge, its lower number first.
-#[derive(Clone, Copy)]
-pub enum Found {
-    Nothing,
-    Between(Corner, Corner),
-}
-
-// Whether the edge ab is short enough: its squared length is at most the squared limit.
-fn allowed(xs: &[i32], bound: Bound, a: Corner, b: Corner) -> bool
+// Whether the edge ab is short enough. The bound is an order's limit in whole centimetres, where it has one: its squared length is at most the squared limit.
+fn allowed(xs: &[i32], bound: Option<u64>, a: Corner, b: Corner) -> bool
     requires { MeasurableAt bound xs.now a.0 × MeasurableAt bound xs.now b.0 }
     ensures { Tells result (Allowed bound xs.now a.0 b.0) (¬ Allowed bound xs.now a.0 b.0) }
 {
     match bound {
-        Bound::Free => true,
-        Bound::Within(l) => distance::within(xs, a.0, b.0, l),
+        None => true,
+        Some(l) => distance::within(xs, a.0, b.0, l),
     }
 }
 
@@ -44,13 +31,13 @@ fn least_marked(
     last: &[usize],
     prev: &[usize],
     xs: &[i32],
-    bound: Bound,
+    bound: Option<u64>,
     a: Corner,
     ring: &[u32],
     near: &[u8],
     second: &mut [u32],
     far: &mut [u8],
-) -> Found
+) -> Option<(Corner, Corner)>
     requires searchable_at { SearchableAt t.now last.now prev.now bound xs.now a.0 }
     requires neighbours { Neighbours (rows t.now) a.0 ring.now × Marked ring.now near.now }
     requires most_corners_in_bounds { most_corners ≤ length second.old }
@@ -59,17 +46,15 @@ fn least_marked(
     ensures unmarked_2 { Unmarked far.new }
 {
     let mut past = a.0;
-    let mut b = rising::next_above(ring, near, past);
-    while b < rising::NONE {
+    while let Some(b) = rising::next_above(ring, near, past) {
         if allowed(xs, bound, a, Corner(b)) {
             if link::meets_round(t, last, prev, ring, near, Corner(b), second, far) {
-                return Found::Between(a, Corner(b));
+                return Some((a, Corner(b)));
             }
         }
         past = b;
-        b = rising::next_above(ring, near, past);
     }
-    Found::Nothing
+    None
 }
 
 // The same of a corner whose neighbours ring lists: near marks them for the search, and is blank again after it.
@@ -78,13 +63,13 @@ fn least_at(
     last: &[usize],
     prev: &[usize],
     xs: &[i32],
-    bound: Bound,
+    bound: Option<u64>,
     a: Corner,
     ring: &[u32],
     near: &mut [u8],
     second: &mut [u32],
     far: &mut [u8],
-) -> Found
+) -> Option<(Corner, Corner)>
     requires searchable_at { SearchableAt t.now last.now prev.now bound xs.now a.0 }
     requires neighbours { Neighbours (rows t.now) a.0 ring.now }
     requires most_corners_in_bounds { most_corners ≤ length second.old }
@@ -98,30 +83,22 @@ fn least_at(
     found
 }
 
-// Inner: the least edge that qualifies, if any does. Corners are tried in rising order. The rest is scratch: room for the ring of a corner
-// and marks for it, and the same for the link test; the marks are blank again when the search ends.
+// Inner: the least edge that qualifies, its lower number first, if any does. Corners are tried in rising order.
 pub fn least_edge(
     t: &[u32],
     n: usize,
     last: &[usize],
     prev: &[usize],
     xs: &[i32],
-    bound: Bound,
-    ring: &mut [u32],
-    near: &mut [u8],
-    second: &mut [u32],
-    far: &mut [u8],
-) -> Found
+    bound: Option<u64>,
+    scratch: &mut Scratch,
+) -> Option<(Corner, Corner)>
     requires searchable { Searchable n t.now last.now prev.now bound xs.now }
-    requires most_corners_in_bounds { (most_corners ≤ length ring.old) × (most_corners ≤ length second.old) }
-    requires unmarked { Unmarked near.old × Unmarked far.old }
-    ensures found_least { FoundLeast (Allowed bound xs.now) (rows t.now) result }
-    ensures unmarked_2 { Unmarked near.new × Unmarked far.new }
+    ensures { FoundLeast (Allowed bound xs.now) (rows t.now) result }
 {
-    let mut a: usize = 0;
-    while a < n {
+    for a in 0..n {
         let corner = Corner(a as u32);
-        let k = neighbours::gather(t, last, prev, corner, ring);
+        let k = neighbours::gather(t, last, prev, corner, &mut scratch.first);
         let found = least_at(
             t,
             last,
@@ -129,16 +106,14 @@ pub fn least_edge(
             xs,
             bound,
             corner,
-            &ring[..k],
-            near,
-            second,
-            far,
+            &scratch.first[..k],
+            &mut scratch.near,
+            &mut scratch.second,
+            &mut scratch.far,
         );
-        match found {
-            Found::Between(_, _) => return found,
-            Found::Nothing => {}
+        if found.is_some() {
+            return found;
         }
-        a += 1;
     }
-    Found::Nothing
+    None
 }

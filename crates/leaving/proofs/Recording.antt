@@ -6,8 +6,6 @@ use Prim.Native.Nat.{ℕ, ◌+◌, ◌*◌, ◌≤◌, ◌<◌}
 use native.Mathlib.Decide.{dec_le}
 use native.Mathlib.Omega.{arith}
 use lib.ListN.{length, get_or}
-use Rattle.surface.specs.Limits.{most_rows}
-use Rattle.surface.specs.InnerStageTable.{StageTable}
 use Rattle.surface.specs.Rows.{Row, row, rows}
 use Rattle.surface.specs.Contract.{Stays}
 use Rattle.surface.specs.Record.{at, leaving}
@@ -18,9 +16,6 @@ use Rattle.record.specs.declared.Corner.{Corner}
 use Rattle.record.specs.declared.Leaving.{Leaving}
 use Rattle.leaving.specs.Leaving.{MayStep, row_at, SomeLeaves, NextLeaving, Recorded}
 use Rattle.leaving.proofs.Leave.{leaving_two}
-
-pub table_most : {n : ℕ} {t : List ℕ} → StageTable n t → length t ≤ 3 * most_rows
-table_most w = let e = w.count in let h = w.stage.most in omega arith
 
 module _ (t : List ℕ) (a b : ℕ) (g : MayStep t a b) where
   abbrev T : List Row

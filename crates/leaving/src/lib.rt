@@ -14,15 +14,15 @@ fn next_leaving(t: &[u32], from: Place, a: u32, b: u32) -> Leaving
     ensures { NextLeaving a b t.now from.0 result }
 {
     let mut p = from.0 as usize;
+    // Not a `for`, whose end would need an answer though it is never reached: some row leaves.
     while !shrink::row_leaves(a, b, t[3 * p], t[3 * p + 1], t[3 * p + 2]) {
         p += 1;
     }
-    let k = 3 * p;
     Leaving {
         place: Place(p as u32),
-        a: Corner(t[k]),
-        b: Corner(t[k + 1]),
-        c: Corner(t[k + 2]),
+        a: Corner(t[3 * p]),
+        b: Corner(t[3 * p + 1]),
+        c: Corner(t[3 * p + 2]),
     }
 }
 
@@ -34,9 +34,9 @@ pub fn record_of(t: &[u32], kept: Corner, removed: Corner) -> Record
     let earlier = next_leaving(t, Place(0), kept.0, removed.0);
     let later = next_leaving(t, Place(earlier.place.0 + 1), kept.0, removed.0);
     Record {
-        kept: kept,
-        removed: removed,
-        earlier: earlier,
-        later: later,
+        kept,
+        removed,
+        earlier,
+        later,
     }
 }

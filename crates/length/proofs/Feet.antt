@@ -8,8 +8,8 @@ use native.Mathlib.Omega.{arith}
 use lib.IntN.{ℤ, negsuc}
 use lib.Ieee.{Float, nan, inf, fin, up, down, round, mul, div}
 use lib.Ieee.Fits.{down_pos}
+use Rattle.std.specs.Prelude.{Some, None}
 use Rattle.length.specs.declared.Length.TheVariants.{Feet, Centimetres, InternationalFeet}
-use Rattle.length.specs.declared.Reading.TheVariants.{Whole, Unusable}
 use Rattle.length.specs.Limit.{rounded_down, most_limit, capped, reading, limit_of}
 use Rattle.length.proofs.Quotient.{capped_usable, capped_above}
 use Rattle.length.proofs.Laws.{usable, Cap, within, beyond, cap}
@@ -50,7 +50,7 @@ module _ (m : ℕ) (e : ℤ) where
           omega arith
 
 -- whatever survey feet take, international feet take, as the same or as one centimetre less: nothing is usable in survey feet alone
-pub international_takes : (v : Float) {c : ℕ} → limit_of (Feet v) ≡ Whole c → (d : ℕ) × (limit_of (InternationalFeet v) ≡ Whole d) × (d ≤ c) × (c ≤ d + 1)
+pub international_takes : (v : Float) {c : ℕ} → limit_of (Feet v) ≡ Some c → (d : ℕ) × (limit_of (InternationalFeet v) ≡ Some d) × (d ≤ c) × (c ≤ d + 1)
 unfolding limit_of reading
 international_takes nan p = absurd (usable p)
 international_takes (inf s) p = absurd (usable p)
@@ -58,14 +58,14 @@ international_takes (fin true zero e) {c} p = let z : 0 ≡ c = cc in (0, refl, 
 international_takes (fin true (suc m) e) p = absurd (usable p)
 international_takes (fin false m e) {c} p = go (cap (survey m e))
   where
-    go : Cap (survey m e) → (d : ℕ) × (capped (international m e) ≡ Whole d) × (d ≤ c) × (c ≤ d + 1)
+    go : Cap (survey m e) → (d : ℕ) × (capped (international m e) ≡ Some d) × (d ≤ c) × (c ≤ d + 1)
     go (within h q) =
         let z : survey m e ≡ c = cc in
         (international m e, capped_usable (omega (arith, no_less m e)), omega (arith, no_less m e), omega (arith, one_more m e h))
     go (beyond h q) = absurd (usable (sym q ∙ p))
 
 -- a finite figure with the sign clear is unusable in survey feet exactly from 6,561.699475 on, where 200,001 cm begin
-pub survey_end : (m : ℕ) (e : ℤ) → (limit_of (Feet (fin false m e)) ≡ Unusable → 6561699475 * down e ≤ m * up e * 1000000) × (6561699475 * down e ≤ m * up e * 1000000 → limit_of (Feet (fin false m e)) ≡ Unusable)
+pub survey_end : (m : ℕ) (e : ℤ) → (limit_of (Feet (fin false m e)) ≡ None → 6561699475 * down e ≤ m * up e * 1000000) × (6561699475 * down e ≤ m * up e * 1000000 → limit_of (Feet (fin false m e)) ≡ None)
 unfolding limit_of reading
 survey_end m e = (λ p. told (cap (survey m e)) p, λ h. capped_above (survey_from m e (most_limit + 1) (scaled (down e) (m * up e) h)))
   where
@@ -75,13 +75,13 @@ survey_end m e = (λ p. told (cap (survey m e)) p, λ h. capped_above (survey_fr
     back : (q p : ℕ) → (most_limit + 1) * (q * 3937) ≤ p * 120000 → 6561699475 * q ≤ p * 1000000
     back q p h = omega (arith, h)
 
-    told : Cap (survey m e) → capped (survey m e) ≡ Unusable → 6561699475 * down e ≤ m * up e * 1000000
+    told : Cap (survey m e) → capped (survey m e) ≡ None → 6561699475 * down e ≤ m * up e * 1000000
     told (within h q) p = absurd (usable (sym p ∙ q))
     told (beyond h q) p = back (down e) (m * up e) ((reaches (most_limit + 1) m e 120000 3937 (omega arith)).0 (omega (arith, h)))
 
 -- ---- wrong readers, each by a figure on which it does not answer what `read_limit` ensures
 
-other : (a b : ℕ) → a ≢ b → Whole a ≢ Whole b
+other : (a b : ℕ) → a ≢ b → Some a ≢ Some b
 other a b h p = let z : a ≡ b = cc in h z
 
 -- goes on taking a foot for 30.48 cm
@@ -95,7 +95,7 @@ unfolding limit_of reading capped round
 one_foot_for_both = other 199986 199987 (omega arith)
 
 -- asks 1 of the old foot, by which 6,561.7 is usable, and answers by the new one
-pub asks_of_old_foot : (reading (nearest 65617 10) 3048 100 ≡ Whole 200000) × (limit_of (Feet (nearest 65617 10)) ≢ Whole (rounded_down 7214665447977779 (negsuc 39) (1200 * 100) 3937))
+pub asks_of_old_foot : (reading (nearest 65617 10) 3048 100 ≡ Some 200000) × (limit_of (Feet (nearest 65617 10)) ≢ Some (rounded_down 7214665447977779 (negsuc 39) (1200 * 100) 3937))
 unfolding limit_of reading capped round
 asks_of_old_foot = (refl, usable)
 

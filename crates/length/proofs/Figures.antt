@@ -5,8 +5,8 @@ use Prim.Native.Nat.{ℕ, ◌+◌, ◌-◌, ◌*◌, ◌^◌, ◌<◌}
 use native.Mathlib.Omega.{arith}
 use lib.IntN.{pos, negsuc}
 use lib.Ieee.{Float, nan, inf, fin, binary64, of_bits, round, mul, div}
+use Rattle.std.specs.Prelude.{Some, None}
 use Rattle.length.specs.declared.Length.TheVariants.{Metres, Feet, Centimetres, InternationalFeet}
-use Rattle.length.specs.declared.Reading.TheVariants.{Whole, Unusable}
 use Rattle.length.specs.Limit.{rounded_down, capped, reading, limit_of}
 
 -- the binary64 nearest to a / b
@@ -15,19 +15,19 @@ nearest a b = round binary64 false a b
 
 -- ---- 01's five: 1.5 m, 1.375 m, 4.75 ft, in survey feet now, and the figures nearest to 0.29 m and 0.3 m, which lie below them
 
-pub metres_150 : limit_of (Metres (nearest 15 10)) ≡ Whole 150
+pub metres_150 : limit_of (Metres (nearest 15 10)) ≡ Some 150
 unfolding limit_of reading capped round
 metres_150 = refl
 
-pub metres_137 : limit_of (Metres (nearest 1375 1000)) ≡ Whole 137
+pub metres_137 : limit_of (Metres (nearest 1375 1000)) ≡ Some 137
 unfolding limit_of reading capped round
 metres_137 = refl
 
-pub feet_144 : limit_of (Feet (nearest 475 100)) ≡ Whole 144
+pub feet_144 : limit_of (Feet (nearest 475 100)) ≡ Some 144
 unfolding limit_of reading capped round
 feet_144 = refl
 
-pub metres_28 : limit_of (Metres (nearest 29 100)) ≡ Whole 28
+pub metres_28 : limit_of (Metres (nearest 29 100)) ≡ Some 28
 unfolding limit_of reading capped round
 metres_28 = refl
 
@@ -35,7 +35,7 @@ pub below_29 : (nearest 29 100 ≡ fin false 5224175567749775 (negsuc 53)) × (5
 unfolding round
 below_29 = (refl, omega arith)
 
-pub metres_29 : limit_of (Metres (nearest 3 10)) ≡ Whole 29
+pub metres_29 : limit_of (Metres (nearest 3 10)) ≡ Some 29
 unfolding limit_of reading capped round
 metres_29 = refl
 
@@ -50,15 +50,15 @@ slip_30 = refl
 
 -- ---- 02's feet: 4.75 ft is 144 in both, and 6,561.25 ft parts them
 
-pub international_144 : limit_of (InternationalFeet (nearest 475 100)) ≡ Whole 144
+pub international_144 : limit_of (InternationalFeet (nearest 475 100)) ≡ Some 144
 unfolding limit_of reading capped round
 international_144 = refl
 
-pub feet_199987 : limit_of (Feet (nearest 656125 100)) ≡ Whole 199987
+pub feet_199987 : limit_of (Feet (nearest 656125 100)) ≡ Some 199987
 unfolding limit_of reading capped round
 feet_199987 = refl
 
-pub international_199986 : limit_of (InternationalFeet (nearest 656125 100)) ≡ Whole 199986
+pub international_199986 : limit_of (InternationalFeet (nearest 656125 100)) ≡ Some 199986
 unfolding limit_of reading capped round
 international_199986 = refl
 
@@ -67,11 +67,11 @@ pub feet_200001 : (nearest 65617 10 ≡ fin false 7214665447977779 (negsuc 39)) 
 unfolding round
 feet_200001 = (refl, refl)
 
-pub feet_unusable : limit_of (Feet (nearest 65617 10)) ≡ Unusable
+pub feet_unusable : limit_of (Feet (nearest 65617 10)) ≡ None
 unfolding limit_of reading capped round
 feet_unusable = refl
 
-pub international_200000 : limit_of (InternationalFeet (nearest 65617 10)) ≡ Whole 200000
+pub international_200000 : limit_of (InternationalFeet (nearest 65617 10)) ≡ Some 200000
 unfolding limit_of reading capped round
 international_200000 = refl
 
@@ -79,20 +79,20 @@ international_200000 = refl
 abbrev pub feet_last : ℕ
 feet_last = 4663936679571827038
 
-pub last_usable : limit_of (Feet (of_bits binary64 feet_last)) ≡ Whole 200000
+pub last_usable : limit_of (Feet (of_bits binary64 feet_last)) ≡ Some 200000
 unfolding limit_of reading capped of_bits
 last_usable = refl
 
-pub next_unusable : limit_of (Feet (of_bits binary64 (feet_last + 1))) ≡ Unusable
+pub next_unusable : limit_of (Feet (of_bits binary64 (feet_last + 1))) ≡ None
 unfolding limit_of reading capped of_bits
 next_unusable = refl
 
 -- 3,937 ft are 1,200 m, and the figure nearest to 3.937 ft lies below it
-pub feet_120000 : limit_of (Feet (nearest 3937 1)) ≡ Whole 120000
+pub feet_120000 : limit_of (Feet (nearest 3937 1)) ≡ Some 120000
 unfolding limit_of reading capped round
 feet_120000 = refl
 
-pub feet_119 : limit_of (Feet (nearest 3937 1000)) ≡ Whole 119
+pub feet_119 : limit_of (Feet (nearest 3937 1000)) ≡ Some 119
 unfolding limit_of reading capped round
 feet_119 = refl
 
@@ -110,39 +110,39 @@ slip_120 = refl
 
 -- ---- the edges
 
-pub minus_zero : limit_of (Metres (of_bits binary64 (2 ^ 63))) ≡ Whole 0
+pub minus_zero : limit_of (Metres (of_bits binary64 (2 ^ 63))) ≡ Some 0
 unfolding limit_of reading of_bits
 minus_zero = refl
 
-pub least_below_zero : limit_of (Centimetres (of_bits binary64 (2 ^ 63 + 1))) ≡ Unusable
+pub least_below_zero : limit_of (Centimetres (of_bits binary64 (2 ^ 63 + 1))) ≡ None
 unfolding limit_of reading of_bits
 least_below_zero = refl
 
-pub most_subnormal : limit_of (Metres (of_bits binary64 (2 ^ 52 - 1))) ≡ Whole 0
+pub most_subnormal : limit_of (Metres (of_bits binary64 (2 ^ 52 - 1))) ≡ Some 0
 unfolding limit_of reading capped of_bits
 most_subnormal = refl
 
-pub metres_2000 : limit_of (Metres (nearest 2000 1)) ≡ Whole 200000
+pub metres_2000 : limit_of (Metres (nearest 2000 1)) ≡ Some 200000
 unfolding limit_of reading capped round
 metres_2000 = refl
 
 -- 200,000.999 cm and 200,001 cm
-pub rounded_first : limit_of (Centimetres (nearest 200000999 1000)) ≡ Whole 200000
+pub rounded_first : limit_of (Centimetres (nearest 200000999 1000)) ≡ Some 200000
 unfolding limit_of reading capped round
 rounded_first = refl
 
-pub one_above : limit_of (Centimetres (nearest 200001 1)) ≡ Unusable
+pub one_above : limit_of (Centimetres (nearest 200001 1)) ≡ None
 unfolding limit_of reading capped round
 one_above = refl
 
-pub infinity : limit_of (Feet (inf false)) ≡ Unusable
+pub infinity : limit_of (Feet (inf false)) ≡ None
 unfolding limit_of reading
 infinity = refl
 
-pub minus_infinity : limit_of (Feet (inf true)) ≡ Unusable
+pub minus_infinity : limit_of (Feet (inf true)) ≡ None
 unfolding limit_of reading
 minus_infinity = refl
 
-pub not_a_number : limit_of (Metres nan) ≡ Unusable
+pub not_a_number : limit_of (Metres nan) ≡ None
 unfolding limit_of reading
 not_a_number = refl

@@ -15,7 +15,7 @@ use lib.Ieee.Fits.{down_pos}
 use lib.Ieee.Nearest.{div_same}
 use lib.Ieee.Compare.{differs_from_itself, nan_differs}
 use borrow.Author.Tests.{eq-eqb, ne_eqb, le-leb, lt-leb}
-use Rattle.length.specs.declared.Reading.TheVariants.{Whole, Unusable}
+use Rattle.std.specs.Prelude.{Some, None}
 use Rattle.length.specs.Limit.{capped, reading}
 use Rattle.length.specs.InnerSmall.{Small}
 use Rattle.length.proofs.Quotient.{cut_once, gone, too_large, product, capped_usable, capped_above}
@@ -35,7 +35,7 @@ by_value (fin false m e) a c n d hc hd h =
     spread : (p q : ℕ) → p * c ≡ a * q → p * n * (c * d) ≡ a * n * (q * d)
     spread p q e = omega (arith, ap (λ (z : ℕ). z * (n * d)) e)
 
-pub by_negative : (v : Float) (a c n d : ℕ) → 0 < a → HasValue v true a c → reading v n d ≡ Unusable
+pub by_negative : (v : Float) (a c n d : ℕ) → 0 < a → HasValue v true a c → reading v n d ≡ None
 unfolding reading
 by_negative nan a c n d ha h = absurd h
 by_negative (inf s) a c n d ha h = absurd h
@@ -58,21 +58,21 @@ exact s (suc x) t h =
     rw (ne_eqb (suc x) 2047 h, ne_eqb (suc x) 0 z, e) (odd_sign 53 s (2 ^ 52 + t) x 1074)
 
 -- a field of all ones is an infinity or a NaN
-not_finite : (s : Bool) (t n d : ℕ) → reading (of_fields binary64 s 2047 t) n d ≡ Unusable
+not_finite : (s : Bool) (t n d : ℕ) → reading (of_fields binary64 s 2047 t) n d ≡ None
 unfolding of_fields reading
 not_finite s t n d = go (eqb t 0)
   where
-    go : (b : Bool) → reading (cond b (inf s) nan) n d ≡ Unusable
+    go : (b : Bool) → reading (cond b (inf s) nan) n d ≡ None
     go true = refl
     go false = refl
 
 -- ---- a pattern with the sign set: minus zero, and below zero
 
-pub minus_zero : (b n d : ℕ) → b ≡ 2 ^ 63 → reading (of_bits binary64 b) n d ≡ Whole 0
+pub minus_zero : (b n d : ℕ) → b ≡ 2 ^ 63 → reading (of_bits binary64 b) n d ≡ Some 0
 unfolding reading of_bits of_fields odd
 minus_zero b n d e = rw e
 
-pub negative : (b n d : ℕ) → 2 ^ 63 < b → b < 2 ^ 64 → reading (of_bits binary64 b) n d ≡ Unusable
+pub negative : (b n d : ℕ) → 2 ^ 63 < b → b < 2 ^ 64 → reading (of_bits binary64 b) n d ≡ None
 unfolding of_bits
 negative b n d h h' = rw (le-leb (2 ^ 63) b (omega arith)) (go (b % 2 ^ 63 / 2 ^ 52) (b % 2 ^ 52) (omega arith) (ℕ_discrete (b % 2 ^ 63 / 2 ^ 52) 2047))
   where
@@ -80,7 +80,7 @@ negative b n d h h' = rw (le-leb (2 ^ 63) b (omega arith)) (go (b % 2 ^ 63 / 2 ^
     some zero t g = omega arith
     some (suc x) t g = let z : suc x ≢ 0 = omega arith in rw (ne_eqb (suc x) 0 z) (omega arith)
 
-    go : (x t : ℕ) → 0 < x * 2 ^ 52 + t → Dec (x ≡ 2047) → reading (of_fields binary64 true x t) n d ≡ Unusable
+    go : (x t : ℕ) → 0 < x * 2 ^ 52 + t → Dec (x ≡ 2047) → reading (of_fields binary64 true x t) n d ≡ None
     go x t g (yes e) = rw e (not_finite true t n d)
     go x t g (no ne) = by_negative _ _ (2 ^ 1074) n d (mul-pos (some x t g) (pow_pos (x - 1))) (exact true x t ne)
 
@@ -99,7 +99,7 @@ module _ (x t : ℕ) {num up den : ℕ} (ht : t < 2 ^ 52) (u : Small num up den)
   fits = product (2 ^ 52 + t) num (omega arith) u.num_below
 
   -- no leading digit: 64 bits and more are cut
-  pub at_zero : x ≡ 0 → reading (of_fields binary64 false x t) (num * 2 ^ up) den ≡ Whole 0
+  pub at_zero : x ≡ 0 → reading (of_fields binary64 false x t) (num * 2 ^ up) den ≡ Some 0
   at_zero e =
       finite (omega arith)
       ∙ rw (eq-eqb x 0 e)
@@ -107,13 +107,13 @@ module _ (x t : ℕ) {num up den : ℕ} (ht : t < 2 ^ 52) (u : Small num up den)
       ∙ capped_usable (omega arith)
 
   -- nothing is cut
-  pub at_top : 1075 - up ≤ x → reading (of_fields binary64 false x t) (num * 2 ^ up) den ≡ Unusable
+  pub at_top : 1075 - up ≤ x → reading (of_fields binary64 false x t) (num * 2 ^ up) den ≡ None
   at_top h = go (ℕ_discrete x 2047)
     where
       turn : (q p n r : ℕ) → q * p * (n * r) ≡ q * (p * r) * n
       turn q p n r = omega arith
 
-      go : Dec (x ≡ 2047) → reading (of_fields binary64 false x t) (num * 2 ^ up) den ≡ Unusable
+      go : Dec (x ≡ 2047) → reading (of_fields binary64 false x t) (num * 2 ^ up) den ≡ None
       go (yes e) = rw e (not_finite false t (num * 2 ^ up) den)
       go (no ne) =
           finite ne
@@ -124,7 +124,7 @@ module _ (x t : ℕ) {num up den : ℕ} (ht : t < 2 ^ 52) (u : Small num up den)
     pub some_cut : reading (of_fields binary64 false x t) (num * 2 ^ up) den ≡ capped ((2 ^ 52 + t) * num / 2 ^ (1075 - up - x) / den)
     some_cut = finite (omega arith) ∙ rw (ne_eqb x 0 h0) (ap capped (cut_once (2 ^ 52 + t) num den (x - 1) up (1075 - up - x) 1074 (omega arith)))
 
-    pub all_cut : 64 ≤ 1075 - up - x → reading (of_fields binary64 false x t) (num * 2 ^ up) den ≡ Whole 0
+    pub all_cut : 64 ≤ 1075 - up - x → reading (of_fields binary64 false x t) (num * 2 ^ up) den ≡ Some 0
     all_cut h = some_cut ∙ ap capped (gone _ (1075 - up - x) den fits h) ∙ capped_usable (omega arith)
 
 -- ---- a NaN, by the test v != v
@@ -135,6 +135,6 @@ no_nan nan h = absurd (true≢false (sym nan_differs ∙ h))
 no_nan (inf s) h = tt
 no_nan (fin s m e) h = tt
 
-pub is_nan_lem : (v : Float) (n d : ℕ) → ne v v ≡ true → reading v n d ≡ Unusable
+pub is_nan_lem : (v : Float) (n d : ℕ) → ne v v ≡ true → reading v n d ≡ None
 unfolding reading
 is_nan_lem v n d h = rw (differs_from_itself v (subst T (sym h) tt))

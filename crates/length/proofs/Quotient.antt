@@ -5,7 +5,7 @@ use native.Mathlib.Nat.{mul_assoc, mul-div-mul_left, div-div-eq-div-mul, div-eq_
 use native.Mathlib.Omega.{arith}
 use lib.Pow.{pow-add, pow_pos, pow_mono}
 use borrow.Author.Tests.{le-leb, lt-leb}
-use Rattle.length.specs.declared.Reading.TheVariants.{Whole, Unusable}
+use Rattle.std.specs.Prelude.{Some, None}
 use Rattle.length.specs.Limit.{most_limit, capped}
 
 -- q * 2 ^ j in a unit of n * 2 ^ u / d, over 2 ^ l: the shared powers of two go, and k bits are cut
@@ -38,10 +38,10 @@ too_large q n d P R hp h hq hn hd =
 pub product : (a n : ℕ) → a < 2 ^ 53 → n < 2 ^ 11 → a * n < 2 ^ 64
 product a n ha hn = omega (arith, mul-le-mul {n₁ = a} {m₁ = n} {n₂ = 2 ^ 53 - 1} {m₂ = 2 ^ 11 - 1} (omega arith) (omega arith))
 
-pub capped_usable : {c : ℕ} → c ≤ most_limit → capped c ≡ Whole c
+pub capped_usable : {c : ℕ} → c ≤ most_limit → capped c ≡ Some c
 unfolding capped
 capped_usable {c} h = rw (le-leb c most_limit h)
 
-pub capped_above : {c : ℕ} → most_limit < c → capped c ≡ Unusable
+pub capped_above : {c : ℕ} → most_limit < c → capped c ≡ None
 unfolding capped
 capped_above {c} h = rw (lt-leb c most_limit h)

@@ -1,12 +1,10 @@
 -- What the limit reader's answer tells: 01's number and the values of each case.
-use Rattle.std.specs.Prelude.{[], ◌∷◌, pos}
+use Rattle.std.specs.Prelude.{ℕ, [], ◌∷◌, pos, Some, None, Option}
 use Rattle.refusal.specs.Told.{Told, done, refused}
 use Rattle.refusal.specs.declared.Refusal.TheVariants.{LimitUnusable}
-use Rattle.length.specs.declared.Reading.{Reading}
-use Rattle.length.specs.declared.Reading.TheVariants.{Whole, Unusable}
 
-abbrev pub told : Reading → Told
+abbrev pub told : Option ℕ → Told
 -- 0 and the whole centimetres
-told (Whole c) = done (pos c ∷ [])
+told (Some c) = done (pos c ∷ [])
 -- 1: limit unusable
-told Unusable = refused LimitUnusable
+told None = refused LimitUnusable

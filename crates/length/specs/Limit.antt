@@ -1,13 +1,11 @@
 -- What a typed length means in whole centimetres.
 -- A binary64 figure is `Float` of the library's Float.Ieee: `nan`, `inf s`, or `fin s m e`, whose exact value is the whole number m, below zero where s is true, times 2 ^ e;
 -- and 2 ^ e, a power of two or one over it, is the quotient `up e / down e`. Which figure 64 bits stand for is `of_bits binary64` of the same.
-use Rattle.std.specs.Prelude.{◌≡◌, Bool, true, false, cond, ℕ, zero, suc, ◌*◌, ◌/◌, ◌<◌, leb, ℤ, Float}
+use Rattle.std.specs.Prelude.{◌≡◌, Bool, true, false, cond, ℕ, zero, suc, ◌*◌, ◌/◌, ◌<◌, leb, ℤ, Float, Some, None, Option}
 use Rattle.std.specs.Float.{nan, inf, fin}
 use Rattle.std.specs.Float.Ieee.{up, down}
 use Rattle.length.specs.declared.Length.{Length}
 use Rattle.length.specs.declared.Length.TheVariants.{Metres, Feet, Centimetres, InternationalFeet}
-use Rattle.length.specs.declared.Reading.{Reading}
-use Rattle.length.specs.declared.Reading.TheVariants.{Whole, Unusable}
 
 -- a typed length: a figure, and how many centimetres go to its unit, num / den
 pub record Typed : Type 0 where
@@ -32,22 +30,22 @@ abbrev pub most_limit : ℕ
 most_limit = 200000
 
 -- unusable when above 200,000 after rounding down
-unfoldable pub capped : ℕ → Reading
-capped c = cond (leb c most_limit) (Whole c) Unusable
+unfoldable pub capped : ℕ → Option ℕ
+capped c = cond (leb c most_limit) (Some c) None
 
 -- the limit that a figure says, in a unit of num / den centimetres
-unfoldable pub reading : Float → ℕ → ℕ → Reading
+unfoldable pub reading : Float → ℕ → ℕ → Option ℕ
 unfolding capped
 -- unusable when not finite
-reading nan num den = Unusable
-reading (inf s) num den = Unusable
+reading nan num den = None
+reading (inf s) num den = None
 -- minus zero is zero; else unusable when below zero
-reading (fin true zero e) num den = Whole 0
-reading (fin true (suc m) e) num den = Unusable
+reading (fin true zero e) num den = Some 0
+reading (fin true (suc m) e) num den = None
 reading (fin false m e) num den = capped (rounded_down m e num den)
 
 -- the limit that a typed length says
-unfoldable pub limit_of : Length → Reading
+unfoldable pub limit_of : Length → Option ℕ
 unfolding reading
 limit_of l = reading (typed l).figure (typed l).num (typed l).den
 

@@ -24,13 +24,6 @@ pub enum Order {
     Limit(Length),
 }
 
-// What the limit reader answers: whole centimetres, or that the limit is unusable.
-#[derive(Clone, Copy)]
-pub enum Reading {
-    Whole(u64),
-    Unusable,
-}
-
 // The most centimetres of a usable limit.
 pub const MOST_LIMIT: u64 = 200000;
 
@@ -40,9 +33,9 @@ const SIGN: u64 = 0x8000_0000_0000_0000;
 // The weight of the exponent's field, and of the leading digit, which the bits leave out.
 const LEADING: u64 = 0x10_0000_0000_0000;
 
-// The limit in whole centimetres: a line for each unit. The power of two keeps num small: 120000 / 3937 is 1875 x 2^6 / 3937, and 3048 / 100 is
+// The limit in whole centimetres, none where it is unusable: a line for each unit. The power of two keeps num small: 120000 / 3937 is 1875 x 2^6 / 3937, and 3048 / 100 is
 // 381 x 2^3 / 100.
-pub fn read_limit(l: Length) -> Reading
+pub fn read_limit(l: Length) -> Option<u64>
     ensures { result ≡ limit_of l }
 {
     match l {
@@ -54,13 +47,13 @@ pub fn read_limit(l: Length) -> Reading
 }
 
 // A figure of a unit of num x 2^up / den centimetres.
-fn read_figure(v: f64, num: u64, up: u64, den: u64) -> Reading
+fn read_figure(v: f64, num: u64, up: u64, den: u64) -> Option<u64>
     requires { Small num up den }
     ensures { result ≡ reading v (num * 2 ^ up) den }
 {
     // only a NaN differs from itself
     if v != v {
-        return Reading::Unusable;
+        return None;
     }
     let b = f64::to_bits(v);
     if b < SIGN {
@@ -68,14 +61,14 @@ fn read_figure(v: f64, num: u64, up: u64, den: u64) -> Reading
     }
     // below zero
     if SIGN < b {
-        return Reading::Unusable;
+        return None;
     }
     // minus zero
-    Reading::Whole(0)
+    Some(0)
 }
 
 // The same by a figure's 64 bits, the sign clear. Where field is not 0, they say (LEADING + digits) x 2^field / 2^1075.
-fn read_bits(b: u64, num: u64, up: u64, den: u64) -> Reading
+fn read_bits(b: u64, num: u64, up: u64, den: u64) -> Option<u64>
     requires b_bound { b < 2 ^ 63 }
     requires small { Small num up den }
     ensures { result ≡ reading (of_bits binary64 b) (num * 2 ^ up) den }
@@ -84,23 +77,19 @@ fn read_bits(b: u64, num: u64, up: u64, den: u64) -> Reading
     let digits = b % LEADING;
     // zero, or below 2^-1022
     if field == 0 {
-        return Reading::Whole(0);
+        return Some(0);
     }
     // from this field on no bit is cut: 2^52 / den centimetres or more, or an infinity
     let top = 1075 - up;
     if top <= field {
-        return Reading::Unusable;
+        return None;
     }
     let cut = top - field;
     // every bit is cut, since the product below fits 64
     if 64 <= cut {
-        return Reading::Whole(0);
+        return Some(0);
     }
     // this rounds down as one division by den x 2^cut does
     let c = ((LEADING + digits) * num >> cut) / den;
-    if c <= MOST_LIMIT {
-        Reading::Whole(c)
-    } else {
-        Reading::Unusable
-    }
+    if c <= MOST_LIMIT { Some(c) } else { None }
 }

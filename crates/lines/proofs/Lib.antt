@@ -1,5 +1,4 @@
 pub mod Cut
 pub mod Turns
-pub mod Storing
 pub mod Plain
 pub mod Lengths

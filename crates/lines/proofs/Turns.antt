@@ -1,35 +1,34 @@
 -- What holds between two fields, and why each way out of the readers is right.
 use mathlib.Core.Path.{◌≡◌, refl, sym, ◌∙◌, ap, subst}
-use mathlib.Core.List.{List, [], ◌∷◌, ◌++◌, append_assoc, append-nil, append_cancel_left, map, map-id, map-append}
-use Prim.Native.Nat.{ℕ, suc, ◌+◌, ◌≤◌, ◌<◌}
+use mathlib.Core.List.{List, [], ◌∷◌, ◌++◌, append_assoc, append-nil, append_cancel_left, map, map-append}
+use Prim.Native.Nat.{ℕ, suc, ◌+◌, ◌^◌, ◌≤◌, ◌<◌}
 use native.Mathlib.Omega.{arith}
 use lib.IntN.{ℤ, pos, nat_abs}
 use lib.ListN.{length, length-append, length-map, take, drop, length-drop, set}
 use lib.Seq.{sets, length-sets, sets-eq, take_at, drop_at}
-use mir.Syntax.{w64}
-use mir.Val.{SFits}
-use Rattle.ints.proofs.Machine.{sfits_abs}
+use mir.Syntax.{w32, w64}
+use mir.Val.{SFits, to_z, of_z}
+use Rattle.ints.proofs.Machine.{Is, var, kept, fits, sfits_abs}
 use Rattle.text.specs.Decimal.{decimal, signed}
 use Rattle.text.specs.InnerReading.{NumberAt, ReadSigned, Expected}
-use Rattle.text.specs.declared.Signed.{Signed}
-use Rattle.text.specs.declared.Signed.TheVariants as whole
-use Rattle.text.specs.declared.Passed.{Passed}
-use Rattle.text.specs.declared.Passed.TheVariants.{To, Bad}
+use Rattle.std.specs.Prelude.{Option, Some, None}
+use Rattle.text.specs.declared.Cursor.{Cursor}
 use Rattle.text.proofs.Digits.{digits_below}
 use Rattle.lines.specs.Lines.{tab, newline, fields, FewDigits, LineAt}
-use Rattle.lines.specs.Inner.{FieldAt, FieldsOf, ReadField, PutFrom, ReadInto}
+use Rattle.lines.specs.InnerLimits.{most_plain}
+use Rattle.lines.specs.Inner.{FieldAt, FieldsOf, LineOf, ReadField, PutFrom, ReadInto}
 use Rattle.lines.proofs.Cut.{map_drop, short_append, short_right, fields_append, after_field, newline_no_digit, cut, fields_unique, line_after}
 
 -- ---- one field
 
-pub field_read : (most : ℕ) (s : List ℕ) (at c : ℕ) → drop at s ≡ tab ∷ drop c s → (n : Signed) → ReadSigned most s c n → ReadField most s at n
+pub field_read : (most : ℕ) (s : List ℕ) (at c : ℕ) → drop at s ≡ tab ∷ drop c s → (n : Option (ℤ × Cursor)) → ReadSigned most s c n → ReadField (λ z. z) most s at n
 unfolding ReadSigned ReadField
-field_read most s at c e (whole.Read z k) a = record { bytes = e ∙ ap (λ x. tab ∷ x) a.bytes; short = a.short; ends = a.ends }
-field_read most s at c e whole.Bad a = λ z r b. a z r (record { bytes = (let f : tab ∷ drop c s ≡ tab ∷ (signed z ++ r) = sym e ∙ b.bytes in cc); short = b.short; ends = b.ends })
+field_read most s at c e (Some n) a = record { bytes = e ∙ ap (λ x. tab ∷ x) a.bytes; short = a.short; ends = a.ends }
+field_read most s at c e None a = λ z r b. a z r (record { bytes = (let f : tab ∷ drop c s ≡ tab ∷ (signed z ++ r) = sym e ∙ b.bytes in cc); short = b.short; ends = b.ends })
 
-pub field_none : (most : ℕ) (s : List ℕ) (at : ℕ) → ((r : List ℕ) → ¬ (drop at s ≡ tab ∷ r)) → ReadField most s at whole.Bad
+pub field_none : {A : Type 0} (up : A → ℤ) (most : ℕ) (s : List ℕ) (at : ℕ) → ((r : List ℕ) → ¬ (drop at s ≡ tab ∷ r)) → ReadField up most s at None
 unfolding ReadField
-field_none most s at h = λ z r b. h (signed z ++ r) b.bytes
+field_none up most s at h = λ x r b. h (signed (up x) ++ r) b.bytes
 
 -- ---- a plain number after its tab
 
@@ -44,6 +43,20 @@ module _ {most : ℕ} {l x : List ℕ} (e : l ≡ tab ∷ x) where
 
 pub field_small : {most : ℕ} {l : List ℕ} {z : ℤ} {r : List ℕ} → most ≤ 18 → FieldAt most l z r → SFits w64 z
 field_small {z = z} m a = let h = a.short in sfits_abs w64 z (omega (arith, digits_below (nat_abs z) 18 (omega arith)))
+
+-- one of few digits, as the machine has it
+module _ {most : ℕ} {l : List ℕ} (z : ℤ) {r : List ℕ} (m : most ≤ most_plain) (a : FieldAt most l z r) where
+  size : nat_abs z < 10 ^ most_plain
+  size = let h = a.short in digits_below (nat_abs z) most_plain (omega arith)
+
+  small : Is (10 ^ most_plain) z (to_z w64 (of_z w64 z))
+  small = var w64 (sfits_abs w64 z (omega (arith, size))) (omega (arith, size))
+
+  pub plain_fits : SFits w32 (to_z w64 (of_z w64 z))
+  plain_fits = fits w32 small (omega arith)
+
+  pub plain_kept : to_z w32 (of_z w32 (to_z w64 (of_z w64 z))) ≡ z
+  plain_kept = (kept w32 small (omega arith)).same
 
 -- ---- stores one after another
 
@@ -136,21 +149,17 @@ module _ {A : Type 0} (up : A → ℤ) (w : List ℕ) {l : List ℕ} where
     pub no_fields : {count : ℕ} → ((zs : List A) (r : List ℕ) → length zs ≡ count → ¬ FieldsOf up most x zs r) → (ys : List A) (r : List ℕ) → length ys ≡ count → ¬ LineAt most w l (map up ys) r
     no_fields h ys r n a = h ys (newline ∷ r) n (its_fields a)
 
-    pub line_end : {count : ℕ} {room : List A} {start : ℕ} {room' : List A} (s : List ℕ) (end : ℕ) → PutFrom (FieldsOf up most x) count room start room' (drop end s) → (p : Passed) → Expected (newline ∷ []) s end p → ReadInto (λ ns. LineAt most w l (map up ns)) count s room start room' p
+    pub line_end : {count : ℕ} {room : List A} {start : ℕ} {room' : List A} (s : List ℕ) (end : ℕ) → PutFrom (FieldsOf up most x) count room start room' (drop end s) → (p : Option Cursor) → Expected (newline ∷ []) s end p → ReadInto (LineOf up most w l) count s room start room' p
     unfolding Expected ReadInto
-    line_end s end p (To c) f = let zs = map up p.zs in record {
+    line_end s end p (Some c) f = let zs = map up p.zs in record {
       zs = p.zs;
       count = p.count;
       here = record { bytes = e ∙ ap (λ x. w ++ x) (p.here.bytes ∙ ap (λ x. fields zs ++ x) f) ∙ sym (line_after w zs (drop c.at s)); short = p.here.short };
       put = p.put;
     }
-    line_end s end p Bad f = λ ys r n a.
+    line_end s end p None f = λ ys r n a.
         let b = its_fields {ys = ys} a in
         let c = p.count in
         let i = length-map p.zs up in
         let j = length-map ys up in
         f r (fields_unique (map up p.zs) (map up ys) (drop end s) (newline ∷ r) (λ o. p.here.ends (omega arith)) (λ o. b.ends (omega arith)) (omega arith) (sym p.here.bytes ∙ b.bytes)).1
-
--- numbers that stand in a line as they are
-pub as_they_are : (Stand : List ℤ → List ℕ → Type 0) → (λ zs. Stand (map (λ z. z) zs)) ≡ Stand
-as_they_are Stand = λ i zs. Stand (map-id zs i)

@@ -1,13 +1,10 @@
 -- What inner functions are asked on and give: no public contract names it.
-use Rattle.std.specs.Prelude.{◌≡◌, List, ◌∷◌, ◌++◌, map, ℕ, ◌≤◌, ◌<◌, ℤ, nat_abs, length, drop}
+use Rattle.std.specs.Prelude.{◌≡◌, List, ◌∷◌, ◌++◌, map, ℕ, ◌≤◌, ◌<◌, ℤ, nat_abs, length, drop, Option, Some, None}
 use Rattle.std.proofs.lemmas.List.Edits.{sets}
 use Rattle.text.specs.Decimal.{decimal, signed}
 use Rattle.text.specs.Inner.{NoDigit}
-use Rattle.text.specs.declared.Passed.{Passed}
-use Rattle.text.specs.declared.Passed.TheVariants.{To, Bad}
-use Rattle.text.specs.declared.Signed.{Signed}
-use Rattle.text.specs.declared.Signed.TheVariants as whole
-use Rattle.lines.specs.Lines.{tab, fields, FewDigits}
+use Rattle.text.specs.declared.Cursor.{Cursor}
+use Rattle.lines.specs.Lines.{tab, fields, FewDigits, LineAt}
 
 -- one field stands in front of l, and r, which begins with no digit, follows
 pub record FieldAt (most : ℕ) (l : List ℕ) (z : ℤ) (r : List ℕ) : Type 0 where
@@ -21,10 +18,14 @@ pub record FieldsOf {A : Type 0} (up : A → ℤ) (most : ℕ) (l : List ℕ) (n
   pub short : FewDigits most (map up ns)
   pub ends : 0 < length ns → NoDigit r
 
--- one field read from a place, and the place after it; or none stands there
-unfoldable pub ReadField : ℕ → List ℕ → ℕ → Signed → Type 0
-ReadField most s at (whole.Read z c) = FieldAt most (drop at s) z (drop c.at s)
-ReadField most s at whole.Bad = (z : ℤ) (r : List ℕ) → ¬ FieldAt most (drop at s) z r
+-- a line of the word w with the numbers ns stands in front of l, and r follows
+abbrev pub LineOf : {A : Type 0} → (A → ℤ) → ℕ → List ℕ → List ℕ → List A → List ℕ → Type 0
+LineOf up most w l ns r = LineAt most w l (map up ns) r
+
+-- one field read from a place, and the place after it; or none stands there. up says how what is read stands in a line
+unfoldable pub ReadField : {A : Type 0} → (A → ℤ) → ℕ → List ℕ → ℕ → Option (A × Cursor) → Type 0
+ReadField {A} up most s at (Some r) = FieldAt most (drop at s) (up r.0) (drop r.1.at s)
+ReadField {A} up most s at None = (x : A) (r : List ℕ) → ¬ FieldAt most (drop at s) (up x) r
 
 -- n numbers that stand somewhere, with r after them, put into a room from its place start on
 pub record PutFrom {A : Type 0} (Stand : List A → List ℕ → Type 0) (n : ℕ) (room : List A) (start : ℕ) (room' : List A) (r : List ℕ) : Type 0 where
@@ -34,6 +35,6 @@ pub record PutFrom {A : Type 0} (Stand : List A → List ℕ → Type 0) (n : �
   pub put : room' ≡ sets room start zs
 
 -- n numbers read into a room, and the place after them; or no such n numbers stand there
-unfoldable pub ReadInto : {A : Type 0} → (List A → List ℕ → Type 0) → ℕ → List ℕ → List A → ℕ → List A → Passed → Type 0
-ReadInto {A} Stand n s room start room' (To c) = PutFrom Stand n room start room' (drop c.at s)
-ReadInto {A} Stand n s room start room' Bad = (zs : List A) (r : List ℕ) → length zs ≡ n → ¬ Stand zs r
+unfoldable pub ReadInto : {A : Type 0} → (List A → List ℕ → Type 0) → ℕ → List ℕ → List A → ℕ → List A → Option Cursor → Type 0
+ReadInto {A} Stand n s room start room' (Some c) = PutFrom Stand n room start room' (drop c.at s)
+ReadInto {A} Stand n s room start room' None = (zs : List A) (r : List ℕ) → length zs ≡ n → ¬ Stand zs r

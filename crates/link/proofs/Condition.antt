@@ -42,9 +42,6 @@ module _ {n : ℕ} (t : List ℕ) (s : StageTable n t) {a b : ℕ} where
       omega arith
 
   module _ {l : List ℕ} (f : Neighbours (rows t) a l) where
-    pub not_beside : ¬ (b ∈ l) → ¬ Meets (rows t) a b
-    not_beside h m = h (f.all m.edge)
-
     module _ {m : List ℕ} (g : Neighbours (rows t) b m) where
       common_count : {k : ℕ} → Exactly (Both l m) k → Exactly (Common (rows t) a b) k
       common_count c = exactly_same (λ w z. (f.only z.0, g.only z.1)) (λ w z. (f.all z.0, g.all z.1)) c

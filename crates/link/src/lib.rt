@@ -32,13 +32,10 @@ fn marked_of(ring: &[u32], marks: &[u8]) -> usize
     ensures { Exactly (MarkedOf ring.now marks.now) result }
 {
     let mut k: usize = 0;
-    let mut i: usize = 0;
-    while i < ring.len() {
-        let w = ring[i] as usize;
-        if marks[w] != 0 {
+    for w in ring {
+        if marks[*w as usize] != 0 {
             k += 1;
         }
-        i += 1;
     }
     k
 }

@@ -6,10 +6,10 @@ use Prim.Native.Nat.{ℕ, zero, suc, ◌-◌, ◌≤◌, ◌<◌}
 use native.Mathlib.Omega.{arith}
 use lib.IntN.{ℤ, pos}
 use lib.ListN.{length, take, drop, get_or, take-append-drop}
-use lib.Seq.{take-suc, drop-cons, drop-length}
+use lib.Seq.{drop-cons, drop-length}
+use Rattle.std.specs.Prelude.{Ok}
 use Rattle.surface.specs.Limits.{least_corners}
 use Rattle.refusal.specs.First.{First}
-use Rattle.refusal.specs.declared.Verdict.TheVariants.{Passes}
 use Rattle.refusal.proofs.Laws.{verdicts, passes_none, none_yet, ◌nor◌}
 use Rattle.record.specs.Layout.{width, count}
 use Rattle.lines.specs.Lines.{newline, fields, line, lines}
@@ -84,7 +84,7 @@ one_cut {b} c d =
     one_log (rw e at c.sheet) d.sheet
 
 -- a cut log sheet of a skin's counts, within its size, passes
-pub cut_passes : {b : List ℕ} {n m : ℕ} {log : List ℕ} → CutOf b n m log → length b ≤ most_log_bytes → count log ≤ n - least_corners → First (cut_refusals b n m) Passes
+pub cut_passes : {b : List ℕ} {n m : ℕ} {log : List ℕ} → CutOf b n m log → length b ≤ most_log_bytes → count log ≤ n - least_corners → First (cut_refusals b n m) (Ok tt)
 unfolding cut_refusals
 cut_passes {n = n} {m} {log} c size few =
     (passes_none verdicts _).1 ((λ h. omega arith) nor (λ none. none n m log c) nor (λ o. let e = one_cut c o.cut in o.other (sym e.corners, sym e.rows, rw e.numbers at few)) nor none_yet)
@@ -94,25 +94,11 @@ cut_passes {n = n} {m} {log} c size few =
 pub none_after_end : (b : List ℕ) → NoneAfter b (length b)
 none_after_end b = record { inside = omega arith; unfinished = ap newlines (drop-length b) ∙ (unfold newlines in refl) }
 
-module _ {b : List ℕ} {k : ℕ} (w : NoneAfter b k) where
-  pub none_there : k ≡ 0 → WholeEnd b k
-  none_there e = record { none_after = w; closed = inl (ap (λ (i : ℕ). take i b) e) }
-
-  module _ (h : 0 < k) where
-    before : k - 1 < length b
-    before = let i = w.inside in omega arith
-
-    again : suc (k - 1) ≡ k
-    again = omega arith
-
-    pub newline_there : get_or b (k - 1) 0 ≡ newline → WholeEnd b k
-    newline_there e = record {
-      none_after = w;
-      closed = inr (record { before = take (k - 1) b; is = ap (λ (i : ℕ). take i b) (sym again) ∙ take-suc b (k - 1) 0 before ∙ ap (λ (c : ℕ). take (k - 1) b ++ (c ∷ [])) e });
-    }
-
-    pub other_there : ¬ (get_or b (k - 1) 0 ≡ newline) → NoneAfter b (k - 1)
-    other_there n = record {
-      inside = let i = before in omega arith;
-      unfinished = ap newlines (drop-cons b (k - 1) 0 before ∙ ap (λ (i : ℕ). get_or b (k - 1) 0 ∷ drop i b) again) ∙ newlines_other (get_or b (k - 1) 0) (drop k b) n ∙ w.unfinished;
+pub other_there : {b : List ℕ} {k : ℕ} → NoneAfter b k → 0 < k → ¬ (get_or b (k - 1) 0 ≡ newline) → NoneAfter b (k - 1)
+other_there {b} {k} w h n =
+    let i = w.inside in
+    let again : suc (k - 1) ≡ k = omega arith in
+    record {
+      inside = omega arith;
+      unfinished = ap newlines (drop-cons b (k - 1) 0 (omega arith) ∙ ap (λ (i : ℕ). get_or b (k - 1) 0 ∷ drop i b) again) ∙ newlines_other (get_or b (k - 1) 0) (drop k b) n ∙ w.unfinished;
     }

@@ -1,13 +1,11 @@
 -- What inner functions are asked on and give: no public contract names it.
-use Rattle.std.specs.Prelude.{◌≡◌, ◌⊎◌, List, [], ◌∷◌, ◌++◌, ℕ, ◌-◌, ◌≤◌, length, take, drop}
+use Rattle.std.specs.Prelude.{◌≡◌, ◌⊎◌, List, [], ◌∷◌, ◌++◌, ℕ, ◌-◌, ◌≤◌, length, take, drop, Result, Ok, Err}
 use Rattle.surface.specs.Limits.{least_corners, most_corners}
 use Rattle.refusal.specs.First.{First}
-use Rattle.refusal.specs.declared.Verdict.TheVariants as verdict
+use Rattle.refusal.specs.declared.Refusal.{Refusal}
 use Rattle.record.specs.Layout.{count, room_for}
 use Rattle.lines.specs.Lines.{newline}
 use Rattle.logform.specs.LogSheet.{CountsIn}
-use Rattle.logcut.specs.declared.Cut.{Cut}
-use Rattle.logcut.specs.declared.Cut.TheVariants.{Kept, Refused}
 use Rattle.logcut.specs.Cut.{newlines, CutOf, cut_refusals}
 
 -- the last byte is a newline
@@ -36,7 +34,7 @@ pub record CanKeep (n m : ℕ) (room : List ℕ) : Type 0 where
 
 -- the whole lines hold a log of the skin, and it stands in front of the room
 pub record KeptIn (b : List ℕ) (n m : ℕ) (room : List ℕ) (k : ℕ) (room' : List ℕ) : Type 0 where
-  pub passes : First (cut_refusals b n m) verdict.Passes
+  pub passes : First (cut_refusals b n m) (Ok tt)
   pub log : List ℕ
   pub cut : CutOf b n m log
   pub counted : k ≡ count log
@@ -44,6 +42,6 @@ pub record KeptIn (b : List ℕ) (n m : ℕ) (room : List ℕ) (k : ℕ) (room' 
   pub put : room' ≡ log ++ drop (length log) room
 
 -- refused, the room is left free: it is scratch
-unfoldable pub ReadCut : List ℕ → ℕ → ℕ → List ℕ → List ℕ → Cut → Type 0
-ReadCut b n m room room' (Kept k) = KeptIn b n m room k room'
-ReadCut b n m room room' (Refused r) = First (cut_refusals b n m) (verdict.Refused r)
+unfoldable pub ReadCut : List ℕ → ℕ → ℕ → List ℕ → List ℕ → Result ℕ Refusal → Type 0
+ReadCut b n m room room' (Ok k) = KeptIn b n m room k room'
+ReadCut b n m room room' (Err r) = First (cut_refusals b n m) (Err r)

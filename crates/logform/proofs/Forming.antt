@@ -11,7 +11,7 @@ use Rattle.lines.specs.Kinds.{K, record_lines}
 use Rattle.lines.proofs.Cut.{lines_unique, cut_lines}
 use Rattle.lines.proofs.Plain.{pos_same}
 use Rattle.heading.specs.Heading.{most_digits, first_line_lem, NoFirstLine}
-use Rattle.heading.proofs.Heading.{same_first}
+use Rattle.heading.proofs.First.{same_first}
 use Rattle.logform.specs.LogSheet.{LOG, most_log_bytes, LogSheetOf}
 use Rattle.logform.specs.Inner.{Records, LinesLeft, LogFormRead, BadLogForm, no_sheet}
 

@@ -5,8 +5,8 @@ use Prim.Native.Nat.{ℕ, suc, ◌+◌, ◌-◌, ◌*◌, ◌≤◌, ◌<◌}
 use native.Mathlib.Omega.{arith}
 use lib.IntN.{pos}
 use lib.ListN.{length, length-append, length-map, drop, length-drop, drop_of_length-le}
-use Rattle.text.specs.declared.Passed.{Passed}
-use Rattle.text.specs.declared.Passed.TheVariants.{To, Bad}
+use Rattle.std.specs.Prelude.{Option, Some, None}
+use Rattle.text.specs.declared.Cursor.{Cursor}
 use Rattle.record.specs.Layout.{width}
 use Rattle.lines.specs.Lines.{newline, fields, line, lines}
 use Rattle.lines.specs.Kinds.{K}
@@ -17,10 +17,10 @@ use Rattle.reading.proofs.Lining.{lines_on, no_next}
 use Rattle.heading.specs.Heading.{most_digits}
 use Rattle.logform.specs.Inner.{RecordAt, LinePassed, PassedOver, Records, LinesLeft}
 
-pub passed_over : (s : List ℕ) (at : ℕ) (room room' : List ℕ) (p : Passed) → ReadInto (LineOf pos most_digits K (drop at s)) width s room 0 room' p → PassedOver s at p
+pub passed_over : (s : List ℕ) (at : ℕ) (room room' : List ℕ) (p : Option Cursor) → ReadInto (LineOf pos most_digits K (drop at s)) width s room 0 room' p → PassedOver s at p
 unfolding ReadInto PassedOver
-passed_over s at room room' (To c) r = record { ns = r.zs; count = r.count; here = r.here }
-passed_over s at room room' Bad r = r
+passed_over s at room room' (Some c) r = record { ns = r.zs; count = r.count; here = r.here }
+passed_over s at room room' None r = r
 
 -- count lines are passed over, up to k
 pub record Passing (s : List ℕ) (at k count : ℕ) : Type 0 where

@@ -1,15 +1,11 @@
 -- What inner functions are asked on and give: no public contract names it.
-use Rattle.std.specs.Prelude.{◌≡◌, List, [], ℕ, ◌*◌, ◌≤◌, ◌<◌, pos, length, drop}
+use Rattle.std.specs.Prelude.{◌≡◌, List, [], ℕ, ◌*◌, ◌≤◌, ◌<◌, pos, length, drop, Option, Some, None}
 use Rattle.record.specs.Layout.{width}
-use Rattle.text.specs.declared.Passed.{Passed}
-use Rattle.text.specs.declared.Passed.TheVariants.{To, Bad}
+use Rattle.text.specs.declared.Cursor.{Cursor}
 use Rattle.lines.specs.Kinds.{K}
 use Rattle.reading.specs.Inner.{LineOf, LinesOf}
 use Rattle.heading.specs.Heading.{most_digits}
-use Rattle.logform.specs.declared.Left.{Left}
-use Rattle.logform.specs.declared.Left.TheVariants as left
 use Rattle.logform.specs.declared.LogForm.{LogForm}
-use Rattle.logform.specs.declared.LogForm.TheVariants as form
 use Rattle.logform.specs.LogSheet.{most_log_bytes, LogSheetOf, NoLogSheet}
 
 -- a record's line in front of l, with r after it
@@ -22,9 +18,9 @@ pub record LinePassed (l r : List ℕ) : Type 0 where
   pub count : length ns ≡ width
   pub here : RecordAt l ns r
 
-unfoldable pub PassedOver : List ℕ → ℕ → Passed → Type 0
-PassedOver s at (To c) = LinePassed (drop at s) (drop c.at s)
-PassedOver s at Bad = (ns r : List ℕ) → length ns ≡ width → ¬ RecordAt (drop at s) ns r
+unfoldable pub PassedOver : List ℕ → ℕ → Option Cursor → Type 0
+PassedOver s at (Some c) = LinePassed (drop at s) (drop c.at s)
+PassedOver s at None = (ns r : List ℕ) → length ns ≡ width → ¬ RecordAt (drop at s) ns r
 
 -- l is k records' lines, and nothing else
 pub record Records (k : ℕ) (l : List ℕ) (log : List ℕ) : Type 0 where
@@ -36,9 +32,9 @@ pub record LinesLeft (k : ℕ) (l : List ℕ) : Type 0 where
   pub log : List ℕ
   pub are : Records k l log
 
-unfoldable pub WhatIsLeft : List ℕ → Left → Type 0
-WhatIsLeft l (left.Lines k) = LinesLeft k l
-WhatIsLeft l left.Other = (k : ℕ) (log : List ℕ) → ¬ Records k l log
+unfoldable pub WhatIsLeft : List ℕ → Option ℕ → Type 0
+WhatIsLeft l (Some k) = LinesLeft k l
+WhatIsLeft l None = (k : ℕ) (log : List ℕ) → ¬ Records k l log
 
 -- in the form, with its lines of records from a place on
 pub record LogFormRead (b : List ℕ) (n m k at : ℕ) : Type 0 where
@@ -51,6 +47,6 @@ pub data BadLogForm (b : List ℕ) : Type 0 where
   too_long : most_log_bytes < length b → BadLogForm b
   no_sheet : length b ≤ most_log_bytes → NoLogSheet b → BadLogForm b
 
-unfoldable pub ReadLogForm : List ℕ → LogForm → Type 0
-ReadLogForm b (form.Read n m k c) = LogFormRead b n m k c.at
-ReadLogForm b form.Bad = BadLogForm b
+unfoldable pub ReadLogForm : List ℕ → Option LogForm → Type 0
+ReadLogForm b (Some f) = LogFormRead b f.corners f.rows f.records f.after.at
+ReadLogForm b None = BadLogForm b

@@ -6,24 +6,18 @@ ghost use Rattle.logform.specs.LogSheet.{CountsIn};
 ghost use Rattle.logform.specs.Inner.{PassedOver, WhatIsLeft, ReadLogForm};
 ghost use Rattle.std.specs.Prelude.{drop};
 
-use heading::FirstLine;
-use text::{Cursor, Passed};
+use text::Cursor;
 
 // A log sheet's size limit.
 pub const MOST_LOG_BYTES: usize = 65536;
 
-// How many lines of records are left, or that something else stands there.
+// A log sheet in its form: its corner count, row count and records, and the place after its first line.
 #[derive(Clone, Copy)]
-pub enum Left {
-    Lines(usize),
-    Other,
-}
-
-// The corner count, row count and records of a log sheet in its form and the place after its first line, or that it is not in its form.
-#[derive(Clone, Copy)]
-pub enum LogForm {
-    Read(usize, usize, usize, Cursor),
-    Bad,
+pub struct LogForm {
+    pub corners: usize,
+    pub rows: usize,
+    pub records: usize,
+    pub after: Cursor,
 }
 
 // Inner: whether the counts are inside their limits, and the records no more than the corners allow.
@@ -49,52 +43,48 @@ pub fn counts_in(n: usize, m: usize, records: usize) -> bool
 }
 
 // Passes over a record's line.
-fn pass_line(s: &[u8], from: Cursor) -> Passed
+fn pass_line(s: &[u8], from: Cursor) -> Option<Cursor>
     ensures { PassedOver s.now from.at result }
 {
     let mut numbers = [0u32; record::WIDTH];
-    reading::number_line(
+    lines::read_line(
         s,
         from,
         b"K",
         heading::MOST_DIGITS,
-        record::WIDTH,
         &mut numbers,
         0,
+        record::WIDTH,
     )
 }
 
-// Passes over lines of records to the end.
-fn lines_left(s: &[u8], from: Cursor) -> Left
+// Passes over lines of records to the end, and counts them; none where something else stands there.
+fn lines_left(s: &[u8], from: Cursor) -> Option<usize>
     ensures { WhatIsLeft (drop from.at s.now) result }
 {
-    let mut k = from.at;
+    let mut here = from;
     let mut count: usize = 0;
-    while k < s.len() {
-        let passed = pass_line(s, Cursor { at: k });
-        let Passed::To(next) = passed else {
-            return Left::Other;
-        };
-        k = next.at;
+    // no range: the next place is the one that a line's reader answers
+    while here.at < s.len() {
+        here = pass_line(s, here)?;
         count += 1;
     }
-    Left::Lines(count)
+    Some(count)
 }
 
-// Inner: size, first line, lines of records to the end.
-pub fn read_log_form(bytes: &[u8]) -> LogForm
+// Inner: size, first line, lines of records to the end; none where it is not in its form.
+pub fn read_log_form(bytes: &[u8]) -> Option<LogForm>
     ensures { ReadLogForm bytes.now result }
 {
     if MOST_LOG_BYTES < bytes.len() {
-        return LogForm::Bad;
+        return None;
     }
-    let first = heading::first_line(bytes, b"LOG");
-    let FirstLine::Read(n, m, after) = first else {
-        return LogForm::Bad;
-    };
-    let left = lines_left(bytes, after);
-    match left {
-        Left::Lines(k) => LogForm::Read(n, m, k, after),
-        Left::Other => LogForm::Bad,
-    }
+    let first = heading::first_line(bytes, b"LOG")?;
+    let records = lines_left(bytes, first.after)?;
+    Some(LogForm {
+        corners: first.corners,
+        rows: first.rows,
+        records,
+        after: first.after,
+    })
 }

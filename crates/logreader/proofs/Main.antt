@@ -1,24 +1,24 @@
 -- No second outcome of reading record by record; it gives what the whole reading gives; and a reader asked again and again gives a log sheet's records.
 use mathlib.Core.Path.{◌≡◌, sym, ◌∙◌, ap, subst}
 use mathlib.Core.List.{List, ◌++◌}
+use Rattle.std.specs.Prelude.{Result, Ok, Err}
 use Prim.Native.Nat.{ℕ}
 use native.Mathlib.Omega.{arith}
 use lib.ListN.{length, drop}
 use Rattle.refusal.specs.First.{First}
-use Rattle.refusal.specs.declared.Verdict.TheVariants as verdict
+use Rattle.refusal.specs.declared.Refusal.{Refusal}
 use Rattle.refusal.proofs.Laws.{verdicts, first_one, refused_one, refused_passes, all_nor, passed, passes_none, none_yet, ◌nor◌}
 use Rattle.record.specs.Layout.{count, records, first_records}
 use Rattle.lines.specs.Kinds.{record_lines}
 use Rattle.heading.specs.Heading.{first_line_lem, NoFirstLine}
-use Rattle.heading.proofs.Heading.{same_first}
+use Rattle.heading.proofs.First.{same_first}
 use Rattle.logform.specs.LogSheet.{LOG, LogSheetOf, CountsIn}
 use Rattle.logform.proofs.Forming.{its_line, one_log}
 use Rattle.logrecords.specs.Outcome as opening
 use Rattle.logrecords.specs.Outcome.{open_refusals}
 use Rattle.logrecords.specs.Walk.{Walked, BreaksAfter, Broken}
 use Rattle.logrecords.proofs.Walking.{walked_through, broken_off}
-use Rattle.logsheet.specs.declared.LogSheet.{LogSheet}
-use Rattle.logsheet.specs.declared.LogSheet.TheVariants.{Read, Refused}
+use Rattle.logsheet.specs.declared.LogCounts.{LogCounts}
 use Rattle.logsheet.specs.Outcome as whole
 use Rattle.logsheet.specs.Outcome.{read_refusals, ReadLogSheet}
 use Rattle.logreader.specs.declared.Reader.{Reader}
@@ -29,13 +29,13 @@ use Rattle.logreader.proofs.Again.{walks_asked, breaks_asked}
 -- ---- one outcome
 
 -- no second outcome of reading record by record
-pub each_one : {b room room₁ room₂ : List ℕ} {a₁ a₂ : LogSheet} → EachRecord b room room₁ a₁ → EachRecord b room room₂ a₂ → (a₁ ≡ a₂) × (room₁ ≡ room₂)
-each_one (unread f e p) (unread g d q) = (e ∙ ap Refused (refused_one (first_one verdicts _ f g)) ∙ sym d, p ∙ sym q)
+pub each_one : {b room room₁ room₂ : List ℕ} {a₁ a₂ : Result LogCounts Refusal} → EachRecord b room room₁ a₁ → EachRecord b room room₂ a₂ → (a₁ ≡ a₂) × (room₁ ≡ room₂)
+each_one (unread f e p) (unread g d q) = (e ∙ ap Err (refused_one (first_one verdicts _ f g)) ∙ sym d, p ∙ sym q)
 each_one (unread f e p) (each g s d q) = refused_passes (first_one verdicts _ f g)
 each_one (each f s e p) (unread g d q) = refused_passes (first_one verdicts _ g f)
 each_one {room = room} (each f s e p) (each g u d q) =
     let o = one_log s u in
-    (e ∙ (λ i. Read (o.corners i) (o.rows i) (count (o.numbers i))) ∙ sym d, p ∙ (λ i. o.numbers i ++ drop (length (o.numbers i)) room) ∙ sym q)
+    (e ∙ (λ i. Ok (record { corners = o.corners i; rows = o.rows i; records = count (o.numbers i) })) ∙ sym d, p ∙ (λ i. o.numbers i ++ drop (length (o.numbers i)) room) ∙ sym q)
 
 -- ---- what the whole reading reads
 
@@ -53,7 +53,7 @@ module _ {b : List ℕ} {n m : ℕ} {log : List ℕ} (s : LogSheetOf b n m log) 
       fewer c = record { few = c.few; many = c.many; least = c.least; most = c.most; fewer = omega arith }
 
   -- what passes the whole reading is opened, and passes the reading record by record
-  pub open_passes : (room : ℕ) → First (read_refusals b room) verdict.Passes → First (open_refusals b) verdict.Passes
+  pub open_passes : (room : ℕ) → First (read_refusals b room) (Ok tt) → First (open_refusals b) (Ok tt)
   unfolding read_refusals open_refusals
   open_passes room f =
       let a = passed verdicts _ _ f in
@@ -61,7 +61,7 @@ module _ {b : List ℕ} {n m : ℕ} {log : List ℕ} (s : LogSheetOf b n m log) 
       let d = passed verdicts _ _ c.1 in
       (passes_none verdicts _).1 (a.0 nor begins nor counts_in_lem d.0 nor none_yet)
 
-  each_passes : (room : ℕ) → First (read_refusals b room) verdict.Passes → First (each_refusals b room) verdict.Passes
+  each_passes : (room : ℕ) → First (read_refusals b room) (Ok tt) → First (each_refusals b room) (Ok tt)
   unfolding read_refusals each_refusals
   each_passes room f =
       let c = passed verdicts _ _ (passed verdicts _ _ f).1 in
@@ -69,7 +69,7 @@ module _ {b : List ℕ} {n m : ℕ} {log : List ℕ} (s : LogSheetOf b n m log) 
       (passes_none verdicts _).1 (all_nor ((passes_none verdicts _).0 (open_passes room f)) (c.0 nor e.0 nor none_yet))
 
 -- what is read whole is read record by record: the same answer, and the same room
-pub each_as_read : {b room room₁ room₂ : List ℕ} {n m k : ℕ} {a : LogSheet} → ReadLogSheet b room room₁ (Read n m k) → EachRecord b room room₂ a → (a ≡ Read n m k) × (room₂ ≡ room₁)
+pub each_as_read : {b room room₁ room₂ : List ℕ} {c : LogCounts} {a : Result LogCounts Refusal} → ReadLogSheet b room room₁ (Ok c) → EachRecord b room room₂ a → (a ≡ Ok c) × (room₂ ≡ room₁)
 each_as_read (whole.refused f e p) x = let z : ◌≡◌ {A = ℕ} 0 1 = cc in absurd (omega arith)
 each_as_read {room = room} (whole.read f s e p) x = each_one x (each (each_passes s (length room) f) s e p)
 

@@ -1,16 +1,14 @@
 -- A reader asked for the record at its place, and a log sheet read record by record: the refusals in their order, and the whole outcome.
-use Rattle.std.specs.Prelude.{◌≡◌, List, [], ◌∷◌, ◌++◌, ℕ, length, drop}
+use Rattle.std.specs.Prelude.{◌≡◌, List, [], ◌∷◌, ◌++◌, ℕ, length, drop, Result, Ok, Err}
 use Rattle.refusal.specs.First.{Refusals, ◌when◌, First}
 use Rattle.refusal.specs.declared.Refusal.{Refusal}
 use Rattle.refusal.specs.declared.Refusal.TheVariants.{RoomShort, SheetForm}
-use Rattle.refusal.specs.declared.Verdict.TheVariants as verdict
 use Rattle.record.specs.Layout.{count}
 use Rattle.logform.specs.LogSheet.{LogSheetOf, NoLogSheet}
 use Rattle.logrecords.specs.declared.Next.{Next}
 use Rattle.logrecords.specs.declared.Next.TheVariants.{Found, End, Bad}
 use Rattle.logrecords.specs.Outcome.{open_refusals, NextRecord}
-use Rattle.logsheet.specs.declared.LogSheet.{LogSheet}
-use Rattle.logsheet.specs.declared.LogSheet.TheVariants.{Read, Refused}
+use Rattle.logsheet.specs.declared.LogCounts.{LogCounts}
 use Rattle.logsheet.specs.Outcome.{NoRoom}
 use Rattle.logreader.specs.declared.Reader.{Reader}
 use Rattle.logreader.specs.declared.Answered.{Answered}
@@ -37,8 +35,8 @@ unfoldable pub each_refusals : List ℕ → ℕ → Refusals
 each_refusals b room = open_refusals b ++ ((SheetForm when NoLogSheet b) ∷ (RoomShort when NoRoom b room) ∷ [])
 
 -- reading a log sheet b record by record with the lent room leaves room', and answers a
-pub data EachRecord (b room room' : List ℕ) (a : LogSheet) : Type 0 where
+pub data EachRecord (b room room' : List ℕ) (a : Result LogCounts Refusal) : Type 0 where
   -- refused: nothing is written
-  unread : {r : Refusal} → First (each_refusals b (length room)) (verdict.Refused r) → a ≡ Refused r → room' ≡ room → EachRecord b room room' a
+  unread : {r : Refusal} → First (each_refusals b (length room)) (Err r) → a ≡ Err r → room' ≡ room → EachRecord b room room' a
   -- done: the log in front of its room, the rest as it was
-  each : {n m : ℕ} {log : List ℕ} → First (each_refusals b (length room)) verdict.Passes → LogSheetOf b n m log → a ≡ Read n m (count log) → room' ≡ log ++ drop (length log) room → EachRecord b room room' a
+  each : {n m : ℕ} {log : List ℕ} → First (each_refusals b (length room)) (Ok tt) → LogSheetOf b n m log → a ≡ Ok (record { corners = n; rows = m; records = count log }) → room' ≡ log ++ drop (length log) room → EachRecord b room room' a

@@ -11,11 +11,10 @@ ghost use Rattle.heading.specs.Heading.{most_digits};
 ghost use Rattle.logform.specs.Inner.{WhatIsLeft};
 ghost use Rattle.logreader.specs.Outcome.{place_after, Asked, AnsweredAt, EachRecord};
 
-use logform::Left;
-use logrecords::{Next, Opened};
-use logsheet::LogSheet;
+use logrecords::Next;
+use logsheet::LogCounts;
 use refusal::Refusal;
-use text::{Cursor, Passed};
+use text::Cursor;
 
 // The caller's sheet, and the place of the record that is asked for next.
 #[derive(Clone, Copy)]
@@ -74,64 +73,57 @@ pub fn ask(bytes: &[u8], from: Cursor) -> Answered
     }
 }
 
-// Counts the records from a place on, to the end.
-fn records_on(bytes: &[u8], from: Cursor) -> Left
+// Counts the records from a place on, to the end; none where something else stands there.
+fn records_on(bytes: &[u8], from: Cursor) -> Option<usize>
     ensures { WhatIsLeft (drop from.at bytes.now) result }
 {
     let mut k = from.at;
     let mut count: usize = 0;
+    // no range: the next place is the one that a line's reader answers
     while k < bytes.len() {
         let answered = ask(bytes, Cursor { at: k });
-        let found = answered.next;
-        let Next::Found(_, _) = found else {
-            return Left::Other;
+        let Next::Found(_, _) = answered.next else {
+            return None;
         };
         k = answered.at;
         count += 1;
     }
-    Left::Lines(count)
+    Some(count)
 }
 
 // Puts so many records from a place on in front of the log.
-fn put_records(bytes: &[u8], from: Cursor, count: usize, log: &mut [u32]) -> Passed
+fn put_records(bytes: &[u8], from: Cursor, count: usize, log: &mut [u32]) -> Option<Cursor>
     requires { count * width ≤ length log.old }
     ensures { ReadInto (LinesOf pos most_digits K width count (drop from.at bytes.now)) (count * width) bytes.now log.old 0 log.new result }
 {
     let mut k = from.at;
-    let mut start: usize = 0;
-    let mut i: usize = 0;
-    while i < count {
+    for i in 0..count {
         let answered = ask(bytes, Cursor { at: k });
-        let found = answered.next;
-        let Next::Found(r, _) = found else {
-            return Passed::Bad;
+        let Next::Found(r, _) = answered.next else {
+            return None;
         };
-        record::write_record(log, start, r);
+        record::write_record(log, i * record::WIDTH, r);
         k = answered.at;
-        start += record::WIDTH;
-        i += 1;
     }
-    Passed::To(Cursor { at: k })
+    Some(Cursor { at: k })
 }
 
 // Reads a log sheet record by record: its numbers go in front of the lent room, and the rest of it stays. The records are counted first, so that
 // nothing is written where it is refused. They are not held against the corners.
-pub fn each_record(bytes: &[u8], log: &mut [u32]) -> LogSheet
+pub fn each_record(bytes: &[u8], log: &mut [u32]) -> Result<LogCounts, Refusal>
     ensures { EachRecord bytes.now log.old log.new result }
 {
-    let opened = logrecords::open_log_sheet(bytes);
-    match opened {
-        Opened::Refused(r) => LogSheet::Refused(r),
-        Opened::At(n, m, from) => {
-            let left = records_on(bytes, from);
-            let Left::Lines(k) = left else {
-                return LogSheet::Refused(Refusal::SheetForm);
-            };
-            if log.len() < k * record::WIDTH {
-                return LogSheet::Refused(Refusal::RoomShort);
-            }
-            put_records(bytes, from, k, log);
-            LogSheet::Read(n, m, k)
-        }
+    let opened = logrecords::open_log_sheet(bytes)?;
+    let Some(k) = records_on(bytes, opened.after) else {
+        return Err(Refusal::SheetForm);
+    };
+    if log.len() < k * record::WIDTH {
+        return Err(Refusal::RoomShort);
     }
+    put_records(bytes, opened.after, k, log);
+    Ok(LogCounts {
+        corners: opened.corners,
+        rows: opened.rows,
+        records: k,
+    })
 }

@@ -2,6 +2,7 @@
 use mathlib.Core.Path.{◌≡◌, sym, ◌∙◌, ap}
 use mathlib.Core.Logic.{◌⊎◌, inl, inr}
 use mathlib.Core.List.{List, [], ◌∷◌, map}
+use Rattle.std.specs.Prelude.{Result, Ok, Err}
 use Prim.Native.Nat.{ℕ, ◌+◌, ◌≤◌}
 use native.Mathlib.Omega.{arith}
 use lib.IntN.{pos}
@@ -9,7 +10,6 @@ use lib.ListN.{length, length-append, length-map, length-drop}
 use Rattle.refusal.specs.First.{First}
 use Rattle.refusal.specs.Told as answers
 use Rattle.refusal.specs.declared.Refusal.{Refusal}
-use Rattle.refusal.specs.declared.Verdict.TheVariants as verdict
 use Rattle.refusal.proofs.Laws.{verdicts, first_one, refused_one, refused_passes}
 use Rattle.surface.specs.Rows.{Row, row}
 use Rattle.record.specs.Layout.{record_at}
@@ -20,11 +20,10 @@ use Rattle.lines.specs.Kinds.{K}
 use Rattle.lines.proofs.Lengths.{line_length}
 use Rattle.lines.proofs.Cut.{line_unique}
 use Rattle.lines.proofs.Plain.{pos_same}
+use Rattle.heading.specs.declared.Heading.{Heading}
 use Rattle.heading.specs.Heading.{first_line_lem, Begins}
-use Rattle.heading.proofs.Heading.{same_first}
+use Rattle.heading.proofs.First.{same_first}
 use Rattle.logform.specs.LogSheet.{LOG}
-use Rattle.logrecords.specs.declared.Opened.{Opened}
-use Rattle.logrecords.specs.declared.Opened.TheVariants.{At, Refused}
 use Rattle.logrecords.specs.declared.Next.{Next}
 use Rattle.logrecords.specs.declared.Next.TheVariants.{Found}
 use Rattle.logrecords.specs.Answer.{told_opened}
@@ -33,13 +32,13 @@ use Rattle.logrecords.specs.Outcome.{open_refusals, OpenedLog, unopened, opened,
 -- ---- one outcome
 
 -- no second outcome of opening
-pub opened_one : {b : List ℕ} {a₁ a₂ : Opened} → OpenedLog b a₁ → OpenedLog b a₂ → a₁ ≡ a₂
-opened_one (unopened f e) (unopened g d) = e ∙ ap Refused (refused_one (first_one verdicts _ f g)) ∙ sym d
+pub opened_one : {b : List ℕ} {a₁ a₂ : Result Heading Refusal} → OpenedLog b a₁ → OpenedLog b a₂ → a₁ ≡ a₂
+opened_one (unopened f e) (unopened g d) = e ∙ ap Err (refused_one (first_one verdicts _ f g)) ∙ sym d
 opened_one (unopened f e) (opened g s d) = refused_passes (first_one verdicts _ f g)
 opened_one (opened f s e) (unopened g d) = refused_passes (first_one verdicts _ g f)
 opened_one {b} (opened {n = n} {m = m} f s e) (opened {n = n'} {m = m'} g u d) =
     let o = same_first LOG b n m n' m' s.rest u.rest s.line u.line in
-    e ∙ (λ i. At (o.corners i) (o.rows i) (record { at = length (first_line_lem LOG (o.corners i) (o.rows i)) })) ∙ sym d
+    e ∙ (λ i. Ok (record { corners = o.corners i; rows = o.rows i; after = record { at = length (first_line_lem LOG (o.corners i) (o.rows i)) } })) ∙ sym d
 
 -- a place has one line
 one_line : {b : List ℕ} {at : ℕ} {ns ms : List ℕ} → LineStands b at ns → LineStands b at ms → ns ≡ ms
@@ -88,8 +87,8 @@ next_one (other h none e) (other k none₂ d) = e ∙ sym d
 
 -- ---- what the answers tell
 
-pub opened_told : {b : List ℕ} {a : Opened} → OpenedLog b a →
-    ((r : Refusal) × First (open_refusals b) (verdict.Refused r) × (told_opened a ≡ answers.refused r))
-    ⊎ (First (open_refusals b) verdict.Passes × (n m : ℕ) × Begins LOG b n m × (told_opened a ≡ answers.done (pos n ∷ pos m ∷ pos (length (first_line_lem LOG n m)) ∷ [])))
+pub opened_told : {b : List ℕ} {a : Result Heading Refusal} → OpenedLog b a →
+    ((r : Refusal) × First (open_refusals b) (Err r) × (told_opened a ≡ answers.refused r))
+    ⊎ (First (open_refusals b) (Ok tt) × (n m : ℕ) × Begins LOG b n m × (told_opened a ≡ answers.done (pos n ∷ pos m ∷ pos (length (first_line_lem LOG n m)) ∷ [])))
 opened_told (unopened {r = r} f e) = inl (r, f, ap told_opened e)
 opened_told (opened {n = n} {m = m} f s e) = inr (f, n, m, s, ap told_opened e)

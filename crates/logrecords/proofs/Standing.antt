@@ -1,7 +1,8 @@
 -- The record at a place: why each answer is right.
 use mathlib.Core.Path.{◌≡◌, refl, sym, ◌∙◌, ap}
 use mathlib.Core.List.{List, ◌++◌, map}
-use Prim.Native.Nat.{ℕ, ◌+◌, ◌-◌, ◌<◌}
+use Rattle.std.specs.Prelude.{min}
+use Prim.Native.Nat.{ℕ, ◌+◌, ◌<◌}
 use native.Mathlib.Omega.{arith}
 use lib.IntN.{pos}
 use lib.ListN.{length, length-append, drop, length-drop, replicate, length-replicate}
@@ -36,7 +37,7 @@ module _ (b : List ℕ) (at c : ℕ) {numbers : List ℕ} (p : PutFrom (LineOf p
   stands = record { count = ap length all ∙ p.count; after = drop c b; line = line_here }
 
   -- the place answered is the one after the line, or past the end where the line is the last
-  pub record_found : {a : ℕ} {rec : Record} → a ≡ c - (c - length b) → at < length b → meant rec ≡ record_at numbers 0 → NextRecord b at (Found rec (record { at = a }))
+  pub record_found : {a : ℕ} {rec : Record} → a ≡ min c (length b) → at < length b → meant rec ≡ record_at numbers 0 → NextRecord b at (Found rec (record { at = a }))
   record_found {a} {rec} e h m =
       let l = line K (map pos numbers) in
       let s : length (drop at b) ≡ length (l ++ drop c b) = ap length line_here.bytes in

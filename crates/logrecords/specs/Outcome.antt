@@ -1,18 +1,16 @@
 -- The records of a log sheet, one at a time: opened at its first line, and the record at any place. The whole outcome of each.
-use Rattle.std.specs.Prelude.{◌≡◌, List, [], ◌∷◌, map, ℕ, ◌+◌, ◌≤◌, ◌<◌, pos, length, drop}
+use Rattle.std.specs.Prelude.{◌≡◌, List, [], ◌∷◌, map, ℕ, ◌+◌, ◌≤◌, ◌<◌, pos, length, drop, Result, Ok, Err}
 use Rattle.refusal.specs.First.{Refusals, ◌when◌, First}
 use Rattle.refusal.specs.declared.Refusal.{Refusal}
 use Rattle.refusal.specs.declared.Refusal.TheVariants.{CountsOutside, SheetForm}
-use Rattle.refusal.specs.declared.Verdict.TheVariants as verdict
 use Rattle.record.specs.Layout.{width, record_at}
 use Rattle.record.specs.declared.Record.{Record}
 use Rattle.record.specs.Meant.{meant}
 use Rattle.lines.specs.Lines.{line, LineAt}
 use Rattle.lines.specs.Kinds.{K}
+use Rattle.heading.specs.declared.Heading.{Heading}
 use Rattle.heading.specs.Heading.{most_digits, first_line_lem, Begins, NoFirstLine}
 use Rattle.logform.specs.LogSheet.{LOG, most_log_bytes, CountsIn}
-use Rattle.logrecords.specs.declared.Opened.{Opened}
-use Rattle.logrecords.specs.declared.Opened.TheVariants.{At, Refused}
 use Rattle.logrecords.specs.declared.Next.{Next}
 use Rattle.logrecords.specs.declared.Next.TheVariants.{Found, End, Bad}
 
@@ -32,9 +30,9 @@ open_refusals b =
     ∷ []
 
 -- opening a log sheet b answers a: its counts and the place after its first line
-pub data OpenedLog (b : List ℕ) (a : Opened) : Type 0 where
-  unopened : {r : Refusal} → First (open_refusals b) (verdict.Refused r) → a ≡ Refused r → OpenedLog b a
-  opened : {n m : ℕ} → First (open_refusals b) verdict.Passes → Begins LOG b n m → a ≡ At n m (record { at = length (first_line_lem LOG n m) }) → OpenedLog b a
+pub data OpenedLog (b : List ℕ) (a : Result Heading Refusal) : Type 0 where
+  unopened : {r : Refusal} → First (open_refusals b) (Err r) → a ≡ Err r → OpenedLog b a
+  opened : {n m : ℕ} → First (open_refusals b) (Ok tt) → Begins LOG b n m → a ≡ Ok (record { corners = n; rows = m; after = record { at = length (first_line_lem LOG n m) } }) → OpenedLog b a
 
 -- a `K` line with the numbers ns stands at a place of b
 pub record LineStands (b : List ℕ) (at : ℕ) (ns : List ℕ) : Type 0 where

@@ -1,22 +1,14 @@
 // The records of a log sheet, one at a time: opened, then the record at a place. The caller keeps the sheet and the place.
 #![tactic(auto)]
 
-ghost use Rattle.std.specs.Prelude.{◌≡◌, ◌-◌, length};
 ghost use Rattle.logrecords.specs.Outcome.{OpenedLog, NextRecord};
 
-use heading::FirstLine;
+use heading::Heading;
 use record::Record;
 use refusal::Refusal;
-use text::{Cursor, Passed};
+use text::Cursor;
 
-// Corner count, row count and the place after the first line, or a refusal.
-#[derive(Clone, Copy)]
-pub enum Opened {
-    At(usize, usize, Cursor),
-    Refused(Refusal),
-}
-
-// A record and the place after its line, the end, or that something else stands there.
+// A record and the place after its line, the end, or that something else stands there. Three cases: what is told of the end names its place.
 #[derive(Clone, Copy)]
 pub enum Next {
     Found(Record, Cursor),
@@ -24,58 +16,49 @@ pub enum Next {
     Bad,
 }
 
-// The place after a line. Where nothing is left, its reader's contract allows any place past the end; the end is meant.
-fn within(bytes: &[u8], at: usize) -> usize
-    ensures { result ≡ at - (at - length bytes.now) }
-{
-    if bytes.len() < at {
-        return bytes.len();
-    }
-    at
-}
-
 // Opens a log sheet: size, first line, counts.
-pub fn open_log_sheet(bytes: &[u8]) -> Opened
+pub fn open_log_sheet(bytes: &[u8]) -> Result<Heading, Refusal>
     ensures { OpenedLog bytes.now result }
 {
     if logform::MOST_LOG_BYTES < bytes.len() {
-        return Opened::Refused(Refusal::SheetForm);
+        return Err(Refusal::SheetForm);
     }
-    let first = heading::first_line(bytes, b"LOG");
-    let FirstLine::Read(n, m, next) = first else {
-        return Opened::Refused(Refusal::SheetForm);
+    let Some(first) = heading::first_line(bytes, b"LOG") else {
+        return Err(Refusal::SheetForm);
     };
-    if !logform::counts_in(n, m, 0) {
-        return Opened::Refused(Refusal::CountsOutside);
+    if !logform::counts_in(first.corners, first.rows, 0) {
+        return Err(Refusal::CountsOutside);
     }
-    let after = within(bytes, next.at);
-    Opened::At(n, m, Cursor { at: after })
+    // where nothing is left, its reader's contract allows any place past the end; the end is meant
+    let after = first.after.at.min(bytes.len());
+    Ok(Heading {
+        corners: first.corners,
+        rows: first.rows,
+        after: Cursor { at: after },
+    })
 }
 
 // The record at a place of a log sheet, or of any bytes.
 pub fn next_record(bytes: &[u8], from: Cursor) -> Next
     ensures { NextRecord bytes.now from.at result }
 {
-    let at = from.at;
-    if bytes.len() <= at {
-        return Next::End(Cursor { at: at });
+    if bytes.len() <= from.at {
+        return Next::End(from);
     }
     let mut numbers = [0u32; record::WIDTH];
-    let here = Cursor { at: at };
-    let line = reading::number_line(
+    let line = lines::read_line(
         bytes,
-        here,
+        from,
         b"K",
         heading::MOST_DIGITS,
-        record::WIDTH,
         &mut numbers,
         0,
+        record::WIDTH,
     );
-    match line {
-        Passed::Bad => Next::Bad,
-        Passed::To(next) => {
-            let after = within(bytes, next.at);
-            Next::Found(record::read_record(&numbers, 0), Cursor { at: after })
-        }
-    }
+    let Some(next) = line else {
+        return Next::Bad;
+    };
+    // the end where nothing is left, as in opening
+    let after = next.at.min(bytes.len());
+    Next::Found(record::read_record(&numbers, 0), Cursor { at: after })
 }

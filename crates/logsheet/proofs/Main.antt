@@ -2,6 +2,7 @@
 use mathlib.Core.Path.{◌≡◌, refl, sym, ◌∙◌, ap, subst}
 use mathlib.Core.Logic.{◌⊎◌, inl, inr}
 use mathlib.Core.List.{List, [], ◌∷◌, ◌++◌, map}
+use Rattle.std.specs.Prelude.{Result, Ok, Err}
 use Prim.Native.Nat.{ℕ, ◌≤◌}
 use native.Mathlib.Omega.{arith}
 use lib.IntN.{pos}
@@ -10,7 +11,6 @@ use lib.Seq.{take_at}
 use Rattle.refusal.specs.First.{First}
 use Rattle.refusal.specs.Told as answers
 use Rattle.refusal.specs.declared.Refusal.{Refusal}
-use Rattle.refusal.specs.declared.Verdict.TheVariants as verdict
 use Rattle.refusal.proofs.Laws.{verdicts, first_one, refused_one, refused_passes, passes_none, none_yet, ◌nor◌}
 use Rattle.text.proofs.Digits.{below_digits}
 use Rattle.record.specs.Layout.{width, count}
@@ -20,28 +20,25 @@ use Rattle.heading.specs.Heading.{most_digits}
 use Rattle.heading.proofs.Sizes.{fields_size}
 use Rattle.logform.specs.LogSheet.{LOG, most_log_bytes, log_text, LogSheetOf}
 use Rattle.logform.proofs.Forming.{one_log}
-use Rattle.tell.specs.declared.Answer.{Answer}
-use Rattle.tell.specs.declared.Answer.TheVariants as written
 use Rattle.lines.proofs.Lengths.{line_length, plain_length}
-use Rattle.logsheet.specs.declared.LogSheet.{LogSheet}
-use Rattle.logsheet.specs.declared.LogSheet.TheVariants.{Read, Refused}
+use Rattle.logsheet.specs.declared.LogCounts.{LogCounts}
 use Rattle.logsheet.specs.Answer.{told}
 use Rattle.logsheet.specs.Outcome.{CountsOut, NoRoom, read_refusals, ReadLogSheet, refused, read, Writable, WroteLogSheet, unwritten, wrote}
 
 -- ---- one outcome
 
 -- no second outcome of reading
-pub read_log_one : {b room room₁ room₂ : List ℕ} {a₁ a₂ : LogSheet} → ReadLogSheet b room room₁ a₁ → ReadLogSheet b room room₂ a₂ → (a₁ ≡ a₂) × (room₁ ≡ room₂)
-read_log_one (refused f e p) (refused g d q) = (e ∙ ap Refused (refused_one (first_one verdicts _ f g)) ∙ sym d, p ∙ sym q)
+pub read_log_one : {b room room₁ room₂ : List ℕ} {a₁ a₂ : Result LogCounts Refusal} → ReadLogSheet b room room₁ a₁ → ReadLogSheet b room room₂ a₂ → (a₁ ≡ a₂) × (room₁ ≡ room₂)
+read_log_one (refused f e p) (refused g d q) = (e ∙ ap Err (refused_one (first_one verdicts _ f g)) ∙ sym d, p ∙ sym q)
 read_log_one (refused f e p) (read g s d q) = refused_passes (first_one verdicts _ f g)
 read_log_one (read f s e p) (refused g d q) = refused_passes (first_one verdicts _ g f)
 read_log_one {room = room} (read f s e p) (read g u d q) =
     let o = one_log s u in
-    (e ∙ (λ i. Read (o.corners i) (o.rows i) (count (o.numbers i))) ∙ sym d, p ∙ (λ i. o.numbers i ++ drop (length (o.numbers i)) room) ∙ sym q)
+    (e ∙ (λ i. Ok (record { corners = o.corners i; rows = o.rows i; records = count (o.numbers i) })) ∙ sym d, p ∙ (λ i. o.numbers i ++ drop (length (o.numbers i)) room) ∙ sym q)
 
 -- no second outcome of writing
-pub wrote_log_one : {n m : ℕ} {log text text₁ text₂ : List ℕ} {a₁ a₂ : Answer} → WroteLogSheet n m log text text₁ a₁ → WroteLogSheet n m log text text₂ a₂ → (a₁ ≡ a₂) × (text₁ ≡ text₂)
-wrote_log_one (unwritten f e p) (unwritten g d q) = (e ∙ ap written.Refused (refused_one (first_one verdicts _ f g)) ∙ sym d, p ∙ sym q)
+pub wrote_log_one : {n m : ℕ} {log text text₁ text₂ : List ℕ} {a₁ a₂ : Result ℕ Refusal} → WroteLogSheet n m log text text₁ a₁ → WroteLogSheet n m log text text₂ a₂ → (a₁ ≡ a₂) × (text₁ ≡ text₂)
+wrote_log_one (unwritten f e p) (unwritten g d q) = (e ∙ ap Err (refused_one (first_one verdicts _ f g)) ∙ sym d, p ∙ sym q)
 wrote_log_one (unwritten f e p) (wrote g w d q) = refused_passes (first_one verdicts _ f g)
 wrote_log_one (wrote f w e p) (unwritten g d q) = refused_passes (first_one verdicts _ g f)
 wrote_log_one (wrote f w e p) (wrote g v d q) = (e ∙ sym d, p ∙ sym q)
@@ -79,7 +76,7 @@ module _ {n m : ℕ} {log : List ℕ} (w : Writable n m log) where
         length-map log pos,
       )
 
-  written_passes : {room : ℕ} → length log ≤ room → First (read_refusals (log_text n m log) room) verdict.Passes
+  written_passes : {room : ℕ} → length log ≤ room → First (read_refusals (log_text n m log) room) (Ok tt)
   unfolding read_refusals
   written_passes {room} h =
       let s = its_log_sheet in
@@ -87,12 +84,12 @@ module _ {n m : ℕ} {log : List ℕ} (w : Writable n m log) where
       let fits : ¬ NoRoom (log_text n m log) room = λ o. let e = ap length (one_log s o.sheet).numbers in let q = o.short in omega arith in
       (passes_none verdicts _).1 ((λ k. omega (arith, log_size)) nor (λ none. none n m log s) nor inside nor fits nor none_yet)
 
-  pub reads_back : {room room' : List ℕ} {a : LogSheet} → length log ≤ length room → ReadLogSheet (log_text n m log) room room' a → (a ≡ Read n m (count log)) × (room' ≡ log ++ drop (length log) room)
+  pub reads_back : {room room' : List ℕ} {a : Result LogCounts Refusal} → length log ≤ length room → ReadLogSheet (log_text n m log) room room' a → (a ≡ Ok (record { corners = n; rows = m; records = count log })) × (room' ≡ log ++ drop (length log) room)
   reads_back h r = read_log_one r (read (written_passes h) its_log_sheet refl refl)
 
 -- reading what was written gives the same counts and the same log
-pub written_reads : {n m k : ℕ} {log text text' room room' : List ℕ} {a : LogSheet} → WroteLogSheet n m log text text' (written.Written k) → length log ≤ length room →
-    ReadLogSheet (take k text') room room' a → (a ≡ Read n m (count log)) × (room' ≡ log ++ drop (length log) room)
+pub written_reads : {n m k : ℕ} {log text text' room room' : List ℕ} {a : Result LogCounts Refusal} → WroteLogSheet n m log text text' (Ok k) → length log ≤ length room →
+    ReadLogSheet (take k text') room room' a → (a ≡ Ok (record { corners = n; rows = m; records = count log })) × (room' ≡ log ++ drop (length log) room)
 written_reads (unwritten f e p) h r = let z : ◌≡◌ {A = ℕ} 0 1 = cc in absurd (omega arith)
 written_reads {n} {m} {k} {log} {text} {text'} {room} {room'} {a} (wrote f w e p) h r = reads_back w h (subst (λ b. ReadLogSheet b room room' a) same r)
   where
@@ -104,8 +101,8 @@ written_reads {n} {m} {k} {log} {text} {text'} {room} {room'} {a} (wrote f w e p
 
 -- ---- what the answer tells
 
-pub log_sheet_told : {b room room' : List ℕ} {a : LogSheet} → ReadLogSheet b room room' a →
-    ((r : Refusal) × First (read_refusals b (length room)) (verdict.Refused r) × (told a ≡ answers.refused r))
-    ⊎ (First (read_refusals b (length room)) verdict.Passes × (n m : ℕ) × (log : List ℕ) × LogSheetOf b n m log × (told a ≡ answers.done (pos n ∷ pos m ∷ pos (count log) ∷ [])))
+pub log_sheet_told : {b room room' : List ℕ} {a : Result LogCounts Refusal} → ReadLogSheet b room room' a →
+    ((r : Refusal) × First (read_refusals b (length room)) (Err r) × (told a ≡ answers.refused r))
+    ⊎ (First (read_refusals b (length room)) (Ok tt) × (n m : ℕ) × (log : List ℕ) × LogSheetOf b n m log × (told a ≡ answers.done (pos n ∷ pos m ∷ pos (count log) ∷ [])))
 log_sheet_told (refused {r = r} f e p) = inl (r, f, ap told e)
 log_sheet_told (read {n = n} {m = m} {log = log} f s e p) = inr (f, n, m, log, s, ap told e)

@@ -6,13 +6,12 @@ use native.Mathlib.Omega.{arith}
 use lib.IntN.{pos}
 use lib.ListN.{length, drop, length-map}
 use lib.Seq.{sets}
+use Rattle.std.specs.Prelude.{Ok, Err, Option, Some, None}
 use Rattle.refusal.specs.First.{First}
 use Rattle.refusal.specs.declared.Refusal.TheVariants.{CountsOutside, RoomShort, SheetForm}
-use Rattle.refusal.specs.declared.Verdict.TheVariants.{Passes, Refused}
 use Rattle.refusal.proofs.Laws.{verdicts, given_first, passes_none, none_yet, ◌nor◌}
 use Rattle.record.specs.Layout.{width, count}
-use Rattle.text.specs.declared.Passed.{Passed}
-use Rattle.text.specs.declared.Passed.TheVariants.{To, Bad}
+use Rattle.text.specs.declared.Cursor.{Cursor}
 use Rattle.lines.specs.Kinds.{K}
 use Rattle.lines.specs.Inner.{ReadInto}
 use Rattle.lines.proofs.Cut.{lines_unique}
@@ -23,10 +22,9 @@ use Rattle.heading.specs.Heading.{most_digits}
 use Rattle.logform.specs.LogSheet.{most_log_bytes, NoLogSheet, CountsIn}
 use Rattle.logform.specs.Inner.{LogFormRead, BadLogForm, too_long, no_sheet}
 use Rattle.logform.proofs.Forming.{one_log}
-use Rattle.logsheet.specs.declared.LogSheet.TheVariants as sheet
 use Rattle.logsheet.specs.Outcome.{CountsOut, NoRoom, read_refusals, ReadLogSheet, read}
 
-pub bad_form : {b : List ℕ} (room : ℕ) → BadLogForm b → First (read_refusals b room) (Refused SheetForm)
+pub bad_form : {b : List ℕ} (room : ℕ) → BadLogForm b → First (read_refusals b room) (Err SheetForm)
 unfolding read_refusals
 bad_form room (too_long h) = given_first verdicts none_yet h
 bad_form room (no_sheet size h) = given_first verdicts ((λ k. omega arith) nor none_yet) h
@@ -53,16 +51,16 @@ module _ {b : List ℕ} {n m k at : ℕ} (f : LogFormRead b n m k at) where
       omega arith
 
   -- the lines are in their form, so they are read
-  pub put : (room : List ℕ) {room' : List ℕ} (p : Passed) → ReadInto (LinesOf pos most_digits K width k (drop at b)) (k * width) b room 0 room' p → k * width ≤ length room → room' ≡ f.log ++ drop (length f.log) room
+  pub put : (room : List ℕ) {room' : List ℕ} (p : Option Cursor) → ReadInto (LinesOf pos most_digits K width k (drop at b)) (k * width) b room 0 room' p → k * width ≤ length room → room' ≡ f.log ++ drop (length f.log) room
   unfolding ReadInto
-  put room (To e) q h =
+  put room (Some e) q h =
       let u = lines_unique K width k (map pos q.zs) (map pos f.log) (drop e.at b) [] (length-map q.zs pos ∙ q.count) (length-map f.log pos ∙ f.records.count) (sym q.here.bytes ∙ f.records.lines.bytes) in
       let same = pos_same q.zs f.log u.0 in
       let c = f.records.count in
       q.put ∙ ap (λ ns. sets room 0 ns) same ∙ in_front room f.log (omega arith)
-  put room Bad q h = absurd (q f.log [] f.records.count f.records.lines)
+  put room None q h = absurd (q f.log [] f.records.count f.records.lines)
 
-  pub counts_out : (room : ℕ) → (¬ CountsIn n m k) → First (read_refusals b room) (Refused CountsOutside)
+  pub counts_out : (room : ℕ) → (¬ CountsIn n m k) → First (read_refusals b room) (Err CountsOutside)
   unfolding read_refusals
   counts_out room h = given_first verdicts (not_long nor there nor none_yet) (record { n = n; m = m; log = f.log; sheet = f.sheet; out = rw counted at h })
 
@@ -72,16 +70,13 @@ module _ {b : List ℕ} {n m k at : ℕ} (f : LogFormRead b n m k at) where
         let s = one_log f.sheet o.sheet in
         o.out (rw (s.corners, s.rows, ap count s.numbers) at (rw counted at c))
 
-    pub few_numbers : k ≤ 510
-    few_numbers = let a = c.many in let d = c.fewer in omega arith
-
-    pub room_short : {room : ℕ} → room < k * width → First (read_refusals b room) (Refused RoomShort)
+    pub room_short : {room : ℕ} → room < k * width → First (read_refusals b room) (Err RoomShort)
     unfolding read_refusals
     room_short h = given_first verdicts (not_long nor there nor not_out nor none_yet) (no_room h)
 
-    passes : {room : ℕ} → k * width ≤ room → First (read_refusals b room) Passes
+    passes : {room : ℕ} → k * width ≤ room → First (read_refusals b room) (Ok tt)
     unfolding read_refusals
     passes h = (passes_none verdicts _).1 (not_long nor there nor not_out nor room_enough h nor none_yet)
 
-    pub read_done : {room room' : List ℕ} (p : Passed) → ReadInto (LinesOf pos most_digits K width k (drop at b)) (k * width) b room 0 room' p → k * width ≤ length room → ReadLogSheet b room room' (sheet.Read n m k)
-    read_done {room} p q h = read (passes h) f.sheet (ap (sheet.Read n m) counted) (put room p q h)
+    pub read_done : {room room' : List ℕ} (p : Option Cursor) → ReadInto (LinesOf pos most_digits K width k (drop at b)) (k * width) b room 0 room' p → k * width ≤ length room → ReadLogSheet b room room' (Ok (record { corners = n; rows = m; records = k }))
+    read_done {room} p q h = read (passes h) f.sheet (ap (λ (j : ℕ). Ok (record { corners = n; rows = m; records = j })) counted) (put room p q h)

@@ -8,6 +8,7 @@ use lib.ListN.{length, length-append}
 use mir.Syntax.{w64}
 use mir.Val.{SFits, to_z}
 use mir.ValLaws.{to_z-of_z}
+use Rattle.std.specs.Prelude.{Ok, Err}
 use Rattle.refusal.specs.declared.Refusal.TheVariants.{CountsOutside, RoomShort}
 use Rattle.refusal.proofs.Laws.{verdicts, given_first, passes_none, none_yet, ◌nor◌}
 use Rattle.record.specs.Layout.{width, count}
@@ -17,11 +18,10 @@ use Rattle.lines.specs.Kinds.{K, record_lines}
 use Rattle.lines.proofs.Turns.{in_front}
 use Rattle.writing.proofs.Writing.{Onward, onward_start, onward, onward_end, onward_fits, onward_front}
 use Rattle.logform.specs.LogSheet.{LOG, log_text}
-use Rattle.tell.specs.declared.Answer.TheVariants as written
 use Rattle.lines.proofs.Lengths.{line_length, plain_length}
 use Rattle.logsheet.specs.Outcome.{Writable, write_refusals, WroteLogSheet, unwritten, wrote}
 
-pub not_writable : {n m : ℕ} {log text : List ℕ} → (¬ Writable n m log) → WroteLogSheet n m log text text (written.Refused CountsOutside)
+pub not_writable : {n m : ℕ} {log text : List ℕ} → (¬ Writable n m log) → WroteLogSheet n m log text text (Err CountsOutside)
 unfolding write_refusals
 not_writable h = unwritten (given_first verdicts none_yet h) refl refl
 
@@ -42,9 +42,6 @@ module _ {n m : ℕ} {log : List ℕ} (w : Writable n m log) where
   pub rows_fit : SFits w64 (pos m)
   rows_fit = let h = w.counts.most in record { sfits = omega arith }
 
-  pub few_numbers : length log ≤ 5100
-  few_numbers = let a = w.whole in let b = w.counts.many in let c = w.counts.fewer in omega arith
-
   counts_are : machine_counts ≡ counts
   counts_are = λ i. to_z-of_z w64 (pos n) corners_fit_lem i ∷ to_z-of_z w64 (pos m) rows_fit i ∷ []
 
@@ -56,7 +53,7 @@ module _ {n m : ℕ} {log : List ℕ} (w : Writable n m log) where
         let g = w.whole in
         omega (arith, length-append (line LOG counts) (record_lines k log), line_length LOG counts, plain_length K width k log (omega arith))
 
-    pub too_long : (text : List ℕ) → length text < 4 + 2 * k + (a + b) → WroteLogSheet n m log text text (written.Refused RoomShort)
+    pub too_long : (text : List ℕ) → length text < 4 + 2 * k + (a + b) → WroteLogSheet n m log text text (Err RoomShort)
     unfolding write_refusals
     too_long text h = unwritten (given_first verdicts ((λ none. none w) nor none_yet) (omega (arith, measured))) refl refl
 
@@ -78,10 +75,10 @@ module _ {n m : ℕ} {log : List ℕ} (w : Writable n m log) where
       pub records_fit : r + length (record_lines k log) ≤ length text₁
       records_fit = onward_fits (record_lines k log) after_first open_fits
 
-      pub log_written : {q : ℕ} {text₂ : List ℕ} → Written text₁ r (record_lines k log) q text₂ → WroteLogSheet n m log text text₂ (written.Written q)
+      pub log_written : {q : ℕ} {text₂ : List ℕ} → Written text₁ r (record_lines k log) q text₂ → WroteLogSheet n m log text text₂ (Ok q)
       unfolding write_refusals
       log_written {q} {text₂} v =
           let all : Written text 0 (log_text n m log) q text₂ = onward_end (onward _ (record_lines k log) [] (sym (append-nil (record_lines k log))) after_first v) in
           let a = all.place in
           let e : q ≡ length (log_text n m log) = omega arith in
-          wrote ((passes_none verdicts _).1 ((λ none. none w) nor (λ h. omega arith) nor none_yet)) w (ap written.Written e) (all.text ∙ in_front text (log_text n m log) room)
+          wrote ((passes_none verdicts _).1 ((λ none. none w) nor (λ h. omega arith) nor none_yet)) w (ap Ok e) (all.text ∙ in_front text (log_text n m log) room)

@@ -1,18 +1,14 @@
 -- Reading and writing a log sheet: the refusals in 02's order, and the whole outcome of each.
 -- "Bad form is 12; counts outside limits, a log of more than corners - 4 records, or a number over six digits to be written is 2; short room is 3; tested in that order."
-use Rattle.std.specs.Prelude.{◌≡◌, List, [], ◌∷◌, ◌++◌, map, ℕ, ◌<◌, pos, length, drop}
+use Rattle.std.specs.Prelude.{◌≡◌, List, [], ◌∷◌, ◌++◌, map, ℕ, ◌<◌, pos, length, drop, Result, Ok, Err}
 use Rattle.refusal.specs.First.{Refusals, ◌when◌, First}
 use Rattle.refusal.specs.declared.Refusal.{Refusal}
 use Rattle.refusal.specs.declared.Refusal.TheVariants.{CountsOutside, RoomShort, SheetForm}
-use Rattle.refusal.specs.declared.Verdict.TheVariants as verdict
 use Rattle.record.specs.Layout.{count, WholeRecords}
 use Rattle.lines.specs.Lines.{FewDigits}
 use Rattle.heading.specs.Heading.{most_digits}
 use Rattle.logform.specs.LogSheet.{most_log_bytes, log_text, LogSheetOf, NoLogSheet, CountsIn}
-use Rattle.tell.specs.declared.Answer.{Answer}
-use Rattle.tell.specs.declared.Answer.TheVariants as written
-use Rattle.logsheet.specs.declared.LogSheet.{LogSheet}
-use Rattle.logsheet.specs.declared.LogSheet.TheVariants.{Read, Refused}
+use Rattle.logsheet.specs.declared.LogCounts.{LogCounts}
 
 -- ---- reading
 
@@ -40,11 +36,11 @@ read_refusals b room =
     ∷ []
 
 -- reading a log sheet b with the lent room leaves room', and answers a
-pub data ReadLogSheet (b room room' : List ℕ) (a : LogSheet) : Type 0 where
+pub data ReadLogSheet (b room room' : List ℕ) (a : Result LogCounts Refusal) : Type 0 where
   -- refused: nothing is written
-  refused : {r : Refusal} → First (read_refusals b (length room)) (verdict.Refused r) → a ≡ Refused r → room' ≡ room → ReadLogSheet b room room' a
+  refused : {r : Refusal} → First (read_refusals b (length room)) (Err r) → a ≡ Err r → room' ≡ room → ReadLogSheet b room room' a
   -- done: the log in front of its room, the rest as it was
-  read : {n m : ℕ} {log : List ℕ} → First (read_refusals b (length room)) verdict.Passes → LogSheetOf b n m log → a ≡ Read n m (count log) → room' ≡ log ++ drop (length log) room → ReadLogSheet b room room' a
+  read : {n m : ℕ} {log : List ℕ} → First (read_refusals b (length room)) (Ok tt) → LogSheetOf b n m log → a ≡ Ok (record { corners = n; rows = m; records = count log }) → room' ≡ log ++ drop (length log) room → ReadLogSheet b room room' a
 
 -- ---- writing
 
@@ -61,6 +57,6 @@ write_refusals n m log room =
     ∷ []
 
 -- writing the log sheet of n corners, m rows and a log into the lent text leaves text', and answers a
-pub data WroteLogSheet (n m : ℕ) (log text text' : List ℕ) (a : Answer) : Type 0 where
-  unwritten : {r : Refusal} → First (write_refusals n m log (length text)) (verdict.Refused r) → a ≡ written.Refused r → text' ≡ text → WroteLogSheet n m log text text' a
-  wrote : First (write_refusals n m log (length text)) verdict.Passes → Writable n m log → a ≡ written.Written (length (log_text n m log)) → text' ≡ log_text n m log ++ drop (length (log_text n m log)) text → WroteLogSheet n m log text text' a
+pub data WroteLogSheet (n m : ℕ) (log text text' : List ℕ) (a : Result ℕ Refusal) : Type 0 where
+  unwritten : {r : Refusal} → First (write_refusals n m log (length text)) (Err r) → a ≡ Err r → text' ≡ text → WroteLogSheet n m log text text' a
+  wrote : First (write_refusals n m log (length text)) (Ok tt) → Writable n m log → a ≡ Ok (length (log_text n m log)) → text' ≡ log_text n m log ++ drop (length (log_text n m log)) text → WroteLogSheet n m log text text' a

@@ -32,11 +32,8 @@ pub fn mark(ring: &[u32], m: &mut [u8])
     requires unmarked { Unmarked m.old }
     ensures { Marked ring.now m.new }
 {
-    let mut i: usize = 0;
-    while i < ring.len() {
-        let w = ring[i] as usize;
-        m[w] = 1;
-        i += 1;
+    for w in ring {
+        m[*w as usize] = 1;
     }
 }
 
@@ -45,10 +42,30 @@ pub fn unmark(ring: &[u32], m: &mut [u8])
     requires { Marked ring.now m.old }
     ensures { Unmarked m.new }
 {
-    let mut i: usize = 0;
-    while i < ring.len() {
-        let w = ring[i] as usize;
-        m[w] = 0;
-        i += 1;
+    for w in ring {
+        m[*w as usize] = 0;
+    }
+}
+
+// What the link test works in: room for the neighbours of each corner of an edge, and marks for them, blank while no test runs.
+#[derive(Drop)]
+pub struct Scratch {
+    pub first: [u32; surface::MOST_CORNERS],
+    pub near: [u8; surface::MOST_CORNERS],
+    pub second: [u32; surface::MOST_CORNERS],
+    pub far: [u8; surface::MOST_CORNERS],
+    pub ghost near_unmarked: { Unmarked near },
+    pub ghost far_unmarked: { Unmarked far },
+}
+
+impl Scratch {
+    // Inner: scratch with no mark.
+    pub fn new() -> Self {
+        Scratch {
+            first: [0; surface::MOST_CORNERS],
+            near: [0; surface::MOST_CORNERS],
+            second: [0; surface::MOST_CORNERS],
+            far: [0; surface::MOST_CORNERS],
+        }
     }
 }

@@ -1,15 +1,20 @@
 -- Entries by their numbers, and what is kept of them.
-use mathlib.Core.Path.{◌≡◌, refl, sym, ◌∙◌, ap}
+use mathlib.Core.Path.{◌≡◌, refl, sym, ◌∙◌, ap, subst}
 use mathlib.Core.List.{List, [], ◌∷◌, map}
-use Prim.Native.Nat.{ℕ, zero, suc, ◌≤◌, ◌<◌}
+use Prim.Native.Nat.{ℕ, zero, suc, ◌<◌}
 use native.Mathlib.Omega.{arith}
-use lib.ListN.{length, length-map, get_or}
-use Rattle.jobform.specs.declared.Name.{Name}
-use Rattle.jobform.specs.declared.Name.TheVariants.{Nothing, Number}
+use native.Mathlib.Decide.{ℕ_discrete}
+use borrow.Author.Tests.{ne_eqb}
+use mathlib.Core.Bool.{true}
+use lib.IntN.{pos}
+use lib.ListN.{length, get_or}
+use Rattle.std.specs.Option.{option_eq}
+use Rattle.std.specs.Prelude.{Option, Some, None, nat_eq}
 use Rattle.jobform.specs.declared.Entry.{Entry}
-use Rattle.jobform.specs.Inner.{kept_name_lem}
+use Rattle.refusal.proofs.Tells.{true_false}
 use Rattle.nest.specs.Questions.{At, Every, NameGood, Named}
-use Rattle.nest.specs.Inner.{Earlier}
+use Rattle.nest.specs.Net.{names, told_sum}
+use Rattle.nest.specs.Inner.{told_name, named_in}
 
 pub at_get : {A : Type 0} (f : Entry → A) (d : A) (es : List Entry) (i : ℕ) (e : Entry) → At es i e → get_or (map f es) i d ≡ f e
 at_get f d [] i e a = absurd a
@@ -36,30 +41,53 @@ found [] i h = absurd (omega arith)
 found (x ∷ es) zero h = record { e = x; here = refl }
 found (x ∷ es) (suc i) h = let f = found es i (omega arith) in record { e = f.e; here = f.here }
 
--- ---- names as they are kept
+-- what the code reads at a place, and past the end
+abbrev pub nobody : Entry
+nobody = record { letter = 0; name = None; sum = pos 0 }
 
-pub kept_none : (n : Name) → kept_name_lem n ≡ 0 → n ≡ Nothing
-kept_none Nothing h = refl
-kept_none (Number j) h = absurd (omega arith)
+abbrev pub read : List Entry → ℕ → Entry
+read es i = get_or es i nobody
 
-pub kept_number : (n : Name) (j : ℕ) → kept_name_lem n ≡ suc j → n ≡ Number j
-kept_number Nothing j h = absurd (omega arith)
-kept_number (Number k) j h = let e : k ≡ j = omega arith in ap Number e
+-- at its place it is the entry
+pub here : (es : List Entry) (i : ℕ) → i < length es → At es i (read es i)
+here [] i h = absurd (omega arith)
+here (x ∷ es) zero h = refl
+here (x ∷ es) (suc i) h = here es i (omega arith)
 
-good_kept : (i : ℕ) (n : Name) → NameGood i n → kept_name_lem n ≤ i
-good_kept zero Nothing g = omega arith
-good_kept zero (Number j) g = absurd g
-good_kept (suc i) Nothing g = absurd g
-good_kept (suc i) (Number j) g = omega arith
+-- and what the lines there tell
+read_as : {A : Type 0} (f : Entry → A) (es : List Entry) (i : ℕ) → get_or (map f es) i (f nobody) ≡ f (read es i)
+read_as f [] i = refl
+read_as f (x ∷ es) zero = refl
+read_as f (x ∷ es) (suc i) = read_as f es i
 
--- the name of an entry that is there
-pub name_at : (es : List Entry) (i : ℕ) (e : Entry) → At es i e → get_or (map (λ d. kept_name_lem d.name) es) i 0 ≡ kept_name_lem e.name
-name_at es i e a = at_get (λ d. kept_name_lem d.name) 0 es i e a
+pub sum_read : (es : List Entry) (i : ℕ) → told_sum es i ≡ (read es i).sum
+sum_read es i = read_as (λ d. d.sum) es i
 
--- where every name is good, each is kept below its own place
-pub earlier : (es : List Entry) → Every Named es → Earlier (map (λ e. kept_name_lem e.name) es)
-earlier es good k h =
-    let m = length-map es (λ (e : Entry). kept_name_lem e.name) in
-    let f = found es k (omega (arith, m)) in
-    let g = good_kept k f.e.name (good k f.e f.here) in
-    omega (arith, name_at es k f.e f.here)
+-- ---- names
+
+same_test : (i : ℕ) (n : Option ℕ) → names i n ≡ option_eq nat_eq n (Some i)
+same_test i None = refl
+same_test i (Some j) = refl
+
+-- the test of the code
+pub named_read : (es : List Entry) (i k : ℕ) → named_in es i k ≡ option_eq nat_eq (read es k).name (Some i)
+named_read es i k = ap (names i) (read_as (λ d. d.name) es k) ∙ same_test i (read es k).name
+
+pub name_at : (es : List Entry) (i : ℕ) (e : Entry) → At es i e → told_name es i ≡ e.name
+name_at es i e a = at_get (λ d. d.name) None es i e a
+
+pub names_is : (i : ℕ) (n : Option ℕ) → names i n ≡ true → n ≡ Some i
+names_is i None h = absurd (true_false h refl)
+names_is i (Some j) h = go (ℕ_discrete j i)
+  where
+    go : Dec (j ≡ i) → Some j ≡ Some i
+    go (yes e) = ap Some e
+    go (no n) = absurd (true_false h (ne_eqb j i n))
+
+-- a good name is that of an earlier entry
+pub stands_earlier : (es : List Entry) → Every Named es → (i j : ℕ) → i < length es → (read es i).name ≡ Some j → j < i
+stands_earlier es named i j h n = go i (subst (NameGood i) n (named i (read es i) (here es i h)))
+  where
+    go : (i : ℕ) → NameGood i (Some j) → j < i
+    go zero g = absurd g
+    go (suc i) g = g

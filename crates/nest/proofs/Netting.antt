@@ -1,26 +1,20 @@
 -- The nets of a job that answers every question well: there are such nets, the topmost is one, and it is what the code adds up.
 use mathlib.Core.Path.{◌≡◌, refl, sym, ◌∙◌, ap, subst}
 use mathlib.Core.Bool.{Bool, true, false, cond, ◌&&◌}
-use mathlib.Core.List.{List, [], ◌∷◌, map}
+use mathlib.Core.List.{List, [], ◌∷◌}
 use Prim.Native.Nat.{ℕ, zero, suc, ◌+◌, ◌-◌, ◌≤◌, ◌<◌}
-use native.Mathlib.Decide.{ℕ_discrete}
 use native.Mathlib.Omega.{arith}
-use borrow.Author.Tests.{eq-eqb, ne_eqb}
-use lib.Dec.{eqb}
 use lib.IntN.{ℤ, pos, ◌+ℤ◌, ◌-ℤ◌}
-use lib.ListN.{length, length-map, get_or}
-use Rattle.refusal.proofs.Tells.{true_false}
-use Rattle.jobform.specs.declared.Name.{Name}
-use Rattle.jobform.specs.declared.Name.TheVariants.{Nothing, Number}
+use lib.ListN.{length}
+use Rattle.std.specs.Prelude.{Option, Some, None}
 use Rattle.jobform.specs.declared.Entry.{Entry}
-use Rattle.jobform.specs.Inner.{kept_name_lem}
 use Rattle.nest.specs.declared.Kind.{Kind}
 use Rattle.nest.specs.declared.Kind.TheVariants.{Void, Solid, Other}
 use Rattle.nest.specs.Limits.{most_depth}
 use Rattle.nest.specs.Questions.{kind, At, Every, Marked, NameGood, Named, Alternates, Deep, top, below, Shallow}
 use Rattle.nest.specs.Net.{is_void, is_solid, names, stands, added, Nets, told_sum}
-use Rattle.nest.specs.Inner.{kept_in, net_within}
-use Rattle.nest.proofs.Entries.{at_below, Found, found, kept_number, name_at}
+use Rattle.nest.specs.Inner.{named_in, net_within}
+use Rattle.nest.proofs.Entries.{at_below, Found, found, name_at, names_is}
 
 -- ---- sums over what stands somewhere
 
@@ -43,25 +37,10 @@ added_nothing f (suc m) = ap (λ z. z +ℤ pos 0) (added_nothing f m)
 
 -- ---- who stands where
 
-is_equal : (a b : ℕ) → eqb a b ≡ true → a ≡ b
-is_equal a b h = go (ℕ_discrete a b)
-  where
-    go : Dec (a ≡ b) → a ≡ b
-    go (yes e) = e
-    go (no n) = absurd (true_false h (ne_eqb a b n))
-
 stands_at : (is : Kind → Bool) (es : List Entry) (i k : ℕ) (e : Entry) → At es k e → stands is es i k ≡ is (kind e) && names i e.name
 stands_at is [] i k e a = absurd a
 stands_at is (d ∷ es) i zero e a = ap (λ x. is (kind x) && names i x.name) a
 stands_at is (d ∷ es) i (suc k) e a = stands_at is es i k e a
-
-names_kept : (i : ℕ) (n : Name) → names i n ≡ eqb (kept_name_lem n) (suc i)
-names_kept i Nothing = sym (ne_eqb 0 (suc i) (λ e. (let z = e in omega arith)))
-names_kept i (Number j) = go (ℕ_discrete j i)
-  where
-    go : Dec (j ≡ i) → eqb j i ≡ eqb (suc j) (suc i)
-    go (yes e) = eq-eqb j i e ∙ sym (eq-eqb (suc j) (suc i) (omega arith))
-    go (no n) = ne_eqb j i n ∙ sym (ne_eqb (suc j) (suc i) (λ e. n (omega arith)))
 
 only_second : (b c : Bool) → (c ≡ true → b ≡ true) → b && c ≡ c
 only_second true c h = refl
@@ -76,26 +55,17 @@ pub record Sound (es : List Entry) : Type 0 where
   pub alternates : Every Alternates es
   pub shallow : Every Shallow es
 
-module _ (es : List Entry) where
-  abbrev pub their_names : List ℕ
-  their_names = map (λ e. kept_name_lem e.name) es
+module _ (es : List Entry) (i k : ℕ) (e : Entry) (a : At es k e) where
+  its_name : named_in es i k ≡ names i e.name
+  its_name = ap (names i) (name_at es k e a)
 
-  abbrev pub their_sums : List ℤ
-  their_sums = map (λ e. e.sum) es
-
-  as_many : length their_names ≡ length es
-  as_many = length-map es (λ (e : Entry). kept_name_lem e.name)
-
-  kept_at : (i k : ℕ) (e : Entry) → At es k e → kept_in their_names i k ≡ names i e.name
-  kept_at i k e a = ap (λ (n : ℕ). eqb n (suc i)) (name_at es k e a) ∙ sym (names_kept i e.name)
-
-  -- who is kept with the name of entry i, names it
-  named_by : (i k : ℕ) (e : Entry) → At es k e → kept_in their_names i k ≡ true → e.name ≡ Number i
-  named_by i k e a t = kept_number e.name i (sym (name_at es k e a) ∙ is_equal (get_or their_names k 0) (suc i) t)
+  -- who is told to name entry i, names it
+  named_by : named_in es i k ≡ true → e.name ≡ Some i
+  named_by t = names_is i e.name (sym its_name ∙ t)
 
 module _ {es : List Entry} (s : Sound es) where
   -- of another kind than entry i, so a solid in a void and a void in a solid
-  in_void : (i k : ℕ) (e : Entry) → At es i e → kind e ≡ Void → (d : Entry) → At es k d → d.name ≡ Number i → is_solid (kind d) ≡ true
+  in_void : (i k : ℕ) (e : Entry) → At es i e → kind e ≡ Void → (d : Entry) → At es k d → d.name ≡ Some i → is_solid (kind d) ≡ true
   in_void i k e a v d b n = go (kind d) refl
     where
       go : (x : Kind) → kind d ≡ x → is_solid x ≡ true
@@ -103,7 +73,7 @@ module _ {es : List Entry} (s : Sound es) where
       go Solid q = refl
       go Other q = absurd (s.marked k d b q)
 
-  in_solid : (i k : ℕ) (e : Entry) → At es i e → kind e ≡ Solid → (d : Entry) → At es k d → d.name ≡ Number i → is_void (kind d) ≡ true
+  in_solid : (i k : ℕ) (e : Entry) → At es i e → kind e ≡ Solid → (d : Entry) → At es k d → d.name ≡ Some i → is_void (kind d) ≡ true
   in_solid i k e a v d b n = go (kind d) refl
     where
       go : (x : Kind) → kind d ≡ x → is_void x ≡ true
@@ -111,33 +81,33 @@ module _ {es : List Entry} (s : Sound es) where
       go Solid q = absurd (s.alternates k d b i e n a (q ∙ sym v))
       go Other q = absurd (s.marked k d b q)
 
-  -- so those of that kind directly in it are all that are kept with its name
-  stands_kept : (is : Kind → Bool) (i : ℕ) → ((k : ℕ) (d : Entry) → At es k d → d.name ≡ Number i → is (kind d) ≡ true) → (k : ℕ) → k < length es → stands is es i k ≡ kept_in (their_names es) i k
+  -- so those of that kind directly in it are all that name it
+  stands_kept : (is : Kind → Bool) (i : ℕ) → ((k : ℕ) (d : Entry) → At es k d → d.name ≡ Some i → is (kind d) ≡ true) → (k : ℕ) → k < length es → stands is es i k ≡ named_in es i k
   stands_kept is i all_are k h =
       let f = found es k h in
-      let mine = kept_at es i k f.e f.here in
+      let mine = its_name es i k f.e f.here in
       stands_at is es i k f.e f.here
       ∙ only_second (is (kind f.e)) (names i f.e.name) (λ t. all_are k f.e f.here (named_by es i k f.e f.here (mine ∙ t)))
       ∙ sym mine
 
   module _ (i : ℕ) (e : Entry) (a : At es i e) where
-    solids_kept : kind e ≡ Void → (k : ℕ) → k < length es → stands is_solid es i k ≡ kept_in (their_names es) i k
+    solids_kept : kind e ≡ Void → (k : ℕ) → k < length es → stands is_solid es i k ≡ named_in es i k
     solids_kept v = stands_kept is_solid i (λ k d b n. in_void i k e a v d b n)
 
-    voids_kept : kind e ≡ Solid → (k : ℕ) → k < length es → stands is_void es i k ≡ kept_in (their_names es) i k
+    voids_kept : kind e ≡ Solid → (k : ℕ) → k < length es → stands is_void es i k ≡ named_in es i k
     voids_kept v = stands_kept is_void i (λ k d b n. in_solid i k e a v d b n)
 
   -- ---- deeper and deeper
 
   -- who stands in an entry is one deeper
-  deeper : {i d : ℕ} → Deep es i d → (k : ℕ) (e : Entry) → At es k e → e.name ≡ Number i → Deep es k (suc d)
+  deeper : {i d : ℕ} → Deep es i d → (k : ℕ) (e : Entry) → At es k e → e.name ≡ Some i → Deep es k (suc d)
   deeper p k e a n = below e a n p
 
   -- at the most depth nobody stands in an entry
-  childless : {i d : ℕ} → Deep es i d → most_depth ≤ d → (k : ℕ) → k < length es → kept_in (their_names es) i k ≡ false
-  childless {i} {d} p h k m = go (kept_in (their_names es) i k) refl
+  childless : {i d : ℕ} → Deep es i d → most_depth ≤ d → (k : ℕ) → k < length es → named_in es i k ≡ false
+  childless {i} {d} p h k m = go (named_in es i k) refl
     where
-      go : (b : Bool) → kept_in (their_names es) i k ≡ b → b ≡ false
+      go : (b : Bool) → named_in es i k ≡ b → b ≡ false
       go true t =
           let f = found es k m in
           let over = s.shallow k f.e f.here (suc d) (deeper p k f.e f.here (named_by es i k f.e f.here t)) in
@@ -147,15 +117,14 @@ module _ {es : List Entry} (s : Sound es) where
   -- ---- the nets are what the code adds up
 
   abbrev within : ℕ → ℕ → ℤ
-  within left = net_within left (their_names es) (their_sums es)
+  within left = net_within left es
 
   -- two ways to count inside an entry agree where they agree deeper
-  agree : {i d : ℕ} → Deep es i d → (f g : ℕ → ℤ) → ((k : ℕ) → Deep es k (suc d) → f k ≡ g k) → (p : ℕ → Bool) → ((k : ℕ) → k < length es → p k ≡ kept_in (their_names es) i k) → added f p (length es) ≡ added g (kept_in (their_names es) i) (length (their_names es))
+  agree : {i d : ℕ} → Deep es i d → (f g : ℕ → ℤ) → ((k : ℕ) → Deep es k (suc d) → f k ≡ g k) → (p : ℕ → Bool) → ((k : ℕ) → k < length es → p k ≡ named_in es i k) → added f p (length es) ≡ added g (named_in es i) (length es)
   agree {i} deep f g equal p same =
-      added_agree f g p (kept_in (their_names es) i) (length es) same (λ k h t. (let c = found es k h in equal k (deeper deep k c.e c.here (named_by es i k c.e c.here t))))
-      ∙ ap (added g (kept_in (their_names es) i)) (sym (as_many es))
+      added_agree f g p (named_in es i) (length es) same (λ k h t. (let c = found es k h in equal k (deeper deep k c.e c.here (named_by es i k c.e c.here t))))
 
-  nothing_in : {i d : ℕ} → Deep es i d → most_depth ≤ d → (f : ℕ → ℤ) (p : ℕ → Bool) → ((k : ℕ) → k < length es → p k ≡ kept_in (their_names es) i k) → added f p (length es) ≡ pos 0
+  nothing_in : {i d : ℕ} → Deep es i d → most_depth ≤ d → (f : ℕ → ℤ) (p : ℕ → Bool) → ((k : ℕ) → k < length es → p k ≡ named_in es i k) → added f p (length es) ≡ pos 0
   nothing_in deep h f p same = added_agree f f p (λ k. false) (length es) (λ k m. same k m ∙ childless deep h k m) (λ k m t. refl) ∙ added_nothing f (length es)
 
   -- more depth left than there is changes nothing
@@ -163,18 +132,18 @@ module _ {es : List Entry} (s : Sound es) where
   unfolding net_within
   steady zero i d deep h =
       let own = told_sum es i in
-      let e = ap (added (within 0) (kept_in (their_names es) i)) (as_many es) ∙ nothing_in deep (omega arith) (within 0) (kept_in (their_names es) i) (λ k m. refl) in
+      let e = nothing_in deep (omega arith) (within 0) (named_in es i) (λ k m. refl) in
       ap (λ z. own -ℤ z) (sym e)
   steady (suc left) i d deep h =
       let own = told_sum es i in
-      let e = agree deep (within left) (within (suc left)) (λ k p. steady left k (suc d) p (omega arith)) (kept_in (their_names es) i) (λ k m. refl) in
-      ap (λ z. own -ℤ z) (ap (added (within left) (kept_in (their_names es) i)) (as_many es) ∙ e)
+      let e = agree deep (within left) (within (suc left)) (λ k p. steady left k (suc d) p (omega arith)) (named_in es i) (λ k m. refl) in
+      ap (λ z. own -ℤ z) e
 
   -- any nets are these
   module _ {net : ℕ → ℤ} (nets : Nets es (told_sum es) net) where
     -- by the one sentence or by the other
     data Worked (i : ℕ) : Type 0 where
-      worked : (p : ℕ → Bool) → ((k : ℕ) → k < length es → p k ≡ kept_in (their_names es) i k) → net i ≡ told_sum es i -ℤ added net p (length es) → Worked i
+      worked : (p : ℕ → Bool) → ((k : ℕ) → k < length es → p k ≡ named_in es i k) → net i ≡ told_sum es i -ℤ added net p (length es) → Worked i
 
     work : (i : ℕ) (e : Entry) → At es i e → Worked i
     work i e a = go (kind e) refl
@@ -196,14 +165,14 @@ module _ {es : List Entry} (s : Sound es) where
         go (worked p same e) = e ∙ ap (λ z. told_sum es i -ℤ z) (nothing_in deep (omega arith) net p same)
     net_one (suc left) i d deep h = go (let f = its_entry deep in work i f.e f.here) (λ k p. net_one left k (suc d) p (omega arith))
       where
-        go : Worked i → ((k : ℕ) → Deep es k (suc d) → net k ≡ within left k) → net i ≡ told_sum es i -ℤ added (within left) (kept_in (their_names es) i) (length (their_names es))
+        go : Worked i → ((k : ℕ) → Deep es k (suc d) → net k ≡ within left k) → net i ≡ told_sum es i -ℤ added (within left) (named_in es i) (length es)
         go (worked p same e) equal = e ∙ ap (λ z. told_sum es i -ℤ z) (agree deep net (within left) equal p same)
 
   -- ---- the topmost entry, and the depth of every entry
 
-  first_name : (n : Name) → NameGood 0 n → n ≡ Nothing
-  first_name Nothing g = refl
-  first_name (Number j) g = absurd g
+  first_name : (n : Option ℕ) → NameGood 0 n → n ≡ None
+  first_name None g = refl
+  first_name (Some j) g = absurd g
 
   pub topmost : Deep es 0 1
   topmost = let f = found es 0 s.some in top f.e f.here (first_name f.e.name (s.named 0 f.e f.here))
@@ -217,18 +186,18 @@ module _ {es : List Entry} (s : Sound es) where
   depth_below zero i e a h = absurd (omega arith)
   depth_below (suc n) i e a h = go i e.name refl a (s.named i e a) (λ j f b m. depth_below n j f b m) h
     where
-      go : (i : ℕ) (m : Name) → e.name ≡ m → At es i e → NameGood i e.name → ((j : ℕ) (f : Entry) → At es j f → j < n → Depth j) → i < suc n → Depth i
-      go zero Nothing q a g before h = record { d = 1; deep = top e a q }
-      go zero (Number j) q a g before h = absurd (subst (NameGood 0) q g)
-      go (suc i) Nothing q a g before h = absurd (subst (NameGood (suc i)) q g)
-      go (suc i) (Number j) q a g before h =
+      go : (i : ℕ) (m : Option ℕ) → e.name ≡ m → At es i e → NameGood i e.name → ((j : ℕ) (f : Entry) → At es j f → j < n → Depth j) → i < suc n → Depth i
+      go zero None q a g before h = record { d = 1; deep = top e a q }
+      go zero (Some j) q a g before h = absurd (subst (NameGood 0) q g)
+      go (suc i) None q a g before h = absurd (subst (NameGood (suc i)) q g)
+      go (suc i) (Some j) q a g before h =
           let less : j < suc i = subst (NameGood (suc i)) q g in
           let f = found es j (omega (arith, at_below es (suc i) e a)) in
           let p = before j f.e f.here (omega arith) in
           record { d = suc p.d; deep = below e a q p.deep }
 
   -- there are nets
-  their_nets : (i : ℕ) (e : Entry) → At es i e → (p : ℕ → Bool) → ((k : ℕ) → k < length es → p k ≡ kept_in (their_names es) i k) → within 8 i ≡ told_sum es i -ℤ added (within 8) p (length es)
+  their_nets : (i : ℕ) (e : Entry) → At es i e → (p : ℕ → Bool) → ((k : ℕ) → k < length es → p k ≡ named_in es i k) → within 8 i ≡ told_sum es i -ℤ added (within 8) p (length es)
   unfolding net_within
   their_nets i e a p same =
       let x = depth_below (suc i) i e a (omega arith) in

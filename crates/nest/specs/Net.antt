@@ -1,8 +1,6 @@
 -- The nets of a job: "A void's net is its own exact sum less the nets of the solids directly in it; a solid's net is worked the same way over the
 -- voids in it."
-use Rattle.std.specs.Prelude.{◌≡◌, Bool, true, false, cond, ◌&&◌, List, [], ◌∷◌, map, ℕ, zero, suc, eqb, ℤ, pos, ◌+ℤ◌, ◌-ℤ◌, length, get_or}
-use Rattle.jobform.specs.declared.Name.{Name}
-use Rattle.jobform.specs.declared.Name.TheVariants.{Nothing, Number}
+use Rattle.std.specs.Prelude.{◌≡◌, Bool, true, false, cond, ◌&&◌, List, [], ◌∷◌, map, ℕ, zero, suc, eqb, ℤ, pos, ◌+ℤ◌, ◌-ℤ◌, length, get_or, Option, Some, None}
 use Rattle.jobform.specs.declared.Entry.{Entry}
 use Rattle.nest.specs.declared.Kind.{Kind}
 use Rattle.nest.specs.declared.Kind.TheVariants.{Void, Solid, Other}
@@ -19,9 +17,9 @@ is_solid Solid = true
 is_solid Other = false
 
 -- the name is that of entry i
-abbrev pub names : ℕ → Name → Bool
-names i Nothing = false
-names i (Number j) = eqb j i
+abbrev pub names : ℕ → Option ℕ → Bool
+names i None = false
+names i (Some j) = eqb j i
 
 -- entry k of es is of a kind and stands directly in entry i
 abbrev pub stands : (Kind → Bool) → List Entry → ℕ → ℕ → Bool

@@ -1,7 +1,5 @@
 -- What is asked of a job's entries, one question after another, each of all entries.
-use Rattle.std.specs.Prelude.{◌≡◌, cond, List, [], ◌∷◌, ℕ, zero, suc, ◌≤◌, ◌<◌, eqb, nat_abs, length}
-use Rattle.jobform.specs.declared.Name.{Name}
-use Rattle.jobform.specs.declared.Name.TheVariants.{Nothing, Number}
+use Rattle.std.specs.Prelude.{◌≡◌, cond, List, [], ◌∷◌, ℕ, zero, suc, ◌≤◌, ◌<◌, eqb, nat_abs, length, Option, Some, None}
 use Rattle.jobform.specs.declared.Entry.{Entry}
 use Rattle.jobform.specs.Limits.{most_entries}
 use Rattle.nest.specs.declared.Kind.{Kind}
@@ -42,23 +40,23 @@ abbrev pub Marked : List Entry → ℕ → Entry → Type 0
 Marked es i e = ¬ (kind e ≡ Other)
 
 -- "naming the earlier entry it stands in. Only the first, the topmost, names none"
-abbrev pub NameGood : ℕ → Name → Type 0
-NameGood zero Nothing = Unit
-NameGood zero (Number j) = ⊥
-NameGood (suc i) Nothing = ⊥
-NameGood (suc i) (Number j) = j < suc i
+abbrev pub NameGood : ℕ → Option ℕ → Type 0
+NameGood zero None = Unit
+NameGood zero (Some j) = ⊥
+NameGood (suc i) None = ⊥
+NameGood (suc i) (Some j) = j < suc i
 
 abbrev pub Named : List Entry → ℕ → Entry → Type 0
 Named es i e = NameGood i e.name
 
 -- "Kinds must alternate": an entry is of another kind than the one that it stands in
 abbrev pub Alternates : List Entry → ℕ → Entry → Type 0
-Alternates es i e = (j : ℕ) (d : Entry) → e.name ≡ Number j → At es j d → ¬ (kind e ≡ kind d)
+Alternates es i e = (j : ℕ) (d : Entry) → e.name ≡ Some j → At es j d → ¬ (kind e ≡ kind d)
 
 -- how deep entry i stands: the one that names none at 1, any other one deeper than the entry that it stands in
 pub data Deep (es : List Entry) : ℕ → ℕ → Type 0 where
-  top : {i : ℕ} (e : Entry) → At es i e → e.name ≡ Nothing → Deep es i 1
-  below : {i j d : ℕ} (e : Entry) → At es i e → e.name ≡ Number j → Deep es j d → Deep es i (suc d)
+  top : {i : ℕ} (e : Entry) → At es i e → e.name ≡ None → Deep es i 1
+  below : {i j d : ℕ} (e : Entry) → At es i e → e.name ≡ Some j → Deep es j d → Deep es i (suc d)
 
 -- "nesting is at most 8 deep"
 abbrev pub Shallow : List Entry → ℕ → Entry → Type 0

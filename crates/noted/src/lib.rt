@@ -31,10 +31,8 @@ pub fn note_round(t: &[u32], kept: Corner, at: &mut [usize])
     requires blank { Blank at.old }
     ensures { Round t.now kept.0 at.new }
 {
-    let mut e: usize = 0;
-    while e < t.len() {
+    for e in 0..t.len() {
         note(t, e, kept, at);
-        e += 1;
     }
 }
 
@@ -43,27 +41,12 @@ fn near(at: &[usize], p: Corner) -> bool
     ensures { Tells result (IsNoted at.now p.0) (¬ IsNoted at.now p.0) }
 {
     let i = p.0 as usize;
-    if at.len() <= i {
-        return false;
-    }
-    if at[i] == 0 {
-        return false;
-    }
-    true
+    i < at.len() && at[i] != 0
 }
 
 // Inner: whether x and y are two corners, both noted.
 pub fn two_near(at: &[usize], x: Corner, y: Corner) -> bool
     ensures { Tells result (BothNoted at.now x.0 y.0) (¬ BothNoted at.now x.0 y.0) }
 {
-    if x.0 == y.0 {
-        return false;
-    }
-    if !near(at, x) {
-        return false;
-    }
-    if !near(at, y) {
-        return false;
-    }
-    true
+    x.0 != y.0 && near(at, x) && near(at, y)
 }

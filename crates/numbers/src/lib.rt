@@ -13,28 +13,19 @@ pub fn not_below(t: &[u32], n: usize) -> bool
     requires { Whole t.now }
     ensures { Tells result (NotBelow n (rows t.now)) (Below n (rows t.now)) }
 {
-    let mut i: usize = 0;
-    while i < t.len() {
-        if n <= t[i] as usize {
-            return true;
-        }
-        i += 1;
-    }
-    false
+    t.iter().any(|v| n <= *v as usize)
 }
 
 // Inner: 6, a number twice in a row.
+#[tactic(auto, using(slots::proofs::Slots::next_inside))]
 pub fn twice_in_row(t: &[u32]) -> bool
     requires { Whole t.now }
     ensures { Tells result (TwiceInRow (rows t.now)) (Apart (rows t.now)) }
 {
-    let mut e: usize = 0;
-    while e < t.len() {
-        let k = slots::next(e);
-        if t[e] == t[k] {
+    for e in 0..t.len() {
+        if t[e] == t[slots::next(e)] {
             return true;
         }
-        e += 1;
     }
     false
 }
@@ -46,12 +37,5 @@ pub fn corner_unused(t: &[u32], n: usize, last: &[usize]) -> bool
     requires n_in_bounds { n ≤ length last.now }
     ensures { Tells result (Unused n (rows t.now)) (AllUsed n (rows t.now)) }
 {
-    let mut v: usize = 0;
-    while v < n {
-        if last[v] == 0 {
-            return true;
-        }
-        v += 1;
-    }
-    false
+    last[..n].contains(&0)
 }

@@ -8,6 +8,7 @@ use native.Mathlib.Omega.{arith}
 use lib.IntN.{ℤ, pos}
 use lib.ListN.{length, take, drop, replicate, length-append, length-replicate}
 use lib.Seq.{drop-append-add}
+use Rattle.std.specs.Prelude.{Ok, Result}
 use Rattle.surface.specs.Rows.{Row, rows, flat}
 use Rattle.surface.specs.Stage.{Stage}
 use Rattle.surface.specs.Record.{Record, Replayed}
@@ -22,15 +23,13 @@ use Rattle.record.specs.Layout.{width, log_of, count, room_for}
 use Rattle.record.proofs.Log.{log_length, records_log}
 use Rattle.length.specs.declared.Order.{Order}
 use Rattle.least.specs.Limited.{Allowed}
-use Rattle.thin.specs.declared.Asked.{Asked}
-use Rattle.thin.specs.declared.Thinning.TheVariants as thinning
+use Rattle.thin.specs.Order.{Asked}
 use Rattle.thin.specs.Thin.{Thinned}
 use Rattle.thin.specs.Run.{RunOf}
 use Rattle.thin.proofs.Main.{thinned_run, told_done}
 use Rattle.record.specs.Front.{standing, filled, zeroed}
 use Rattle.record.proofs.Front.{standing_front, zeroed_whole}
-use Rattle.regrow.specs.declared.Regrown.{Regrown}
-use Rattle.regrow.specs.declared.Regrown.TheVariants.{Done}
+use Rattle.regrow.specs.declared.Halt.{Halt}
 use Rattle.regrow.specs.Answer.{told}
 use Rattle.growable.specs.Refusals.{GrowFits, room_need}
 use Rattle.regrow.specs.Outcome.{GrownAs}
@@ -119,22 +118,22 @@ module _ {n : ℕ} {t : List ℕ} {m : List Record} {last : List Row} {t' : List
 
     -- the log after p grown back in any room in which the last stage stands: the rows before it
     pub led_restored_in : {k : ℕ} {room log : List ℕ} → length m ≡ k → log ≡ log_of q → standing (length (rows t) - 2 * k) room ≡ standing (length (rows t) - 2 * k) t' →
-        room_need (length (rows t) - 2 * k) (log_of q) ≤ length room → {a : Regrown} {r : List ℕ} → GrownAs n (length (rows t) - 2 * k) room log a r → (told a ≡ answers.done (pos (length q) ∷ [])) × (r ≡ filled T₁ room)
+        room_need (length (rows t) - 2 * k) (log_of q) ≤ length room → {a : Result ℕ Halt} {r : List ℕ} → GrownAs n (length (rows t) - 2 * k) room log a r → (told a ≡ answers.done (pos (length q) ∷ [])) × (r ≡ filled T₁ room)
     led_restored_in {room = room} c l same h g =
         let s : standing (length last) room ≡ last = rw (rows_left c) at same ∙ stands in
         let o = restores fits (rw (rows_left c) at h) there (rw (records_log q, s) leads_rest) (rw (rows_left c, l) at g) in
-        (ap told (o.0 ∙ ap Done (records_many q)), o.1)
+        (ap told (o.0 ∙ ap Ok (records_many q)), o.1)
 
     -- where its last stage was left: the table before it
-    pub led_restored_from : {k : ℕ} {log : List ℕ} → length m ≡ k → log ≡ log_of q → {a : Regrown} {r : List ℕ} → GrownAs n (length (rows t) - 2 * k) t' log a r →
+    pub led_restored_from : {k : ℕ} {log : List ℕ} → length m ≡ k → log ≡ log_of q → {a : Result ℕ Halt} {r : List ℕ} → GrownAs n (length (rows t) - 2 * k) t' log a r →
         (told a ≡ answers.done (pos (length q) ∷ [])) × (r ≡ zeroed T₁ t)
     led_restored_from c l g = let o = led_restored_in c l refl (rw (rows_left c) enough) g in (o.0, o.1 ∙ filled_left)
 
     -- p replayed on the first table: the stage it leads to
-    pub led_replayed_to : {log : List ℕ} → log ≡ log_of p → {a : Regrown} {r : List ℕ} → ReplayedAs n t log a r → (told a ≡ answers.done (pos (length p) ∷ [])) × (r ≡ zeroed T₁ t)
+    pub led_replayed_to : {log : List ℕ} → log ≡ log_of p → {a : Result ℕ Halt} {r : List ℕ} → ReplayedAs n t log a r → (told a ≡ answers.done (pos (length p) ∷ [])) × (r ≡ zeroed T₁ t)
     led_replayed_to l g =
         let o = replays_whole {T' = T₁} forth w.first (rw (records_log p) begun) (rw l at g) in
-        (ap told (o.0 ∙ ap Done (records_many p)), o.1)
+        (ap told (o.0 ∙ ap Ok (records_many p)), o.1)
       where
         forth : ReplayFits n t (log_of p)
         forth = record {
@@ -144,14 +143,14 @@ module _ {n : ℕ} {t : List ℕ} {m : List Record} {last : List Row} {t' : List
         }
 
   -- the whole log grown back restores the first table, number for number
-  pub led_restored : {k : ℕ} {log : List ℕ} → length m ≡ k → log ≡ log_of m → {a : Regrown} {r : List ℕ} → GrownAs n (length (rows t) - 2 * k) t' log a r →
+  pub led_restored : {k : ℕ} {log : List ℕ} → length m ≡ k → log ≡ log_of m → {a : Result ℕ Halt} {r : List ℕ} → GrownAs n (length (rows t) - 2 * k) t' log a r →
       (told a ≡ answers.done (pos k ∷ [])) × (r ≡ t)
   led_restored c l g =
       let o = led_restored_from [] m refl (no_step refl) c l g in
       (o.0 ∙ ap (λ j. answers.done (pos j ∷ [])) c, o.1 ∙ zeroed_whole t (sym many))
 
   -- and replayed on the first table leaves what it left
-  pub led_replayed : {k : ℕ} {log : List ℕ} → length m ≡ k → log ≡ log_of m → {a : Regrown} {r : List ℕ} → ReplayedAs n t log a r → (told a ≡ answers.done (pos k ∷ [])) × (r ≡ t')
+  pub led_replayed : {k : ℕ} {log : List ℕ} → length m ≡ k → log ≡ log_of m → {a : Result ℕ Halt} {r : List ℕ} → ReplayedAs n t log a r → (told a ≡ answers.done (pos k ∷ [])) × (r ≡ t')
   led_replayed c l g =
       let o = led_replayed_to m [] (sym (append-nil m)) w.leads l g in
       (o.0 ∙ ap (λ j. answers.done (pos j ∷ [])) c, o.1 ∙ sym w.table)
@@ -164,36 +163,36 @@ run_led w = record { whole = w.whole; first = w.skin.stage; leads = taken_replay
 -- the log from record i on, i being how many p are, grown back in any room in which the last stage stands: the rows before record i
 pub restored_in : {d : Asked} {xs : List ℤ} {t l : List ℕ} {k : ℕ} {t' l' : List ℕ} (w : RunOf d xs t l k t' l') (p q : List Record) → w.log ≡ p ++ q →
     {T₁ : List Row} → Taken (Allowed w.b xs) (rows t) p T₁ → {room : List ℕ} → standing (length (rows t) - 2 * k) room ≡ standing (length (rows t) - 2 * k) t' →
-    room_need (length (rows t) - 2 * k) (log_of q) ≤ length room → {a : Regrown} {r : List ℕ} → GrownAs (corners xs) (length (rows t) - 2 * k) room (drop (room_for (length p)) (take (room_for k) l')) a r →
+    room_need (length (rows t) - 2 * k) (log_of q) ≤ length room → {a : Result ℕ Halt} {r : List ℕ} → GrownAs (corners xs) (length (rows t) - 2 * k) room (drop (room_for (length p)) (take (room_for k) l')) a r →
     (told a ≡ answers.done (pos (length q) ∷ [])) × (r ≡ filled T₁ room)
 restored_in w p q e h same enough g = led_restored_in (run_led w) p q e (taken_replayed h) (sym w.count) (rest_log w p q e) same enough g
 
 -- where thinning left its table: the table before record i
 pub restored_from : {d : Asked} {xs : List ℤ} {t l : List ℕ} {k : ℕ} {t' l' : List ℕ} (w : RunOf d xs t l k t' l') (p q : List Record) → w.log ≡ p ++ q →
-    {T₁ : List Row} → Taken (Allowed w.b xs) (rows t) p T₁ → {a : Regrown} {r : List ℕ} → GrownAs (corners xs) (length (rows t) - 2 * k) t' (drop (room_for (length p)) (take (room_for k) l')) a r →
+    {T₁ : List Row} → Taken (Allowed w.b xs) (rows t) p T₁ → {a : Result ℕ Halt} {r : List ℕ} → GrownAs (corners xs) (length (rows t) - 2 * k) t' (drop (room_for (length p)) (take (room_for k) l')) a r →
     (told a ≡ answers.done (pos (length q) ∷ [])) × (r ≡ zeroed T₁ t)
 restored_from w p q e h g = led_restored_from (run_led w) p q e (taken_replayed h) (sym w.count) (rest_log w p q e) g
 
 -- a beginning of the log replayed on the first table: the stage it leads to
 pub replayed_to : {d : Asked} {xs : List ℤ} {t l : List ℕ} {k : ℕ} {t' l' : List ℕ} (w : RunOf d xs t l k t' l') (p q : List Record) → w.log ≡ p ++ q →
-    {T₁ : List Row} → Taken (Allowed w.b xs) (rows t) p T₁ → {a : Regrown} {r : List ℕ} → ReplayedAs (corners xs) t (take (room_for (length p)) l') a r →
+    {T₁ : List Row} → Taken (Allowed w.b xs) (rows t) p T₁ → {a : Result ℕ Halt} {r : List ℕ} → ReplayedAs (corners xs) t (take (room_for (length p)) l') a r →
     (told a ≡ answers.done (pos (length p) ∷ [])) × (r ≡ zeroed T₁ t)
 replayed_to w p q e h g = led_replayed_to (run_led w) p q e (taken_replayed h) (front_log w p q e) g
 
 -- what tells 0 and k records is done with k
-pub as_done : {o : Order} {xs : List ℤ} {t l : List ℕ} {k : ℕ} {t' l' : List ℕ} → DoneWith o xs t l k t' l' → Thinned o xs t l (thinning.Done k) t' l'
+pub as_done : {o : Order} {xs : List ℤ} {t l : List ℕ} {k : ℕ} {t' l' : List ℕ} → DoneWith o xs t l k t' l' → Thinned o xs t l (Ok k) t' l'
 as_done w = rw (told_done w.answer w.tells) at w.thinned
 
 -- what thinning leaves in front is a stage
-pub thinned_leaves : (o : Order) {xs : List ℤ} {t l : List ℕ} {k : ℕ} {t' l' : List ℕ} → Thinned o xs t l (thinning.Done k) t' l' → StageOf (corners xs) (length (rows t) - 2 * k) t'
+pub thinned_leaves : (o : Order) {xs : List ℤ} {t l : List ℕ} {k : ℕ} {t' l' : List ℕ} → Thinned o xs t l (Ok k) t' l' → StageOf (corners xs) (length (rows t) - 2 * k) t'
 thinned_leaves o z = let w = thinned_run z in led_leaves (run_led w) (sym w.count)
 
 -- growing back the whole log of any accepted thinning restores the first table, number for number
-pub restored : (o : Order) {xs : List ℤ} {t l : List ℕ} {k : ℕ} {t' l' : List ℕ} → Thinned o xs t l (thinning.Done k) t' l' → {a : Regrown} {r : List ℕ} →
+pub restored : (o : Order) {xs : List ℤ} {t l : List ℕ} {k : ℕ} {t' l' : List ℕ} → Thinned o xs t l (Ok k) t' l' → {a : Result ℕ Halt} {r : List ℕ} →
     GrownAs (corners xs) (length (rows t) - 2 * k) t' (take (room_for k) l') a r → (told a ≡ answers.done (pos k ∷ [])) × (r ≡ t)
 restored o z g = let w = thinned_run z in led_restored (run_led w) (sym w.count) (whole_log w) g
 
 -- replaying its log on the first table does every record, and leaves what thinning left
-pub replayed : (o : Order) {xs : List ℤ} {t l : List ℕ} {k : ℕ} {t' l' : List ℕ} → Thinned o xs t l (thinning.Done k) t' l' → {a : Regrown} {r : List ℕ} →
+pub replayed : (o : Order) {xs : List ℤ} {t l : List ℕ} {k : ℕ} {t' l' : List ℕ} → Thinned o xs t l (Ok k) t' l' → {a : Result ℕ Halt} {r : List ℕ} →
     ReplayedAs (corners xs) t (take (room_for k) l') a r → (told a ≡ answers.done (pos k ∷ [])) × (r ≡ t')
 replayed o z g = let w = thinned_run z in led_replayed (run_led w) (sym w.count) (whole_log w) g

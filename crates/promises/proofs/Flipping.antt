@@ -9,6 +9,7 @@ use native.Mathlib.Omega.{arith}
 use lib.IntN.{ℤ, pos}
 use lib.ListN.{length, take, length-take, length-reverse}
 use lib.Seq.{take-append-add}
+use Rattle.std.specs.Prelude.{Ok, Err, Result}
 use Rattle.follow.specs.Leads.{Leads}
 use Rattle.follow.specs.Follow.{Call, Followed, all, some, Outcome, refused, followed}
 use Rattle.follow.proofs.Leading.{leads_cut, leads_keep}
@@ -21,7 +22,6 @@ use Rattle.surface.specs.Stage.{Stage}
 use Rattle.surface.specs.InnerStageTable.{StageTable}
 use Rattle.surface.proofs.Flat.{rows_fit, rows_flat}
 use Rattle.corners.specs.Skin.{Skin}
-use Rattle.refusal.specs.declared.Verdict.TheVariants.{Passes}
 use Rattle.refusal.specs.First.{First}
 use Rattle.refusal.specs.Told as answers
 use Rattle.refusal.proofs.Laws.{verdicts, first_one, refused_passes}
@@ -40,8 +40,8 @@ use Rattle.laid.specs.Laid.{count, items, WholeItems, in_front}
 use Rattle.laid.proofs.Laws.{first_length}
 use Rattle.flipped.specs.declared.FlipRefusal.{FlipRefusal}
 use Rattle.flipped.specs.declared.FlipRefusal.TheVariants.{EdgeMissing, UndoFails}
-use Rattle.flipped.specs.declared.Flipped.{Flipped}
-use Rattle.flipped.specs.declared.Flipped.TheVariants.{Done, Stopped}
+use Rattle.flipped.specs.declared.FlipHalt.{FlipHalt}
+use Rattle.flipped.specs.declared.FlipHalt.TheVariants.{Stopped}
 use Rattle.flipped.specs.Answer.{told, stopped, FlipsTold, all_done, some_done, flipped}
 use Rattle.flipped.proofs.Telling.{flipped_apart, finishes, stops as stops_by, did}
 use Rattle.fliplog.specs.Layout.{edge_list, flip_log}
@@ -59,7 +59,7 @@ use Rattle.promises.specs.Flipping.{NoEdgeNamed, first_unused_lem, second_unused
 -- ---- what is accepted
 
 -- so many items done are so many told
-tells : {k : ℕ} {a : Flipped} → following.Did flipped k a → FlipsTold k (told a)
+tells : {k : ℕ} {a : Result ℕ FlipHalt} → following.Did flipped k a → FlipsTold k (told a)
 tells (following.all_done e) = all_done (ap told e)
 tells (following.some_done {r} e) = some_done r (ap told e)
 
@@ -67,9 +67,9 @@ tells (following.some_done {r} e) = some_done r (ap told e)
 pub counts_fit_lem : {n : ℕ} {t : List ℕ} → length t % 3 ≡ 0 → Stage n (rows t) → CountsFit n t
 counts_fit_lem threes s = record { table = record { threes = threes; count = stage_rows s }; count = stage_corners s }
 
-module _ {n : ℕ} {t edges l : List ℕ} {a : Flipped} {t' l' : List ℕ} (w : FlippedAs n t edges l a t' l')
+module _ {n : ℕ} {t edges l : List ℕ} {a : Result ℕ FlipHalt} {t' l' : List ℕ} (w : FlippedAs n t edges l a t' l')
     (threes : length t % 3 ≡ 0) (s : Stage n (rows t)) (whole : WholeItems edge_list edges) (room : flip_room edges ≤ length l) where
-  passes : First (flip_refusals n t edges l) Passes
+  passes : First (flip_refusals n t edges l) (Ok tt)
   passes = flip_passes n t edges l (record { counts = counts_fit_lem threes s; whole = whole }) room s
 
   list_accepted : (k : ℕ) × FlipsTold k (told a)
@@ -82,7 +82,7 @@ module _ {n : ℕ} {t edges l : List ℕ} {a : Flipped} {t' l' : List ℕ} (w : 
       (told a ≡ answers.done (pos (count edge_list edges) ∷ [])) × (t' ≡ flat z.table) × (l' ≡ in_front flip_log z.log l)
   done_whole v =
       let o = flipped_one w (record { outcome = followed (passes, s) (all v refl) refl }) in
-      (ap told (o.0 ∙ ap Done (first_length edge_list (count edge_list edges) edges)), o.1, o.2)
+      (ap told (o.0 ∙ ap Ok (first_length edge_list (count edge_list edges) edges)), o.1, o.2)
 
 -- where all items are told, there are so many
 all_told : {S I R Q A B : Type 0} (c : Call S I R Q A B) → Apart c.answers → {a : A} {b : B} → Outcome c a b → {k : ℕ} → a ≡ c.answers.finished k → k ≡ length c.items
@@ -90,7 +90,7 @@ all_told c x (refused h ea eb) p = absurd (x.refused_finished (sym ea ∙ p))
 all_told c x (followed h (all w e) eb) p = x.finished_one (sym p ∙ e)
 all_told c x (followed h (some done i rest q w f e) eb) p = absurd (x.finished_stopped (sym p ∙ e))
 
-undo_accepted : {n : ℕ} {t log : List ℕ} {a : Flipped} {t' : List ℕ} → length t % 3 ≡ 0 → Stage n (rows t) → WholeItems flip_log log → UndoneAs n t log a t' → (k : ℕ) × FlipsTold k (told a)
+undo_accepted : {n : ℕ} {t log : List ℕ} {a : Result ℕ FlipHalt} {t' : List ℕ} → length t % 3 ≡ 0 → Stage n (rows t) → WholeItems flip_log log → UndoneAs n t log a t' → (k : ℕ) × FlipsTold k (told a)
 undo_accepted {n} {t} {log} threes s whole w = elim (outcome_did (undoing n t log) w.outcome) [
   | inl x ↦ refused_passes (first_one verdicts _ x.1 (undo_passes n t log (record { counts = counts_fit_lem threes s; whole = whole }) s))
   | inr x ↦ (x.1, tells x.2)
@@ -98,7 +98,7 @@ undo_accepted {n} {t} {log} threes s whole w = elim (outcome_did (undoing n t lo
 
 -- ---- where it stops
 
-stopped_by : (r q : FlipRefusal) (j k : ℕ) → Stopped r j ≡ Stopped q k → r ≡ q
+stopped_by : (r q : FlipRefusal) (j k : ℕ) → ◌≡◌ {A = Result ℕ FlipHalt} (Err (Stopped r j)) (Err (Stopped q k)) → r ≡ q
 stopped_by r q j k e = cc
 
 -- where a call stops, its items are parted at one that fails on what is left
@@ -111,7 +111,7 @@ parted c x by {r} {k} {b} o = let z = outcome_stopped c x o in go z.1 z.3 z.2
     go s e (all w p) = absurd (x.finished_stopped (sym p))
     go s e (some before i after {r = r₂} q w f p) = (s, e, before, i, after, q, sym (x.stopped_one p), rw (by r r₂ k (length before) p) f)
 
-list_stops : {n : ℕ} {t edges l : List ℕ} {a : Flipped} {t' l' : List ℕ} → FlippedAs n t edges l a t' l' → (r : FlipRefusal) (k : ℕ) → told a ≡ stopped r k →
+list_stops : {n : ℕ} {t edges l : List ℕ} {a : Result ℕ FlipHalt} {t' l' : List ℕ} → FlippedAs n t edges l a t' l' → (r : FlipRefusal) (k : ℕ) → told a ≡ stopped r k →
     (before : List Arrow) × (x y : ℕ) × (after : List Arrow) × (items edge_list edges ≡ before ++ (x ⇒ y) ∷ after) × (length before ≡ k) × FlipRefused (rows t') x y r
 list_stops {n} {t} {edges} {l} {a} {t'} {l'} w r k p = go (parted (listed n t edges l) flipped_apart stopped_by (rw (stops_by a r k p) at w.outcome))
   where
@@ -120,7 +120,7 @@ list_stops {n} {t} {edges} {l} {a} {t'} {l'} w r k p = go (parted (listed n t ed
         (before : List Arrow) × (x y : ℕ) × (after : List Arrow) × (items edge_list edges ≡ before ++ (x ⇒ y) ∷ after) × (length before ≡ k) × FlipRefused (rows t') x y r
     go (s, e, before, x ⇒ y, after, q, m, f) = (before, x, y, after, q, m, rw (ap (λ (b : TableAndLog). rows b.table) e ∙ rows_flat s.table) f)
 
-log_stops : {n : ℕ} {t log : List ℕ} {a : Flipped} {t' : List ℕ} → UndoneAs n t log a t' → (r : FlipRefusal) (k : ℕ) → told a ≡ stopped r k →
+log_stops : {n : ℕ} {t log : List ℕ} {a : Result ℕ FlipHalt} {t' : List ℕ} → UndoneAs n t log a t' → (r : FlipRefusal) (k : ℕ) → told a ≡ stopped r k →
     (r ≡ UndoFails) × (before : List Flip) × (i : Flip) × (after : List Flip) × (reverse (items flip_log log) ≡ before ++ i ∷ after) × (length before ≡ k) × ((T : List Row) → ¬ Undone n (rows t') i T)
 log_stops {n} {t} {log} {a} {t'} w r k p =
     let z = parted (undoing n t log) flipped_apart stopped_by (rw (stops_by a r k p) at w.outcome) in
@@ -138,16 +138,16 @@ names_stop : {n : ℕ} {T : List Row} (s : Reached) (e : Arrow) → StageKept n 
 names_stop s (x ⇒ y) k m = refusals.missing (names_missing k m) refl
 
 -- where as many flips as stand before it are told, the list stops there
-module _ {n : ℕ} {t edges l : List ℕ} {a : Flipped} {t' l' : List ℕ} (w : FlippedAs n t edges l a t' l') {k : ℕ} (d : FlipsTold k (told a))
+module _ {n : ℕ} {t edges l : List ℕ} {a : Result ℕ FlipHalt} {t' l' : List ℕ} (w : FlippedAs n t edges l a t' l') {k : ℕ} (d : FlipsTold k (told a))
     (before : List Arrow) (e : Arrow) (after : List Arrow) (parts : items edge_list edges ≡ before ++ e ∷ after) (m : NoEdgeNamed (rows t) e) where
-  stops_there : length before ≤ k → a ≡ Stopped EdgeMissing (length before)
+  stops_there : length before ≤ k → a ≡ Err (Stopped EdgeMissing (length before))
   stops_there h =
       let o = outcome_upto (listed n t edges l) flipped_apart (did a d) w.outcome in
       let i : k ≡ length before + (k - length before) = omega arith in
       let c = leads_cut before (rw (ap (take k) parts ∙ ap (λ (j : ℕ). take j (before ++ e ∷ after)) i ∙ take-append-add before (e ∷ after) (k - length before)) at o.2.led) in
       (flipped_one w (record { outcome = followed o.0 (some before e after parts c.1 (names_stop c.0 e (flips_keep n o.0.1 c.1) m) refl) refl })).0
 
-  told_there : a ≡ Stopped EdgeMissing (length before) → k ≡ length before
+  told_there : a ≡ Err (Stopped EdgeMissing (length before)) → k ≡ length before
   told_there p = go (did a d)
     where
       go : following.Did flipped k a → k ≡ length before
@@ -168,13 +168,13 @@ undone_over : {n m : ℕ} {T T' : List Row} {k : Flip} → Stage n T' → Undone
 undone_over s u = rw u.is (undone s (flip_undoable u.stage u.flips))
 
 -- what is refused leaves the table, and what is told keeps the stage, whatever corner count the call was given
-kept_by_list : {n m : ℕ} {t edges l : List ℕ} {a : Flipped} {t' l' : List ℕ} → FlippedAs m t edges l a t' l' → Stage n (rows t) → StageKept n (rows t) (rows t') × (length t' ≡ length t)
+kept_by_list : {n m : ℕ} {t edges l : List ℕ} {a : Result ℕ FlipHalt} {t' l' : List ℕ} → FlippedAs m t edges l a t' l' → Stage n (rows t) → StageKept n (rows t) (rows t') × (length t' ≡ length t)
 kept_by_list {n} {m} {t} {edges} {l} w s = elim (outcome_did (listed m t edges l) w.outcome) [
   | inl x ↦ (let e = (lists.refused_same (rw x.2 at w)).0 in (rw e (kept_none s), ap length e))
   | inr x ↦ (let f = flips_left w (tells x.2) in (flips_keep n s f.flips, f.same_table))
 ]
 
-kept_by_undoing : {n m : ℕ} {t log : List ℕ} {a : Flipped} {t' : List ℕ} → UndoneAs m t log a t' → Stage n (rows t) → StageKept n (rows t) (rows t') × (length t' ≡ length t)
+kept_by_undoing : {n m : ℕ} {t log : List ℕ} {a : Result ℕ FlipHalt} {t' : List ℕ} → UndoneAs m t log a t' → Stage n (rows t) → StageKept n (rows t) (rows t') × (length t' ≡ length t)
 kept_by_undoing {n} {m} {t} {log} w s = elim (outcome_did (undoing m t log) w.outcome) [
   | inl x ↦ (let e = undoes.refused_same (rw x.2 at w) in (rw e (kept_none s), ap length e))
   | inr x ↦ (let f = undone_left w (tells x.2) in

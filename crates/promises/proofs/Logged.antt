@@ -8,7 +8,7 @@ use lib.Seq.{take_at, drop_at}
 use Rattle.surface.specs.Record.{Record}
 use Rattle.record.specs.Layout.{log_of, room_for}
 use Rattle.record.proofs.Log.{log_length, log_append}
-use Rattle.thin.specs.declared.Asked.{Asked}
+use Rattle.thin.specs.Order.{Asked}
 use Rattle.thin.specs.Run.{RunOf}
 
 -- the first records of a log in front of a room

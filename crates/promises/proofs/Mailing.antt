@@ -6,37 +6,34 @@ use native.Mathlib.Omega.{arith}
 use lib.IntN.{ℤ, pos, nat_abs}
 use lib.ListN.{length, length-append, get_or, take, drop}
 use lib.Seq.{take_at}
+use Rattle.std.specs.Prelude.{Result, Ok, Err}
 use Rattle.surface.specs.Rows.{Row, rows}
 use Rattle.surface.specs.Stage.{Stage}
 use Rattle.surface.specs.Record.{Record, Replayed}
 use Rattle.surface.proofs.Main.{four_used}
 use Rattle.engine.proofs.Whole.{used_most}
+use Rattle.refusal.specs.declared.Refusal.{Refusal}
 use Rattle.refusal.specs.Told as answers
 use Rattle.refusal.specs.First.{First}
-use Rattle.refusal.specs.declared.Verdict.TheVariants as verdict
 use Rattle.refusal.proofs.Laws.{verdicts, first_one, refused_passes, passed, passes_none, none_yet, ◌nor◌}
 use Rattle.refusal.proofs.Outcome.{refused_done}
 use Rattle.faults.specs.Counts.{corners}
 use Rattle.run.proofs.Main.{taken_replayed}
 use Rattle.record.specs.Layout.{count, records, log_of, room_for}
 use Rattle.record.proofs.Log.{log_length}
-use Rattle.thin.specs.declared.Asked.{Asked}
+use Rattle.thin.specs.Order.{Asked}
 use Rattle.thin.specs.Run.{RunOf}
 use Rattle.thin.proofs.Main.{thinned_kept, replayed_kept}
-use Rattle.tell.specs.declared.Answer.{Answer}
-use Rattle.tell.specs.declared.Answer.TheVariants as text
 use Rattle.tell.specs.Answer as texts
 use Rattle.reply.proofs.Most.{log_few}
 use Rattle.heading.specs.Heading.{first_line_lem}
 use Rattle.logform.specs.LogSheet.{LOG, most_log_bytes, log_text, LogSheetOf}
 use Rattle.logform.proofs.Forming.{its_line, one_log, only_log_sheet}
-use Rattle.logsheet.specs.declared.LogSheet.{LogSheet}
-use Rattle.logsheet.specs.declared.LogSheet.TheVariants as sheet
+use Rattle.logsheet.specs.declared.LogCounts.{LogCounts}
 use Rattle.logsheet.specs.Answer as logs
 use Rattle.logsheet.specs.Outcome.{ReadLogSheet, refused, read, write_refusals, Writable, WroteLogSheet, unwritten, wrote}
 use Rattle.logsheet.proofs.Main.{its_log_sheet, log_size, written_reads}
-use Rattle.logrecords.specs.declared.Opened.{Opened}
-use Rattle.logrecords.specs.declared.Opened.TheVariants as opens
+use Rattle.heading.specs.declared.Heading.{Heading}
 use Rattle.logrecords.specs.Answer.{told_opened}
 use Rattle.logrecords.specs.Outcome.{open_refusals, OpenedLog, unopened, opened}
 use Rattle.logrecords.specs.Walk.{Walked}
@@ -56,16 +53,16 @@ use Rattle.promises.proofs.Logged.{front_log, rest_log}
 abbrev told_at : ℕ → answers.Told → ℕ
 told_at i v = nat_abs (get_or v.values i (pos 0))
 
-pub wrote_told : (a : Answer) {j : ℕ} → texts.told a ≡ answers.done (pos j ∷ []) → a ≡ text.Written j
-wrote_told (text.Written k) e = ap text.Written (ap (told_at 0) e)
-wrote_told (text.Refused r) e = absurd (refused_done r e)
+pub wrote_told : (a : Result ℕ Refusal) {j : ℕ} → texts.told a ≡ answers.done (pos j ∷ []) → a ≡ Ok j
+wrote_told (Ok k) e = ap Ok (ap (told_at 0) e)
+wrote_told (Err r) e = absurd (refused_done r e)
 
-read_told : (a : LogSheet) {n m k : ℕ} → logs.told a ≡ answers.done (pos n ∷ pos m ∷ pos k ∷ []) → a ≡ sheet.Read n m k
-read_told (sheet.Read x y z) e = λ i. sheet.Read (told_at 0 (e i)) (told_at 1 (e i)) (told_at 2 (e i))
-read_told (sheet.Refused r) e = absurd (refused_done r e)
+read_told : (a : Result LogCounts Refusal) {n m k : ℕ} → logs.told a ≡ answers.done (pos n ∷ pos m ∷ pos k ∷ []) → a ≡ Ok (record { corners = n; rows = m; records = k })
+read_told (Ok c) e = λ i. Ok (record { corners = told_at 0 (e i); rows = told_at 1 (e i); records = told_at 2 (e i) })
+read_told (Err r) e = absurd (refused_done r e)
 
 -- the bytes that were written are the log sheet of the counts and the log
-pub written_sheet : {n m j : ℕ} {log txt txt' : List ℕ} → WroteLogSheet n m log txt txt' (text.Written j) → LogSheetOf (take j txt') n m log
+pub written_sheet : {n m j : ℕ} {log txt txt' : List ℕ} → WroteLogSheet n m log txt txt' (Ok j) → LogSheetOf (take j txt') n m log
 written_sheet (unwritten f e p) = let z : ◌≡◌ {A = ℕ} 0 1 = cc in absurd (omega arith)
 written_sheet {n} {m} {j} {log} {txt} {txt'} (wrote f w e p) = rw same (its_log_sheet w)
   where
@@ -76,12 +73,12 @@ written_sheet {n} {m} {j} {log} {txt} {txt'} (wrote f w e p) = rw same (its_log_
     same = ap (take j) p ∙ take_at (log_text n m log) (drop (length (log_text n m log)) txt) j (sym long)
 
 -- which could be written
-pub written_can : {n m j : ℕ} {log txt txt' : List ℕ} → WroteLogSheet n m log txt txt' (text.Written j) → Writable n m log
+pub written_can : {n m j : ℕ} {log txt txt' : List ℕ} → WroteLogSheet n m log txt txt' (Ok j) → Writable n m log
 written_can (unwritten f e p) = let z : ◌≡◌ {A = ℕ} 0 1 = cc in absurd (omega arith)
 written_can (wrote f w e p) = w
 
 -- and have the size of one
-pub written_size : {n m j : ℕ} {log txt txt' : List ℕ} → WroteLogSheet n m log txt txt' (text.Written j) → length (take j txt') ≤ most_log_bytes
+pub written_size : {n m j : ℕ} {log txt txt' : List ℕ} → WroteLogSheet n m log txt txt' (Ok j) → length (take j txt') ≤ most_log_bytes
 written_size (unwritten f e p) = let z : ◌≡◌ {A = ℕ} 0 1 = cc in absurd (omega arith)
 written_size {n} {m} {j} {log} {txt} {txt'} (wrote f w e p) =
     let same : take j txt' ≡ log_text n m log = (written_sheet {txt = txt} (wrote f w e p)).text in rw same (log_size w)
@@ -94,13 +91,13 @@ record HasRead (b room' : List ℕ) (n m k : ℕ) : Type 0 where
   stands : take (room_for k) room' ≡ log
 
 -- from the answer, the sheet and what is left
-held : (room : List ℕ) {b room' : List ℕ} {n m k x y : ℕ} {log : List ℕ} (a : LogSheet) → LogSheetOf b x y log → a ≡ sheet.Read x y (count log) → room' ≡ log ++ drop (length log) room →
+held : (room : List ℕ) {b room' : List ℕ} {n m k x y : ℕ} {log : List ℕ} (a : Result LogCounts Refusal) → LogSheetOf b x y log → a ≡ Ok (record { corners = x; rows = y; records = count log }) → room' ≡ log ++ drop (length log) room →
     logs.told a ≡ answers.done (pos n ∷ pos m ∷ pos k ∷ []) → HasRead b room' n m k
 held room {b} {room'} {n} {m} {k} {x} {y} {log} a s e p t =
-    let g : sheet.Read x y (count log) ≡ sheet.Read n m k = sym e ∙ read_told a t in
-    let hx : x ≡ n = cc in
-    let hy : y ≡ m = cc in
-    let hk : k ≡ count log = cc in
+    let g = sym (ap logs.told e) ∙ t in
+    let hx : x ≡ n = ap (told_at 0) g in
+    let hy : y ≡ m = ap (told_at 1) g in
+    let hk : k ≡ count log = sym (ap (told_at 2) g) in
     let w = s.whole in
     record {
       log = log;
@@ -109,11 +106,11 @@ held room {b} {room'} {n} {m} {k} {x} {y} {log} a s e p t =
       stands = ap (take (room_for k)) p ∙ take_at log (drop (length log) room) (room_for k) (omega (arith, hk, w));
     }
 
-has_read : {b room room' : List ℕ} {n m k : ℕ} {a : LogSheet} → ReadLogSheet b room room' a → logs.told a ≡ answers.done (pos n ∷ pos m ∷ pos k ∷ []) → HasRead b room' n m k
+has_read : {b room room' : List ℕ} {n m k : ℕ} {a : Result LogCounts Refusal} → ReadLogSheet b room room' a → logs.told a ≡ answers.done (pos n ∷ pos m ∷ pos k ∷ []) → HasRead b room' n m k
 has_read (refused {r = r} f e p) t = absurd (refused_done r (sym (ap logs.told e) ∙ t))
 has_read {room = room} {a = a} (read f s e p) t = held room a s e p t
 
-has_each : {b room room' : List ℕ} {n m k : ℕ} {a : LogSheet} → EachRecord b room room' a → logs.told a ≡ answers.done (pos n ∷ pos m ∷ pos k ∷ []) → HasRead b room' n m k
+has_each : {b room room' : List ℕ} {n m k : ℕ} {a : Result LogCounts Refusal} → EachRecord b room room' a → logs.told a ≡ answers.done (pos n ∷ pos m ∷ pos k ∷ []) → HasRead b room' n m k
 has_each (asking.unread {r = r} f e p) t = absurd (refused_done r (sym (ap logs.told e) ∙ t))
 has_each {room = room} {a = a} (asking.each f s e p) t = held room a s e p t
 
@@ -125,8 +122,8 @@ mailed_same {n} {m} {log} w =
     let o = one_log h.sheet s in
     (o.corners, o.rows, w.log_is ∙ h.stands ∙ o.numbers)
 
-written_back : {n m j : ℕ} {log txt txt' : List ℕ} {a : Answer} → WroteLogSheet n m log txt txt' a → texts.told a ≡ answers.done (pos j ∷ []) →
-    {room room' : List ℕ} {z : LogSheet} → length log ≤ length room → ReadLogSheet (take j txt') room room' z →
+written_back : {n m j : ℕ} {log txt txt' : List ℕ} {a : Result ℕ Refusal} → WroteLogSheet n m log txt txt' a → texts.told a ≡ answers.done (pos j ∷ []) →
+    {room room' : List ℕ} {z : Result LogCounts Refusal} → length log ≤ length room → ReadLogSheet (take j txt') room room' z →
     (logs.told z ≡ answers.done (pos n ∷ pos m ∷ pos (count log) ∷ [])) × (room' ≡ log ++ drop (length log) room)
 written_back {n} {m} {log = log} {txt} {txt'} {a} w tells fits r =
     let o = written_reads (subst (λ x. WroteLogSheet n m log txt txt' x) (wrote_told a tells) w) fits r in
@@ -135,7 +132,7 @@ written_back {n} {m} {log = log} {txt} {txt'} {a} w tells fits r =
 -- ---- the log of a thinning can be mailed
 
 -- what can be written is written where as many bytes are lent as a log sheet may have
-pub can_write : {n m : ℕ} {log txt txt' : List ℕ} {a : Answer} → Writable n m log → most_log_bytes ≤ length txt → WroteLogSheet n m log txt txt' a → (j : ℕ) × (texts.told a ≡ answers.done (pos j ∷ []))
+pub can_write : {n m : ℕ} {log txt txt' : List ℕ} {a : Result ℕ Refusal} → Writable n m log → most_log_bytes ≤ length txt → WroteLogSheet n m log txt txt' a → (j : ℕ) × (texts.told a ≡ answers.done (pos j ∷ []))
 unfolding write_refusals
 can_write w h (unwritten f g same) = refused_passes (first_one verdicts _ f ((passes_none verdicts _).1 ((λ no. no w) nor (λ short. omega (arith, log_size w, short, h)) nor none_yet)))
 can_write {n} {m} {log} w h (wrote f v g same) = (length (log_text n m log), ap texts.told g)
@@ -176,11 +173,11 @@ module _ {d : Asked} {xs : List ℤ} {t l : List ℕ} {k : ℕ} {t' l' : List �
 -- ---- one by one
 
 -- a sheet that is opened with some counts
-opens_at : {b : List ℕ} {n m : ℕ} {log : List ℕ} {c : Opened} → First (open_refusals b) verdict.Passes → LogSheetOf b n m log → OpenedLog b c → c ≡ opens.At n m (record { at = length (first_line_lem LOG n m) })
+opens_at : {b : List ℕ} {n m : ℕ} {log : List ℕ} {c : Result Heading Refusal} → First (open_refusals b) (Ok tt) → LogSheetOf b n m log → OpenedLog b c → c ≡ Ok (record { corners = n; rows = m; after = record { at = length (first_line_lem LOG n m) } })
 opens_at f s o = opened_one o (opened f (record { rest = _; line = its_line s }) refl)
 
 -- what passes the reading record by record is opened
-each_opens : (b : List ℕ) (room : ℕ) → First (each_refusals b room) verdict.Passes → First (open_refusals b) verdict.Passes
+each_opens : (b : List ℕ) (room : ℕ) → First (each_refusals b room) (Ok tt) → First (open_refusals b) (Ok tt)
 unfolding each_refusals open_refusals
 each_opens b room f =
     let a = passed verdicts _ _ f in
@@ -188,14 +185,14 @@ each_opens b room f =
     let d = passed verdicts _ _ c.1 in
     (passes_none verdicts _).1 (a.0 nor c.0 nor d.0 nor none_yet)
 
-walks_each : {n m k : ℕ} {b room room' : List ℕ} {a : LogSheet} {c : Opened} → EachRecord b room room' a → logs.told a ≡ answers.done (pos n ∷ pos m ∷ pos k ∷ []) → OpenedLog b c →
+walks_each : {n m k : ℕ} {b room room' : List ℕ} {a : Result LogCounts Refusal} {c : Result Heading Refusal} → EachRecord b room room' a → logs.told a ≡ answers.done (pos n ∷ pos m ∷ pos k ∷ []) → OpenedLog b c →
     (at : ℕ) × (told_opened c ≡ answers.done (pos n ∷ pos m ∷ pos at ∷ [])) × Walked b at (records (take (room_for k) room'))
 walks_each (asking.unread {r = r} f e p) t o = absurd (refused_done r (sym (ap logs.told e) ∙ t))
 walks_each {n} {m} {k} {b} {room} {room'} (asking.each f s e p) t o =
     let h = has_each (asking.each f s e p) t in
     (length (first_line_lem LOG n m), ap told_opened (opens_at (each_opens b (length room) f) h.sheet o), rw h.stands (walked_through h.sheet))
 
-walks : {n m k : ℕ} {b room room' : List ℕ} {a : LogSheet} {c : Opened} → ReadLogSheet b room room' a → logs.told a ≡ answers.done (pos n ∷ pos m ∷ pos k ∷ []) → OpenedLog b c →
+walks : {n m k : ℕ} {b room room' : List ℕ} {a : Result LogCounts Refusal} {c : Result Heading Refusal} → ReadLogSheet b room room' a → logs.told a ≡ answers.done (pos n ∷ pos m ∷ pos k ∷ []) → OpenedLog b c →
     (at : ℕ) × (told_opened c ≡ answers.done (pos n ∷ pos m ∷ pos at ∷ [])) × Walked b at (records (take (room_for k) room'))
 walks (refused {r = r} f e p) t o = absurd (refused_done r (sym (ap logs.told e) ∙ t))
 walks {n} {m} {k} {b} {room} {room'} (read f s e p) t o =
@@ -203,7 +200,7 @@ walks {n} {m} {k} {b} {room} {room'} (read f s e p) t o =
     (length (first_line_lem LOG n m), ap told_opened (opens_at (open_passes h.sheet (length room) f) h.sheet o), rw h.stands (walked_through h.sheet))
 
 -- the place after the first line
-opened_place : {b : List ℕ} {n m at : ℕ} {c : Opened} → OpenedLog b c → told_opened c ≡ answers.done (pos n ∷ pos m ∷ pos at ∷ []) → at ≡ length (first_line_lem LOG n m)
+opened_place : {b : List ℕ} {n m at : ℕ} {c : Result Heading Refusal} → OpenedLog b c → told_opened c ≡ answers.done (pos n ∷ pos m ∷ pos at ∷ []) → at ≡ length (first_line_lem LOG n m)
 opened_place (unopened {r = r} f e) t = absurd (refused_done r (sym (ap told_opened e) ∙ t))
 opened_place (opened {n = x} {m = y} f s e) t =
     let g = sym (ap told_opened e) ∙ t in
@@ -212,7 +209,7 @@ opened_place (opened {n = x} {m = y} f s e) t =
     sym (ap (told_at 2) g) ∙ (λ i. length (first_line_lem LOG (hx i) (hy i)))
 
 -- record by record
-each_too : {b room room₁ room₂ : List ℕ} {n m k : ℕ} {a z : LogSheet} → ReadLogSheet b room room₁ a → logs.told a ≡ answers.done (pos n ∷ pos m ∷ pos k ∷ []) → EachRecord b room room₂ z →
+each_too : {b room room₁ room₂ : List ℕ} {n m k : ℕ} {a z : Result LogCounts Refusal} → ReadLogSheet b room room₁ a → logs.told a ≡ answers.done (pos n ∷ pos m ∷ pos k ∷ []) → EachRecord b room room₂ z →
     (logs.told z ≡ answers.done (pos n ∷ pos m ∷ pos k ∷ [])) × (room₂ ≡ room₁)
 each_too {b} {room} {room₁} {a = a} r t x = let o = each_as_read (subst (λ y. ReadLogSheet b room room₁ y) (read_told a t) r) x in (ap logs.told o.0, o.1)
 

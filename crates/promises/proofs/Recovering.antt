@@ -8,17 +8,17 @@ use native.Mathlib.Omega.{arith}
 use lib.IntN.{ℤ, pos}
 use lib.ListN.{length, length-append, take, drop, take-append-drop}
 use lib.Seq.{take_at, drop_at, length-take-le}
+use Rattle.std.specs.Prelude.{Ok, Err, Result, Some}
 use Rattle.follow.specs.Follow.{all}
 use Rattle.follow.proofs.Leading.{leads_one, leads_on, leads_cut}
 use Rattle.follow.proofs.Following.{followed_one}
 use Rattle.surface.specs.Rows.{Row, rows}
 use Rattle.surface.specs.Record.{Record, Replayed}
 use Rattle.surface.proofs.Main.{left}
+use Rattle.refusal.specs.declared.Refusal.{Refusal}
 use Rattle.refusal.specs.Told as answers
 use Rattle.refusal.specs.First.{First}
 use Rattle.refusal.specs.declared.Refusal.TheVariants.{RecordFails, SheetForm}
-use Rattle.refusal.specs.declared.Verdict.TheVariants.{Passes}
-use Rattle.refusal.specs.declared.Verdict.TheVariants as verdict
 use Rattle.refusal.proofs.Laws.{verdicts, given_first, first_one, refused_passes, none_yet, ◌nor◌}
 use Rattle.faults.specs.Counts.{corners}
 use Rattle.run.specs.Run.{Taken}
@@ -30,15 +30,13 @@ use Rattle.record.proofs.Places.{records_length}
 use Rattle.length.specs.declared.Order.{Order}
 use Rattle.length.specs.declared.Order.TheVariants.{Limit}
 use Rattle.length.specs.declared.Length.{Length}
-use Rattle.length.specs.declared.Reading.TheVariants.{Whole}
 use Rattle.length.specs.Limit.{limit_of}
 use Rattle.least.specs.Limited.{Allowed}
-use Rattle.thin.specs.declared.Asked.{Asked}
-use Rattle.thin.specs.Order.{asked_by, asked}
+use Rattle.thin.specs.Order.{Asked, asked_by, asked}
 use Rattle.thin.specs.Thin.{thin_refusals}
 use Rattle.thin.specs.Run.{RunOf, KeptAfter}
 use Rattle.thin.proofs.Main.{under_one, thinned_run, thinned_kept, replayed_kept}
-use Rattle.regrow.specs.declared.Regrown.{Regrown}
+use Rattle.regrow.specs.declared.Halt.{Halt}
 use Rattle.regrow.specs.Answer as regrowths
 use Rattle.regrow.proofs.Counted.{regrown_apart}
 use Rattle.replay.specs.Outcome.{replaying, ReplayedAs}
@@ -48,14 +46,11 @@ use Rattle.shift.specs.declared.Shifted.{Shifted}
 use Rattle.shift.specs.Answer as shifts
 use Rattle.shift.specs.Report.{ShiftReport, Bounded}
 use Rattle.shift.proofs.Main.{log_shift_bound}
-use Rattle.tell.specs.declared.Answer.TheVariants as text
 use Rattle.logform.specs.LogSheet.{most_log_bytes}
 use Rattle.logsheet.specs.Outcome.{WroteLogSheet}
 use Rattle.logcut.specs.Cut.{newlines, CutOf, cut_refusals}
 use Rattle.logcut.proofs.Ending.{one_cut, cut_passes}
 use Rattle.logcut.proofs.Cutting.{cut_newlines, none_whole, CutAfter, inside_first, after, sheet_cut}
-use Rattle.recover.specs.declared.Recovered.{Recovered}
-use Rattle.recover.specs.declared.Recovered.TheVariants.{Refused}
 use Rattle.recover.specs.Answer.{told}
 use Rattle.recover.specs.Outcome.{RecoveredBy, refused, stopped, done}
 use Rattle.recover.specs.Run.{RecoveryOf, StoppedOf}
@@ -109,7 +104,7 @@ module _ {a : Asked} {xs : List ℤ} {t l b : List ℕ} {k j : ℕ} {t' l' : Lis
       let m = w.many in
       ap (drop (room_for k)) w.logged ∙ drop_at w.kept (log_of w.added ++ drop (room_for j) l) (room_for k) (omega arith)
 
-  hands : {a : Regrown} {r : List ℕ} → ReplayedAs (corners xs) t w.kept a r → (regrowths.told a ≡ answers.done (pos k ∷ [])) × (r ≡ zeroed w.handed t)
+  hands : {a : Result ℕ Halt} {r : List ℕ} → ReplayedAs (corners xs) t w.kept a r → (regrowths.told a ≡ answers.done (pos k ∷ [])) × (r ≡ zeroed w.handed t)
   hands g =
       let o = led_replayed_to whole_led (records w.kept) w.added refl w.led (logged w.kept w.cut.sheet.whole) g in
       (o.0 ∙ ap (λ i. answers.done (pos i ∷ [])) (records_length w.kept ∙ sym w.many), o.1)
@@ -117,8 +112,8 @@ module _ {a : Asked} {xs : List ℤ} {t l b : List ℕ} {k j : ℕ} {t' l' : Lis
   keeps : (p q : List Record) → w.added ≡ p ++ q → (T₁ : List Row) × Taken (Allowed w.bound xs) w.handed p T₁ × KeptAfter (corners xs) (rows t) (records w.kept ++ p) T₁
   keeps p q e = let c = taken_cut p (rw e at w.run.taken) in (c.0, c.1, replayed_kept w.skin.stage (leads_on w.led (taken_replayed c.1)))
 
-added_shifts : (d : Length) {L : ℕ} → limit_of d ≡ Whole L → {xs : List ℤ} {t l b : List ℕ} {k j : ℕ} {t' l' : List ℕ} (w : RecoveryOf (asked (Limit d)) xs t l b k j t' l') (p q : List Record) → w.added ≡ p ++ q →
-    (v : ℕ) → v < corners xs → (a : Shifted) → ShiftReport xs (take (room_for (length p)) (drop (room_for k) l')) v (shifts.told a) → Bounded L a
+added_shifts : (d : Length) {L : ℕ} → limit_of d ≡ Some L → {xs : List ℤ} {t l b : List ℕ} {k j : ℕ} {t' l' : List ℕ} (w : RecoveryOf (asked (Limit d)) xs t l b k j t' l') (p q : List Record) → w.added ≡ p ++ q →
+    (v : ℕ) → v < corners xs → (a : Result Shifted Refusal) → ShiftReport xs (take (room_for (length p)) (drop (room_for k) l')) v (shifts.told a) → Bounded L a
 added_shifts d {L} read {xs} {l = l} {j = j} w p q e v h a r =
     log_shift_bound L (replayed_stage w.skin.stage w.led) w.skin.corners w.skin.in_range (within xs (sym (ap asked_by read) ∙ w.under)) p q (rw e at w.run.taken) h a
     (rw (front_of w.added (drop (room_for j) l) (added_stands w) p q e) at r)
@@ -138,17 +133,17 @@ module _ {xs : List ℤ} {t l b : List ℕ} {k : ℕ} {t' l' : List ℕ} (w : St
 -- ---- a cut inside the first line
 
 -- without a newline it is 12, whatever its size
-no_lines : (b : List ℕ) (n m : ℕ) → newlines b ≡ 0 → First (cut_refusals b n m) (verdict.Refused SheetForm)
+no_lines : (b : List ℕ) (n m : ℕ) → newlines b ≡ 0 → First (cut_refusals b n m) (Err SheetForm)
 unfolding cut_refusals
 no_lines b n m h = go (dec_lt most_log_bytes (length b))
   where
-    go : Dec (most_log_bytes < length b) → First (cut_refusals b n m) (verdict.Refused SheetForm)
+    go : Dec (most_log_bytes < length b) → First (cut_refusals b n m) (Err SheetForm)
     go (yes l) = given_first verdicts none_yet l
     go (no l) = given_first verdicts (l nor none_yet) (none_whole h)
 
-first_cut : (o : Order) {xs : List ℤ} {t l b : List ℕ} {a : Recovered} {t' l' : List ℕ} → newlines b ≡ 0 → First (thin_refusals (asked o) xs t (length l)) Passes → RecoveredBy o xs t l b a t' l' → told a ≡ answers.refused_as 12
+first_cut : (o : Order) {xs : List ℤ} {t l b : List ℕ} {a : Result (ℕ × ℕ) Halt} {t' l' : List ℕ} → newlines b ≡ 0 → First (thin_refusals (asked o) xs t (length l)) (Ok tt) → RecoveredBy o xs t l b a t' l' → told a ≡ answers.refused_as 12
 first_cut o {xs} {t} {l} {b} h f w =
-    ap told (recovered_one w (refused {e = SheetForm} (cut_decides (asked o) xs t l b f (verdict.Refused SheetForm) (no_lines b (corners xs) (length (rows t)) h)) refl refl refl)).0
+    ap told (recovered_one w (refused {e = SheetForm} (cut_decides (asked o) xs t l b f (Err SheetForm) (no_lines b (corners xs) (length (rows t)) h)) refl refl refl)).0
 
 -- ---- a log that leads on from the skin, cut
 
@@ -161,7 +156,7 @@ record Survived (xs : List ℤ) (t log b : List ℕ) (i : ℕ) : Type 0 where
   are : records (take (room_for i) log) ≡ take i (records log)
 
 module _ {xs : List ℤ} {t log b : List ℕ} (c : CutShort xs t log b) where
-  wrote : WroteLogSheet (corners xs) (length (rows t)) log c.text c.text' (text.Written c.bytes)
+  wrote : WroteLogSheet (corners xs) (length (rows t)) log c.text c.text' (Ok c.bytes)
   wrote = rw (wrote_told c.written c.writes) at c.wrote
 
   -- what survived is no longer than what was written
@@ -205,8 +200,8 @@ module _ {xs : List ℤ} {t log b : List ℕ} (c : CutShort xs t log b) where
     kept_are cut = ap records (one_cut cut s.cut).numbers ∙ s.are
 
     -- recovery is done, under any order that thinning takes
-    pub taken_up : (o : Order) {l t' l' : List ℕ} {a : Recovered} → First (thin_refusals (asked o) xs t (length l)) Passes → RecoveredBy o xs t l b a t' l' → (j : ℕ) × (told a ≡ answers.done (pos i ∷ pos j ∷ []))
-    taken_up o {l} p (refused f er et el) = refused_passes (first_one verdicts _ f (cut_decides (asked o) xs t l b p Passes (cut_passes s.cut s.size s.few)))
+    pub taken_up : (o : Order) {l t' l' : List ℕ} {a : Result (ℕ × ℕ) Halt} → First (thin_refusals (asked o) xs t (length l)) (Ok tt) → RecoveredBy o xs t l b a t' l' → (j : ℕ) × (told a ≡ answers.done (pos i ∷ pos j ∷ []))
+    taken_up o {l} p (refused f er et el) = refused_passes (first_one verdicts _ f (cut_decides (asked o) xs t l b p (Ok tt) (cut_passes s.cut s.size s.few)))
     taken_up o p (stopped {log = kept} f z c w er et el) =
         let led : Replayed (rows t) (records kept) to.0 = rw (kept_are c) to.1 in
         let g = followed_one (replaying (corners xs) t kept) (replaying_plain (corners xs) t kept) w (all led refl) in
@@ -230,7 +225,7 @@ module _ {d : Asked} {xs : List ℤ} {t l : List ℕ} {k : ℕ} {t' l' : List �
   run_leads = rw run_records (taken_replayed u.run.taken)
 
   module _ {i : ℕ} (h : newlines b ≡ suc i) where
-    pub honest_done : (o₂ : Order) {l₂ t₂ l₂' : List ℕ} {a : Recovered} → First (thin_refusals (asked o₂) xs t (length l₂)) Passes → RecoveredBy o₂ xs t l₂ b a t₂ l₂' →
+    pub honest_done : (o₂ : Order) {l₂ t₂ l₂' : List ℕ} {a : Result (ℕ × ℕ) Halt} → First (thin_refusals (asked o₂) xs t (length l₂)) (Ok tt) → RecoveredBy o₂ xs t l₂ b a t₂ l₂' →
         (j : ℕ) × (told a ≡ answers.done (pos i ∷ pos j ∷ []))
     honest_done o₂ p w = taken_up c run_leads h o₂ p w
 

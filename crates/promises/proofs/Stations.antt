@@ -4,8 +4,8 @@ use mathlib.Core.List.{List, [], ◌∷◌}
 use Prim.Native.Nat.{ℕ, ◌≤◌}
 use lib.IntN.{ℤ, pos, ◌+ℤ◌, ◌-ℤ◌, ◌*ℤ◌, nat_abs}
 use lib.ListN.{length}
+use Rattle.std.specs.Prelude.{Result, Ok, Err}
 use Rattle.surface.specs.Rows.{rows}
-use Rattle.refusal.specs.declared.Verdict.TheVariants.{Passes}
 use Rattle.refusal.specs.Told.{Told, done}
 use Rattle.refusal.proofs.Outcome.{refused_done, outcome_one}
 use Rattle.faults.specs.Order.{CheckedStageAt}
@@ -23,39 +23,38 @@ use Rattle.nest.specs.Limits.{most_sum}
 use Rattle.nest.specs.Questions.{At}
 use Rattle.nest.specs.Net.{added, stands, is_void, is_solid, Nets, told_sum}
 use Rattle.nest.proofs.Entries.{at_get}
-use Rattle.job.specs.declared.Job.{Job}
-use Rattle.job.specs.declared.Job.TheVariants.{Net, Refused}
+use Rattle.job.specs.declared.JobRefusal.{JobRefusal}
 use Rattle.job.specs.Answer as jobs
 use Rattle.job.specs.Outcome.{JobAnswered, refused, answered}
 use Rattle.job.proofs.Numbers as JobNumbers
 use Rattle.job.proofs.Answering.{one_net}
 use Rattle.job.proofs.Writing.{written}
-use Rattle.job.proofs.Laws.{no_net, the_net, accepted}
+use Rattle.job.proofs.Laws.{the_net, accepted}
 use Rattle.job.proofs.One.{alone, alone_figure}
 use Rattle.promises.specs.Stations.{NetTold, Filled, Stations}
 
 -- ---- what is told is a net
 
-net_told : (a : Job) {f : ℤ} → jobs.told a ≡ done (f ∷ []) → a ≡ Net f
-net_told (Net g) {f} e = let k = ap (λ (t : Told). t.values) e in let same : g ≡ f = cc in ap Net same
-net_told (Refused r) e = absurd (JobNumbers.refused_done r e)
+net_told : (a : Result ℤ JobRefusal) {f : ℤ} → jobs.told a ≡ done (f ∷ []) → a ≡ Ok f
+net_told (Ok g) {f} e = let k = ap (λ (t : Told). t.values) e in let same : g ≡ f = cc in ap Ok same
+net_told (Err r) e = absurd (JobNumbers.refused_done r e)
 
 module _ {b : List ℕ} {es : List Entry} {f : ℤ} (w : NetTold b es f) where
-  told_figure : JobAnswered b (Net f)
+  told_figure : JobAnswered b (Ok f)
   told_figure = rw (sym (net_told w.answer w.tells)) w.answered
 
   its_one : {net net' : ℕ → ℤ} → Nets es (told_sum es) net → Nets es (told_sum es) net' → net 0 ≡ net' 0
   its_one {net} {net'} n m = go told_figure
     where
-      go : JobAnswered b (Net f) → net 0 ≡ net' 0
-      go (refused first e) = no_net e
+      go : JobAnswered b (Ok f) → net 0 ≡ net' 0
+      go (refused first e) = absurd cc
       go (answered es' worked first s k e) = one_net first w.sheet n m
 
   its_nets : (net : ℕ → ℤ) × Nets es (told_sum es) net
   its_nets = go told_figure
     where
-      go : JobAnswered b (Net f) → (net : ℕ → ℤ) × Nets es (told_sum es) net
-      go (refused first e) = no_net e
+      go : JobAnswered b (Ok f) → (net : ℕ → ℤ) × Nets es (told_sum es) net
+      go (refused first e) = absurd cc
       go (answered es' net first s n e) = (net, subst (λ x. Nets x (told_sum x) net) (one_job w.sheet s) n)
 
   module _ {net : ℕ → ℤ} (n : Nets es (told_sum es) net) where
@@ -71,7 +70,7 @@ module _ {b : List ℕ} {es : List Entry} {f : ℤ} (w : NetTold b es f) where
 -- ---- sums that are filled in from stages
 
 record SumOf (xs : List ℤ) (t : List ℕ) (z : ℤ) : Type 0 where
-  pub checked : CheckedStageAt xs t Passes
+  pub checked : CheckedStageAt xs t (Ok tt)
   pub is : z ≡ sixfold xs (rows t)
 
 sum_of : {xs : List ℤ} {t : List ℕ} {z : ℤ} → Filled xs t z → SumOf xs t z
@@ -98,7 +97,7 @@ same_own {es} {net = net} same n = record {
   of_solid = λ i e a q. n.of_solid i e a q ∙ ap (λ z. z -ℤ added net (stands is_void es i) (length es)) (same i e a);
 }
 
-alone_volume : {xs : List ℤ} {t : List ℕ} {z : ℤ} {b : List ℕ} {a : Job} {v : Told} → Filled xs t z → JobSheetOf b (alone z ∷ []) → JobAnswered b a → VolumeReport xs t v → jobs.told a ≡ v
+alone_volume : {xs : List ℤ} {t : List ℕ} {z : ℤ} {b : List ℕ} {a : Result ℤ JobRefusal} {v : Told} → Filled xs t z → JobSheetOf b (alone z ∷ []) → JobAnswered b a → VolumeReport xs t v → jobs.told a ≡ v
 alone_volume {xs} {t} {z} f s w r =
     let x = sum_of f in
     let there : VolumeReport xs t (done (figure (sixfold xs (rows t)) ∷ [])) = volume_done x.checked refl refl in

@@ -1,5 +1,5 @@
 -- Request 5 of 02: "The half cubic metre of demand 3 then holds for the net of the whole station."
-use Rattle.std.specs.Prelude.{◌≡◌, List, [], ◌∷◌, ℕ, ◌*◌, ◌≤◌, ℤ, pos, ◌+ℤ◌, ◌*ℤ◌, nat_abs}
+use Rattle.std.specs.Prelude.{◌≡◌, List, [], ◌∷◌, ℕ, ◌*◌, ◌≤◌, ℤ, pos, ◌+ℤ◌, ◌*ℤ◌, nat_abs, None, Result}
 use Rattle.surface.specs.Limits.{most_rows}
 use Rattle.surface.specs.Rows.{rows}
 use Rattle.corners.specs.Limits.{most_coordinate}
@@ -7,19 +7,18 @@ use Rattle.refusal.specs.Told.{Told, done}
 use Rattle.wide.specs.Rounding.{divisor, WithinHalf, Nearest}
 use Rattle.figure.specs.Sum.{sixfold}
 use Rattle.volume.specs.Report.{VolumeReport, ExactReport}
-use Rattle.jobform.specs.declared.Name.TheVariants.{Nothing}
 use Rattle.jobform.specs.declared.Entry.{Entry}
 use Rattle.jobform.specs.JobSheet.{job_text, JobSheetOf}
 use Rattle.nest.specs.Limits.{most_sum}
 use Rattle.nest.specs.Questions.{void_letter, At, Every, Counted, Marked, Named, Alternates, Shallow, SumIn}
 use Rattle.nest.specs.Net.{Nets, told_sum}
-use Rattle.job.specs.declared.Job.{Job}
+use Rattle.job.specs.declared.JobRefusal.{JobRefusal}
 use Rattle.job.specs.Answer as jobs
 use Rattle.job.specs.Outcome.{JobAnswered}
 
 -- a sheet b answered with a figure, whose entries are es
 pub record NetTold (b : List ℕ) (es : List Entry) (f : ℤ) : Type 0 where
-  pub answer : Job
+  pub answer : Result ℤ JobRefusal
   pub answered : JobAnswered b answer
   pub tells : jobs.told answer ≡ done (f ∷ [])
   pub sheet : JobSheetOf b es
@@ -35,7 +34,7 @@ pub record Stations : Type 0 where
   -- entries whose count, kinds, names and sums are good can be written on a sheet
   pub writes : {es : List Entry} → Counted es → Every Marked es → Every Named es → Every SumIn es → JobSheetOf (job_text es) es
   -- and every sheet of entries that answer each question well is answered with a figure
-  pub accepts : {b : List ℕ} {es : List Entry} {a : Job} → JobSheetOf b es → Counted es → Every Marked es → Every Named es → Every Alternates es → Every Shallow es → Every SumIn es →
+  pub accepts : {b : List ℕ} {es : List Entry} {a : Result ℤ JobRefusal} → JobSheetOf b es → Counted es → Every Marked es → Every Named es → Every Alternates es → Every Shallow es → Every SumIn es →
       JobAnswered b a → (f : ℤ) × (jobs.told a ≡ done (f ∷ []))
   -- where a figure is told there are nets, by 02's two sentences
   pub nets : {b : List ℕ} {es : List Entry} {f : ℤ} → NetTold b es f → (net : ℕ → ℤ) × Nets es (told_sum es) net
@@ -55,5 +54,5 @@ pub record Stations : Type 0 where
   pub bound : most_sum ≡ most_rows * (6 * (most_coordinate * (most_coordinate * most_coordinate)))
   pub fits : {xs : List ℤ} {t : List ℕ} {z : ℤ} → Filled xs t z → nat_abs z ≤ most_sum
   -- a job of one void is its volume
-  pub one_void : {xs : List ℤ} {t : List ℕ} {z : ℤ} {b : List ℕ} {a : Job} {v : Told} → Filled xs t z → JobSheetOf b (record { letter = void_letter; name = Nothing; sum = z } ∷ []) → JobAnswered b a → VolumeReport xs t v →
+  pub one_void : {xs : List ℤ} {t : List ℕ} {z : ℤ} {b : List ℕ} {a : Result ℤ JobRefusal} {v : Told} → Filled xs t z → JobSheetOf b (record { letter = void_letter; name = None; sum = z } ∷ []) → JobAnswered b a → VolumeReport xs t v →
       jobs.told a ≡ v

@@ -15,21 +15,19 @@ use Rattle.slots.proofs.Staged.{table_whole, table_under}
 use Rattle.record.specs.Front.{front_rows}
 use Rattle.spots.specs.InnerSpots.{living, live_rows}
 use Rattle.spots.specs.InnerHeld.{flat_of, held_rows, HoldsStage}
-use Rattle.spots.specs.InnerLists.{WideLists}
 use Rattle.spots.specs.InnerKept.{ClosedUp}
 use Rattle.spots.proofs.Live.{spot_live}
 use Rattle.spots.proofs.Held.{flat_size, places}
 use Rattle.spots.proofs.Laying.{fours_of}
-use Rattle.ranks.specs.InnerRanks.{every, CountsRows}
+use Rattle.ranks.specs.InnerRanks.{every}
 use Rattle.ranks.proofs.Sums.{counts_same}
-use Rattle.waiting.specs.InnerWaiting.{Waiting, Member}
 use Rattle.strike.specs.InnerStrike.{stands}
 use Rattle.strike.proofs.Striking.{stands_yes}
 use Rattle.trapped.specs.ByCorner.{ByCorner}
 use Rattle.going.specs.Going.{CanGoOn, WentBy}
 use Rattle.quick.specs.InnerGround.{BeforeCorner}
 use Rattle.quick.specs.InnerRound.{AllDone}
-use Rattle.quick.specs.InnerClose.{RoomFor, ThinnedAll}
+use Rattle.quick.specs.InnerClose.{Begun, RoomFor, ThinnedAll}
 
 -- all rows of a first table stand
 all_live : (t : List ℕ) → ((e : ℕ) → e < length t → get_or t e 0 < most_corners) → live_rows t ≡ rows t
@@ -88,19 +86,17 @@ module _ {n : ℕ} {t : List ℕ} (s : StageTable n t) where
                 omega arith
             go (no l) = let z = get_or-eq_default h 0 {n = 4 * i + 2} (omega arith) in omega arith
 
-    pub first_before : {start list mark bits tops sub sup l : List ℕ} {total d : ℕ} → WideLists t start list → CountsRows every sub sup → length mark ≡ most_corners + 1 → ((z : ℕ) → get_or mark z 0 ≡ 0) →
-        Waiting bits tops → ((w : ℕ) → ¬ Member bits w) → total ≡ length t / 3 + 2 * d → RoomFor t l d → BeforeCorner n h start list mark bits tops sub sup l 0 total d
-    first_before {start} {list} {mark} {bits} {tops} {sub} {sup} {l} {total} {d} ch co sm zm wa em tot ro = record {
+    pub first_before : {start list mark bits sub sup l : List ℕ} {total d : ℕ} → Begun t start list mark bits sub sup → total ≡ length t / 3 + 2 * d → RoomFor t l d → BeforeCorner n h start list mark bits sub sup l 0 total d
+    first_before {start} {list} {mark} {bits} {sub} {sup} {l} {total} {d} begun tot ro = record {
       ground = record {
         held = first_held;
-        charted = record { first = t; lists = ch; same = ap length is; old = λ e i a b. ap (λ (z : List ℕ). get_or z e 0) (sym is); still = λ e i. inl (ap (λ (z : List ℕ). get_or z e 0) is) };
-        marks = record { size = sm; bound = λ z. let k = zm z in inl (omega arith); unused = λ z q w e. let k = zm z in omega arith; no_corner = zm most_corners };
-        tallied = counts_same every (stands h) sub sup (λ i. sym (first_bit i)) co;
+        charted = record { first = t; lists = begun.lists; same = ap length is; old = λ e i a b. ap (λ (z : List ℕ). get_or z e 0) (sym is); still = λ e i. inl (ap (λ (z : List ℕ). get_or z e 0) is) };
+        marks = record { size = begun.size; bound = λ z. let k = begun.marks.blank z in inl (omega arith); unused = λ z q w e. let k = begun.marks.blank z in omega arith; no_corner = begun.marks.blank most_corners };
+        tallied = counts_same every (stands h) sub sup (λ i. sym (first_bit i)) begun.stand;
         rows = let w = s.count in let z = ap length first_stands in omega arith;
         room = rw first_stands ro.1;
       };
-      waiting = wa;
-      empty = em;
+      empty = begun.empty;
     }
 
     -- what is left, closed up

@@ -17,7 +17,7 @@ use Rattle.surface.specs.Record as surface
 use Rattle.record.specs.Layout.{width, numbers, room_for}
 use Rattle.neighbours.specs.Around.{Neighbours}
 use Rattle.spots.specs.InnerHeld.{held_rows}
-use Rattle.waiting.specs.InnerWaiting.{Member, LeastOf, nobody, least, waiters}
+use Rattle.waiting.specs.InnerWaiting.{Member, waiters}
 use Rattle.waiting.proofs.Waiters.{waiters_most}
 use Rattle.around.specs.InnerRing.{RingOf, next_to}
 use Rattle.around.specs.InnerMeeting.{Met}
@@ -25,7 +25,7 @@ use Rattle.around.proofs.Nears.{ring_neighbours, ring_listed}
 use Rattle.trapped.specs.Trapped.{NextAt}
 use Rattle.trapped.specs.ByCorner.{not_begun, next_corner}
 use Rattle.quick.specs.InnerGround.{gone_mark, MarksHold, BeforeCorner}
-use Rattle.quick.specs.InnerRound.{AtOpenCorner, LeastWaits, Progress, Tried, CornerDone, AllDone}
+use Rattle.quick.specs.InnerRound.{AtOpenCorner, Progress, Tried, CornerDone, AllDone}
 use Rattle.quick.proofs.Logging.{logged_none, logged_one, logged_on}
 use Rattle.quick.proofs.Grounds.{stage, ground_inside, ground_marked}
 
@@ -41,18 +41,17 @@ progress_one u h l d h' l' k e next replays room wrote =
 pub progress_on : {u : ℕ} {h l : List ℕ} {d d₁ d₂ : ℕ} {h₁ l₁ h₂ l₂ : List ℕ} → Progress u h l d d₁ h₁ l₁ → Progress u h₁ l₁ d₁ d₂ h₂ l₂ → Progress u h l d d₂ h₂ l₂
 progress_on p q = record { log = p.log ++ q.log; steps = leads_on p.steps q.steps; logged = logged_on p.logged q.logged }
 
-module _ {n : ℕ} {h start list mark bits tops sub sup l : List ℕ} {u total d : ℕ} (b : BeforeCorner n h start list mark bits tops sub sup l u total d) (inside : u < n) where
+module _ {n : ℕ} {h start list mark bits sub sup l : List ℕ} {u total d : ℕ} (b : BeforeCorner n h start list mark bits sub sup l u total d) (inside : u < n) where
   pub corner_small : u < most_corners
   corner_small = let m = (stage b.ground).many in omega arith
 
   -- all neighbours above u wait
-  pub round_open : {ring : List ℕ} → RingOf h u ring → get_or mark u 0 ≢ gone_mark → {mark₁ bits₁ tops₁ : List ℕ} → Met u (gone_mark + 1) (next_to h ring) mark bits mark₁ bits₁ tops₁ → AtOpenCorner n h start list (set mark₁ u (u + 1)) bits₁ tops₁ sub sup l u total d
-  round_open {ring} r there {mark₁} {bits₁} {tops₁} met = record {
+  pub round_open : {ring : List ℕ} → RingOf h u ring → get_or mark u 0 ≢ gone_mark → {mark₁ bits₁ : List ℕ} → Met u (gone_mark + 1) (next_to h ring) mark bits mark₁ bits₁ → AtOpenCorner n h start list (set mark₁ u (u + 1)) bits₁ sub sup l u total d
+  round_open {ring} r there {mark₁} {bits₁} met = record {
     ground = ground_marked b.ground (omega arith) marks kept;
     own = at_u;
     marked = λ w z. marked w z (ℕ_discrete w u) (met.changes w) (b.ground.marks.bound w);
     marks_all = λ w e. off_u w (λ q. (stage b.ground).apart e.1 (sym q)) ∙ met.marks w (beside.all e);
-    waiting = met.waiting;
     near = λ w m. close w (met.waits_only w m);
     known = λ w a e m. absurd (m (met.waits_new w (beside.all e) a (no_such w (b.ground.marks.bound w))));
   }
@@ -116,11 +115,10 @@ module _ {n : ℕ} {h start list mark bits tops sub sup l : List ℕ} {u total d
           free (inr k) = let z = (ring_listed b.ground.held small r).below k.1 in absurd (omega arith)
 
   -- a corner that has been removed is passed by
-  pub passed_by : get_or mark u 0 ≡ gone_mark → CornerDone n start list h l h mark bits tops sub sup l u total d d
+  pub passed_by : get_or mark u 0 ≡ gone_mark → CornerDone n start list h l h mark bits sub sup l u total d d
   passed_by q = record {
     before = record {
       ground = ground_marked b.ground (omega arith) (record { size = b.ground.marks.size; bound = λ z. elim (b.ground.marks.bound z) [ inl k ↦ inl (omega arith) | inr k ↦ inr k ]; unused = b.ground.marks.unused; no_corner = b.ground.marks.no_corner }) (λ z k. k);
-      waiting = b.waiting;
       empty = b.empty;
     };
     log = [];
@@ -128,29 +126,18 @@ module _ {n : ℕ} {h start list mark bits tops sub sup l : List ℕ} {u total d
     logged = logged_none l d (ground_inside b.ground);
   }
 
-module _ {n : ℕ} {h start list mark bits tops sub sup l : List ℕ} {u total d : ℕ} (g : AtOpenCorner n h start list mark bits tops sub sup l u total d) where
-  pub next_of : {v : ℕ} → LeastOf bits v → v < most_corners → LeastWaits bits v
-  next_of {v} w q = go w
-    where
-      go : LeastOf bits v → LeastWaits bits v
-      go (nobody e k) = absurd (omega arith)
-      go (least m k) = record { member = m; least = k }
-
+module _ {n : ℕ} {h start list mark bits sub sup l : List ℕ} {u total d : ℕ} (g : AtOpenCorner n h start list mark bits sub sup l u total d) where
   -- none waits: u is finished
-  pub none_left : {v : ℕ} → LeastOf bits v → ¬ (v < most_corners) → {h₀ l₀ : List ℕ} {d₀ : ℕ} → Progress u h₀ l₀ d₀ d h l → CornerDone n start list h₀ l₀ h mark bits tops sub sup l u total d₀ d
-  none_left {v} w q p = record {
-    before = record { ground = g.ground; waiting = g.waiting; empty = empty w };
+  pub none_left : ((w : ℕ) → ¬ Member bits w) → {h₀ l₀ : List ℕ} {d₀ : ℕ} → Progress u h₀ l₀ d₀ d h l → CornerDone n start list h₀ l₀ h mark bits sub sup l u total d₀ d
+  none_left empty p = record {
+    before = record { ground = g.ground; empty = empty };
     log = p.log;
-    corner = record { steps = p.steps; ended = λ k a m. g.known k a m.edge (empty w k) m };
+    corner = record { steps = p.steps; ended = λ k a m. g.known k a m.edge (empty k) m };
     logged = p.logged;
   }
-    where
-      empty : LeastOf bits v → (z : ℕ) → ¬ Member bits z
-      empty (nobody e k) = k
-      empty (least m k) = λ z i. q m.0
 
   -- a try makes less of what is left
-  pub fell_less : {h₁ l₁ h' mark' bits' tops' sub' sup' l' : List ℕ} {v d' : ℕ} → Tried n start list h₁ bits l₁ h' mark' bits' tops' sub' sup' l' u v total d d' →
+  pub fell_less : {start' list' h₁ l₁ h' mark' bits' sub' sup' l' : List ℕ} {v d' : ℕ} → Tried n start' list' h₁ bits l₁ h' mark' bits' sub' sup' l' u v total d d' →
       (total - 2 * d') * (most_corners + 1) + waiters bits' most_corners < (total - 2 * d) * (most_corners + 1) + waiters bits most_corners
   fell_less {bits' = bits'} {d' = d'} w = go w.fell
     where
@@ -163,8 +150,8 @@ module _ {n : ℕ} {h start list mark bits tops sub sup l : List ℕ} {u total d
       go (inr e) = let q = e.0 in let k = e.1 in rw q (omega arith)
 
 -- no corner finished yet, and one more
-pub none_done : {n : ℕ} {h start list mark bits tops sub sup l : List ℕ} {total d : ℕ} → BeforeCorner n h start list mark bits tops sub sup l 0 total d → AllDone n 0 h l h l d d
+pub none_done : {n : ℕ} {h start list mark bits sub sup l : List ℕ} {total d : ℕ} → BeforeCorner n h start list mark bits sub sup l 0 total d → AllDone n 0 h l h l d d
 none_done {l = l} {d = d} b = record { held = b.ground.held; log = []; corners = not_begun refl; logged = logged_none l d (ground_inside b.ground) }
 
-pub one_done : {n u total : ℕ} {start list h l h₁ l₁ h' mark' bits' tops' sub' sup' l' : List ℕ} {d d₁ d' : ℕ} → AllDone n u h l h₁ l₁ d d₁ → CornerDone n start list h₁ l₁ h' mark' bits' tops' sub' sup' l' u total d₁ d' → AllDone n (u + 1) h l h' l' d d'
+pub one_done : {n u total : ℕ} {start list h l h₁ l₁ h' mark' bits' sub' sup' l' : List ℕ} {d d₁ d' : ℕ} → AllDone n u h l h₁ l₁ d d₁ → CornerDone n start list h₁ l₁ h' mark' bits' sub' sup' l' u total d₁ d' → AllDone n (u + 1) h l h' l' d d'
 one_done {u = u} a w = rw (add-one u) (record { held = w.before.ground.held; log = a.log ++ w.log; corners = next_corner a.corners w.corner; logged = logged_on a.logged w.logged })

@@ -23,7 +23,7 @@ use Rattle.record.specs.declared.Record.{Record}
 use Rattle.link.proofs.Tally.{exactly_same}
 use Rattle.neighbours.specs.Around.{Neighbours}
 use Rattle.spots.specs.InnerHeld.{held_rows}
-use Rattle.waiting.specs.InnerWaiting.{digit_of, Member, Released}
+use Rattle.waiting.specs.InnerWaiting.{digit_of, Member, Released, LeastWaits}
 use Rattle.around.specs.InnerRing.{RingOf, next_to, MarkedIn}
 use Rattle.around.specs.InnerMeeting.{Met}
 use Rattle.around.proofs.Nears.{ring_neighbours, ring_listed, next_to_length}
@@ -31,7 +31,7 @@ use Rattle.strike.specs.InnerStrike.{Struck}
 use Rattle.trapped.specs.Trapped.{NextAt, Spared, far, many}
 use Rattle.trapped.proofs.Flags.{spared}
 use Rattle.quick.specs.InnerGround.{gone_mark, MarksHold}
-use Rattle.quick.specs.InnerRound.{AtOpenCorner, LeastWaits, Unchanged}
+use Rattle.quick.specs.InnerRound.{AtOpenCorner, Unchanged}
 use Rattle.quick.proofs.Counting.{one_over, one_less}
 use Rattle.quick.proofs.Grounds.{stage, ground_step}
 
@@ -51,7 +51,7 @@ in? w (z ∷ l) = go (ℕ_discrete w z) (in? w l)
     go (no e) (yes m) = yes (Memᴰ.tail m)
     go (no e) (no m) = no (λ k. elim (Memᴰ.cases_cons k) [ inl q ↦ e q | inr q ↦ m q ])
 
-module _ {n : ℕ} {h start list mark bits tops sub sup l : List ℕ} {u total d : ℕ} (g : AtOpenCorner n h start list mark bits tops sub sup l u total d) where
+module _ {n : ℕ} {h start list mark bits sub sup l : List ℕ} {u total d : ℕ} (g : AtOpenCorner n h start list mark bits sub sup l u total d) where
   abbrev T : List Row
   T = held_rows h
 
@@ -122,19 +122,18 @@ module _ {n : ℕ} {h start list mark bits tops sub sup l : List ℕ} {u total d
       pub degree : Exactly (Edge T v) (length ring)
       degree = record { list = next_to h ring; distinct = beside.distinct; all = beside.all; only = beside.only; count = next_to_length h ring }
 
-    module _ {bits₁ tops₁ : List ℕ} (tk : Released v bits bits₁ tops₁) where
+    module _ {bits₁ : List ℕ} (tk : Released v bits bits₁) where
       -- those that waited and are not v wait on
       pub waited : (w : ℕ) → Member bits₁ w → Member bits w × (w ≢ v)
       waited w m = (tk.only w m, λ q. tk.gone (rw q at m))
 
       -- v is blocked
-      pub round_blocked : ¬ Meets T u v → AtOpenCorner n h start list mark bits₁ tops₁ sub sup l u total d
+      pub round_blocked : ¬ Meets T u v → AtOpenCorner n h start list mark bits₁ sub sup l u total d
       round_blocked b = record {
         ground = g.ground;
         own = g.own;
         marked = g.marked;
         marks_all = g.marks_all;
-        waiting = tk.waiting;
         near = λ w m. g.near w (tk.only w m);
         known = λ w a e m. known w a e m (ℕ_discrete w v);
       }
@@ -144,7 +143,7 @@ module _ {n : ℕ} {h start list mark bits tops sub sup l : List ℕ} {u total d
           known w a e m (no q) z = g.known w a e (λ k. m (tk.kept w q k)) z
 
       -- v goes into u
-      module _ {ring : List ℕ} (r : RingOf h v ring) (m : Meets T u v) {k but : ℕ} (count : length ring ≡ k) (spare : Unchanged k u but) {mark₁ bits₂ tops₂ : List ℕ} (met : Met u but (next_to h ring) mark bits₁ mark₁ bits₂ tops₂)
+      module _ {ring : List ℕ} (r : RingOf h v ring) (m : Meets T u v) {k but : ℕ} (count : length ring ≡ k) (spare : Unchanged k u but) {mark₁ bits₂ : List ℕ} (met : Met u but (next_to h ring) mark bits₁ mark₁ bits₂)
           {e : Record} {h' sub' sup' : List ℕ} (st : Struck h u v e h' sub' sup') where
         opp : (x : ℕ) × (y : ℕ) × Opposite T u v x y
         opp = opposite n T S m
@@ -313,13 +312,12 @@ module _ {n : ℕ} {h start list mark bits tops sub sup l : List ℕ} {u total d
         own : get_or (set mark₁ v gone_mark) u 0 ≡ u + 1
         own = off_v u (λ q. let z = up in omega arith) ∙ stays u g.own
 
-        pub round_step : (l' : List ℕ) → length l' ≡ length l → AtOpenCorner n h' start list (set mark₁ v gone_mark) bits₂ tops₂ sub' sup' l' u total (d + 1)
+        pub round_step : (l' : List ℕ) → length l' ≡ length l → AtOpenCorner n h' start list (set mark₁ v gone_mark) bits₂ sub' sup' l' u total (d + 1)
         round_step l' same = record {
           ground = ground_step g.ground (omega arith) u_low marks₂ gone_on at_v st same;
           own = own;
           marked = λ w z. rw is at (marked w (ℕ_discrete w v) z);
           marks_all = λ w c. marks_on w (side n T u v opp.0 opp.1 S opp.2 (rw (sym is) at c));
-          waiting = met.waiting;
           near = λ w c. rw is at (near' w (met.waits_only w c));
           known = λ w a c z. rw is at (known w a z (side n T u v opp.0 opp.1 S opp.2 (rw (sym is) at c)));
         }

@@ -8,7 +8,7 @@ use Rattle.surface.specs.Record as surface
 use Rattle.record.specs.Layout.{log_of, room_for}
 use Rattle.spots.specs.InnerHeld.{flat_of, held_rows, HoldsStage}
 use Rattle.spots.specs.InnerLists.{WideLists}
-use Rattle.waiting.specs.InnerWaiting.{Waiting, Member}
+use Rattle.waiting.specs.InnerWaiting.{Member}
 use Rattle.strike.specs.InnerStrike.{Tallied}
 
 -- the mark of a corner that has been removed: above every other mark
@@ -45,9 +45,8 @@ pub record Ground (n : ℕ) (h start list mark sub sup l : List ℕ) (lowest k t
   pub room : Room (held_rows h) l d
 
 -- before the corner u: none is marked with u + 1, and none waits
-pub record BeforeCorner (n : ℕ) (h start list mark bits tops sub sup l : List ℕ) (u total d : ℕ) : Type 0 where
+pub record BeforeCorner (n : ℕ) (h start list mark bits sub sup l : List ℕ) (u total d : ℕ) : Type 0 where
   pub ground : Ground n h start list mark sub sup l u u total d
-  pub waiting : Waiting bits tops
   pub empty : (w : ℕ) → ¬ Member bits w
 
 -- the records of log stand in the log after the d that stood there, d' in all; the rest is as it was

@@ -2,21 +2,58 @@
 // rows that stand, and a neighbour that was tried in vain waits no more before its edge can have changed.
 #![tactic(auto)]
 
-ghost use Rattle.std.specs.Prelude.{◌≡◌, ◌+◌, ◌*◌, ◌≤◌, ◌<◌, length};
+ghost use Rattle.std.specs.Prelude.{ℕ, ◌≡◌, ◌+◌, ◌*◌, ◌≤◌, ◌<◌, length};
 ghost use Rattle.surface.specs.Limits.{most_corners};
 ghost use Rattle.surface.specs.InnerStageTable.{StageTable};
-ghost use Rattle.slots.specs.Slot.{most_slots};
+ghost use Rattle.slots.specs.Slot.{most_slots, Whole, Under};
+ghost use Rattle.slots.specs.Marks.{Blank};
+ghost use Rattle.spots.specs.InnerHeld.{flat_of};
 ghost use Rattle.ranks.specs.InnerRanks.{Stairs};
 ghost use Rattle.trapped.specs.ByCorner.{ByCorner};
 ghost use Rattle.going.specs.Going.{CanGoOn, WentBy};
 ghost use Rattle.quick.specs.InnerGround.{BeforeCorner};
-ghost use Rattle.quick.specs.InnerRound.{AtOpenCorner, LeastWaits, Tried, CornerDone, AllDone, Unchanged};
-ghost use Rattle.quick.specs.InnerClose.{RoomFor, ThinnedAll};
+ghost use Rattle.waiting.specs.InnerWaiting.{Member, LeastWaits};
+ghost use Rattle.quick.specs.InnerClose.{Begun, RoomFor, ThinnedAll};
+ghost use Rattle.quick.specs.InnerRound.{AtOpenCorner, Tried, CornerDone, AllDone, Unchanged};
 
-// The mark of a corner that has been removed, and what is no mark.
+use waiting::Waiting;
+
+// The mark of a corner that has been removed, and what is no mark. Numbers beside the marks u + 1: a mark is looked at for every neighbour, and an
+// enum of them would be twice as wide.
 const GONE: u16 = surface::MOST_CORNERS as u16 + 1;
 
 const NO_MARK: u16 = surface::MOST_CORNERS as u16 + 2;
+
+// What a thinning works in: the slots of the first table, corner by corner; a mark for each corner, and those that wait; how many rows stand before
+// each, with what is taken off when rows leave; and the slots of a corner.
+#[derive(Drop)]
+struct Work {
+    start: [u16; spots::STARTS],
+    list: [u16; slots::MOST_SLOTS],
+    mark: [u16; around::MARKS],
+    waiting: Waiting,
+    sub: [u8; surface::MOST_ROWS],
+    sup: [u16; ranks::BLOCKS],
+    stair: [u8; ranks::STAIR],
+    flight: [u16; ranks::FLIGHT],
+    ring: [u16; slots::MOST_SLOTS],
+    ghost stairs: { Stairs stair flight },
+}
+
+impl Work {
+    // The rows of a first table are laid down in held; all of them stand.
+    fn begin(&mut self, t: &[u32], held: &mut [u16])
+        requires whole { Whole t.now × Under t.now most_corners }
+        requires t_value { (4 * length t.now ≡ 3 * length held.old) × (length t.now ≤ most_slots) }
+        requires blank { Blank self.old.start × Blank self.old.mark }
+        requires empty { (w : ℕ) → ¬ Member self.old.waiting w }
+        ensures held_after { flat_of held.new ≡ t.now }
+        ensures begun { Begun t.now self.new.start self.new.list self.new.mark self.new.waiting self.new.sub self.new.sup }
+    {
+        spots::lay(t, held, &mut self.start, &mut self.list);
+        ranks::fill(&mut self.sub, &mut self.sup);
+    }
+}
 
 // Neighbours of a corner with three may all have changed when it goes; of another only those that are new to u.
 fn unchanged(slots: usize, u: u16) -> u16
@@ -31,40 +68,53 @@ fn unchanged(slots: usize, u: u16) -> u16
 fn attempt(
     n: usize,
     held: &mut [u16],
-    start: &[u16],
-    list: &[u16],
-    mark: &mut [u16],
-    bits: &mut [u64],
-    tops: &mut [u64],
-    sub: &mut [u8],
-    sup: &mut [u16],
-    stair: &[u8],
-    flight: &[u16],
-    ring: &mut [u16],
+    work: &mut Work,
     log: &mut [u32],
     u: u16,
     v: u16,
     total: usize,
     done: usize,
 ) -> usize
-    requires at_open_corner { AtOpenCorner n held.old start.now list.now mark.old bits.old tops.old sub.old sup.old log.old u total done }
-    requires least_waits { LeastWaits bits.old v }
-    requires stairs { Stairs stair.now flight.now }
-    requires most_slots_in_bounds { most_slots ≤ length ring.old }
-    ensures { Tried n start.now list.now held.old bits.old log.old held.new mark.new bits.new tops.new sub.new sup.new log.new u v total done result }
+    requires at_open_corner { AtOpenCorner n held.old work.old.start work.old.list work.old.mark work.old.waiting work.old.sub work.old.sup log.old u total done }
+    requires least_waits { LeastWaits work.old.waiting v }
+    ensures { Tried n work.new.start work.new.list held.old work.old.waiting log.old held.new work.new.mark work.new.waiting work.new.sub work.new.sup log.new u v total done result }
 {
-    waiting::take(bits, tops, v as usize);
+    work.waiting.take(v as usize);
     if total - 2 * done <= 4 {
         return done;
     }
-    let walked = around::walk(held, start, list, mark, v, u + 1, ring);
+    let walked = around::walk(
+        held,
+        &work.start,
+        &work.list,
+        &work.mark,
+        v,
+        u + 1,
+        &mut work.ring,
+    );
     if walked.marked != 3 {
         return done;
     }
     let k = walked.slots;
-    around::meet(held, &ring[..k], mark, bits, tops, u, unchanged(k, u));
-    mark[v as usize] = GONE;
-    let e = strike::step(held, &ring[..k], sub, sup, stair, flight, u, v);
+    around::meet(
+        held,
+        &work.ring[..k],
+        &mut work.mark,
+        &mut work.waiting,
+        u,
+        unchanged(k, u),
+    );
+    work.mark[v as usize] = GONE;
+    let e = strike::step(
+        held,
+        &work.ring[..k],
+        &mut work.sub,
+        &mut work.sup,
+        &work.stair,
+        &work.flight,
+        u,
+        v,
+    );
     record::write_record(log, record::WIDTH * done, e);
     done + 1
 }
@@ -73,42 +123,41 @@ fn attempt(
 fn finish(
     n: usize,
     held: &mut [u16],
-    start: &[u16],
-    list: &[u16],
-    mark: &mut [u16],
-    bits: &mut [u64],
-    tops: &mut [u64],
-    sub: &mut [u8],
-    sup: &mut [u16],
-    stair: &[u8],
-    flight: &[u16],
-    ring: &mut [u16],
+    work: &mut Work,
     log: &mut [u32],
     u: u16,
     total: usize,
     done: usize,
 ) -> usize
-    requires before_corner { BeforeCorner n held.old start.now list.now mark.old bits.old tops.old sub.old sup.old log.old u total done }
+    requires before_corner { BeforeCorner n held.old work.old.start work.old.list work.old.mark work.old.waiting work.old.sub work.old.sup log.old u total done }
     requires u_lt_n { u < n }
-    requires stairs { Stairs stair.now flight.now }
-    requires most_slots_in_bounds { most_slots ≤ length ring.old }
-    ensures { CornerDone n start.now list.now held.old log.old held.new mark.new bits.new tops.new sub.new sup.new log.new u total done result }
+    ensures { CornerDone n work.new.start work.new.list held.old log.old held.new work.new.mark work.new.waiting work.new.sub work.new.sup log.new u total done result }
 {
-    if mark[u as usize] == GONE {
+    if work.mark[u as usize] == GONE {
         return done;
     }
-    let walked = around::walk(held, start, list, mark, u, u + 1, ring);
+    let walked = around::walk(
+        held,
+        &work.start,
+        &work.list,
+        &work.mark,
+        u,
+        u + 1,
+        &mut work.ring,
+    );
     let k = walked.slots;
-    around::meet(held, &ring[..k], mark, bits, tops, u, NO_MARK);
-    mark[u as usize] = u + 1;
+    around::meet(
+        held,
+        &work.ring[..k],
+        &mut work.mark,
+        &mut work.waiting,
+        u,
+        NO_MARK,
+    );
+    work.mark[u as usize] = u + 1;
     let mut d = done;
-    let mut v = waiting::least(bits, tops);
-    while v < waiting::NONE {
-        d = attempt(
-            n, held, start, list, mark, bits, tops, sub, sup, stair, flight, ring, log, u, v,
-            total, d,
-        );
-        v = waiting::least(bits, tops);
+    while let Some(v) = work.waiting.least() {
+        d = attempt(n, held, work, log, u, v, total, d);
     }
     d
 }
@@ -117,33 +166,17 @@ fn finish(
 fn finish_all(
     n: usize,
     held: &mut [u16],
-    start: &[u16],
-    list: &[u16],
-    mark: &mut [u16],
-    bits: &mut [u64],
-    tops: &mut [u64],
-    sub: &mut [u8],
-    sup: &mut [u16],
-    stair: &[u8],
-    flight: &[u16],
-    ring: &mut [u16],
+    work: &mut Work,
     log: &mut [u32],
     total: usize,
     done: usize,
 ) -> usize
-    requires before_corner { BeforeCorner n held.old start.now list.now mark.old bits.old tops.old sub.old sup.old log.old 0 total done }
-    requires stairs { Stairs stair.now flight.now }
-    requires most_slots_in_bounds { most_slots ≤ length ring.old }
+    requires { BeforeCorner n held.old work.old.start work.old.list work.old.mark work.old.waiting work.old.sub work.old.sup log.old 0 total done }
     ensures { AllDone n n held.old log.old held.new log.new done result }
 {
     let mut d = done;
-    let mut u: usize = 0;
-    while u < n {
-        d = finish(
-            n, held, start, list, mark, bits, tops, sub, sup, stair, flight, ring, log, u as u16,
-            total, d,
-        );
-        u += 1;
+    for u in 0..n {
+        d = finish(n, held, work, log, u as u16, total, d);
     }
     d
 }
@@ -155,24 +188,24 @@ fn thin_all(t: &mut [u32], held: &mut [u16], n: usize, log: &mut [u32], done: us
     requires room_for { RoomFor t.old log.old done }
     ensures { ThinnedAll n t.old log.old done result t.new log.new }
 {
-    let mut start = [0u16; spots::STARTS];
-    let mut list = [0u16; slots::MOST_SLOTS];
-    spots::lay(t, held, &mut start, &mut list);
-    let mut sub = [0u8; surface::MOST_ROWS];
-    let mut sup = [0u16; ranks::BLOCKS];
-    ranks::fill(&mut sub, &mut sup);
-    let mut stair = [0u8; ranks::STAIR];
-    let mut flight = [0u16; ranks::FLIGHT];
+    let mut stair = [0; ranks::STAIR];
+    let mut flight = [0; ranks::FLIGHT];
     ranks::fill_stairs(&mut stair, &mut flight);
-    let mut mark = [0u16; around::MARKS];
-    let mut bits = [0u64; waiting::WORDS];
-    let mut tops = [0u64; waiting::TOPS];
-    let mut ring = [0u16; slots::MOST_SLOTS];
+    // Made here and not by a function of Work: what is returned is copied, and small tables took twice as long.
+    let mut work = Work {
+        start: [0; spots::STARTS],
+        list: [0; slots::MOST_SLOTS],
+        mark: [0; around::MARKS],
+        waiting: Waiting::new(),
+        sub: [0; surface::MOST_ROWS],
+        sup: [0; ranks::BLOCKS],
+        stair,
+        flight,
+        ring: [0; slots::MOST_SLOTS],
+    };
+    work.begin(t, held);
     let total = t.len() / 3 + 2 * done;
-    let k = finish_all(
-        n, held, &start, &list, &mut mark, &mut bits, &mut tops, &mut sub, &mut sup, &stair,
-        &flight, &mut ring, log, total, done,
-    );
+    let k = finish_all(n, held, &mut work, log, total, done);
     let j = spots::close_up(held, t);
     shrink::clear(t, j);
     k

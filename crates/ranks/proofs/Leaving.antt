@@ -8,7 +8,7 @@ use native.Mathlib.Omega.{arith}
 use lib.ListN.{length, get_or, set, take, drop, length-set, length-drop}
 use lib.Seq.{get_or-set_same, get_or-set_other, get_or-drop, take_all}
 use Rattle.surface.specs.Limits.{most_rows}
-use Rattle.ranks.specs.InnerRanks.{block, blocks, CountsRows, without, Stair, TwoStand, TwoLeft, past, later_in_block, CanLower, BlockWritten, BlockLowered, CanDrop, Dropped, Copied}
+use Rattle.ranks.specs.InnerRanks.{block, blocks, CountsRows, without, Stair, TwoStand, TwoLeft, past, later_in_block, CanLower, BlockWritten, BlockLowered, CanDrop, Dropped}
 use Rattle.ranks.proofs.Filling.{Filled, fill_more}
 use Rattle.ranks.proofs.Sums.{without_other, without_bit, past_yes, past_no, later_same, later_other, within_less, sums_less}
 
@@ -112,9 +112,6 @@ module _ (i j : ℕ) (small-i : i < most_rows) (small-j : j < most_rows) (flight
   pub drop_more : (less : List ℕ) → length less ≡ blocks → Filled (sum_left i j sup) k less →
       Filled (sum_left i j sup) (k + 1) (set less k (get_or sup k 0 - get_or (rest flight (blocks - 1 - i / block)) k 0 - get_or (rest flight (blocks - 1 - j / block)) k 0))
   drop_more less n f = rw (flight_past flight i k s small-i h, flight_past flight j k s small-j h) (fill_more (sum_left i j sup) k less (omega arith) f)
-
-pub dropped : (i j : ℕ) (sup less sup' : List ℕ) (k : ℕ) → blocks ≤ k → CanDrop i j sup → Filled (sum_left i j sup) k less → Copied less sup' → Dropped i j sup sup'
-dropped i j sup less sup' k h c f w = record { size = w.size ∙ sym c.size; lost = λ b l. w.same b l ∙ f b (omega arith) }
 
 -- that both stand is enough, and what is left counts the set without them
 module _ {i j : ℕ} {sub sup : List ℕ} (s : TwoStand i j sub sup) where

@@ -82,6 +82,12 @@ past i k = ite {C = ℕ} (dec_lt i k) 1 0
 unfoldable pub later_in_block : ℕ → ℕ → ℕ
 later_in_block i k = ite {C = ℕ} (ℕ_discrete (k / block) (i / block)) (past i k) 0
 
+-- the block of i has the numbers of less
+pub record BlockWritten (i : ℕ) (less sub sub' : List ℕ) : Type 0 where
+  pub size : length sub' ≡ length sub
+  pub here : (k : ℕ) → k < block → get_or sub' (block * (i / block) + k) 0 ≡ get_or less k 0
+  pub other : (r : ℕ) → r / block ≢ i / block → get_or sub' r 0 ≡ get_or sub r 0
+
 -- every later row of the block of i can lose one, and lost it
 pub record CanLower (i : ℕ) (sub : List ℕ) : Type 0 where
   pub size : length sub ≡ most_rows
@@ -91,12 +97,6 @@ pub record BlockLowered (i : ℕ) (sub sub' : List ℕ) : Type 0 where
   pub size : length sub' ≡ length sub
   pub lost : (k : ℕ) → k < most_rows → get_or sub' k 0 ≡ get_or sub k 0 - later_in_block i k
 
--- the block of i has the numbers of less
-pub record BlockWritten (i : ℕ) (less sub sub' : List ℕ) : Type 0 where
-  pub size : length sub' ≡ length sub
-  pub here : (k : ℕ) → k < block → get_or sub' (block * (i / block) + k) 0 ≡ get_or less k 0
-  pub other : (r : ℕ) → r / block ≢ i / block → get_or sub' r 0 ≡ get_or sub r 0
-
 -- every block past that of i, and every one past that of j, can lose one, and lost it
 pub record CanDrop (i j : ℕ) (sup : List ℕ) : Type 0 where
   pub size : length sup ≡ blocks
@@ -105,8 +105,3 @@ pub record CanDrop (i j : ℕ) (sup : List ℕ) : Type 0 where
 pub record Dropped (i j : ℕ) (sup sup' : List ℕ) : Type 0 where
   pub size : length sup' ≡ length sup
   pub lost : (b : ℕ) → b < blocks → get_or sup' b 0 ≡ get_or sup b 0 - past (i / block) b - past (j / block) b
-
--- the sums are the numbers of less
-pub record Copied (less sup : List ℕ) : Type 0 where
-  pub size : length sup ≡ blocks
-  pub same : (b : ℕ) → b < blocks → get_or sup b 0 ≡ get_or less b 0

@@ -4,7 +4,7 @@
 
 ghost use Rattle.std.specs.Prelude.{◌≡◌, ◌*◌, ◌<◌, length};
 ghost use Rattle.surface.specs.Limits.{most_rows};
-ghost use Rattle.ranks.specs.InnerRanks.{block, blocks, every, CountsRows, CountsSome, Stair, Stairs, StandBefore, TwoStand, TwoLeft, InBlocks, Firsts, CanLower, BlockWritten, BlockLowered, CanDrop, Dropped, Copied};
+ghost use Rattle.ranks.specs.InnerRanks.{block, blocks, every, CountsRows, CountsSome, Stair, Stairs, StandBefore, TwoStand, TwoLeft, InBlocks, Firsts, CanLower, BlockWritten, BlockLowered, CanDrop, Dropped};
 
 // Rows in a block, and blocks.
 pub const BLOCK: usize = 64;
@@ -21,10 +21,8 @@ fn fill_within(sub: &mut [u8])
     requires { length sub.old ≡ most_rows }
     ensures { InBlocks sub.new }
 {
-    let mut i: usize = 0;
-    while i < surface::MOST_ROWS {
-        sub[i] = (i % BLOCK) as u8;
-        i += 1;
+    for (i, x) in sub.iter_mut().enumerate() {
+        *x = (i % BLOCK) as u8;
     }
 }
 
@@ -33,10 +31,8 @@ fn fill_sums(sup: &mut [u16])
     requires { length sup.old ≡ blocks }
     ensures { Firsts sup.new }
 {
-    let mut b: usize = 0;
-    while b < BLOCKS {
-        sup[b] = (BLOCK * b) as u16;
-        b += 1;
+    for (b, x) in sup.iter_mut().enumerate() {
+        *x = (BLOCK * b) as u16;
     }
 }
 
@@ -50,38 +46,18 @@ pub fn fill(sub: &mut [u8], sup: &mut [u16])
     fill_sums(sup);
 }
 
-// The stair: noughts and as many ones, for the rows of a block.
-fn fill_stair(stair: &mut [u8])
-    requires { length stair.old ≡ 2 * block }
-    ensures { Stair block stair.new }
-{
-    let mut k: usize = 0;
-    while k < 2 * BLOCK {
-        stair[k] = (k / BLOCK) as u8;
-        k += 1;
-    }
-}
-
-// The flight: the same for the blocks.
-fn fill_flight(flight: &mut [u16])
-    requires { length flight.old ≡ 2 * blocks }
-    ensures { Stair blocks flight.new }
-{
-    let mut k: usize = 0;
-    while k < 2 * BLOCKS {
-        flight[k] = (k / BLOCKS) as u16;
-        k += 1;
-    }
-}
-
-// Inner: the stair and the flight, parts of which `leave` takes off.
+// Inner: the stair and the flight, noughts and as many ones, for the rows of a block and for the blocks; `leave` takes off parts of them.
 pub fn fill_stairs(stair: &mut [u8], flight: &mut [u16])
     requires stair_len { length stair.old ≡ 2 * block }
     requires flight_len { length flight.old ≡ 2 * blocks }
     ensures { Stairs stair.new flight.new }
 {
-    fill_stair(stair);
-    fill_flight(flight);
+    let (low, high) = stair.split_at_mut(BLOCK);
+    low.fill(0);
+    high.fill(1);
+    let (low, high) = flight.split_at_mut(BLOCKS);
+    low.fill(0);
+    high.fill(1);
 }
 
 // Inner: how many rows stand before i.
@@ -93,7 +69,7 @@ pub fn before(sub: &[u8], sup: &[u16], i: usize) -> u32
     sup[i / BLOCK] as u32 + sub[i] as u32
 }
 
-// The numbers in i's block are now those of less.
+// The numbers in i's block are now those of less. Number by number: `copy_from_slice` was tried and slower, since less then lies in memory.
 fn write_block(sub: &mut [u8], less: &[u8], i: usize)
     requires i_lt_most_rows { i < most_rows }
     requires sub_len { length sub.old ≡ most_rows }
@@ -101,10 +77,8 @@ fn write_block(sub: &mut [u8], less: &[u8], i: usize)
     ensures { BlockWritten i less.now sub.old sub.new }
 {
     let b = BLOCK * (i / BLOCK);
-    let mut k: usize = 0;
-    while k < BLOCK {
+    for k in 0..BLOCK {
         sub[b + k] = less[k];
-        k += 1;
     }
 }
 
@@ -119,25 +93,10 @@ fn leave_block(sub: &mut [u8], stair: &[u8], i: usize)
     let mut less = [0u8; BLOCK];
     let b = BLOCK * (i / BLOCK);
     let o = BLOCK - 1 - i % BLOCK;
-    let mut k: usize = 0;
-    while k < BLOCK {
+    for k in 0..BLOCK {
         less[k] = sub[b + k] - stair[o + k];
-        k += 1;
     }
     write_block(sub, &less, i);
-}
-
-// The sums are now those of less.
-fn write_sums(sup: &mut [u16], less: &[u16])
-    requires sup_len { length sup.old ≡ blocks }
-    requires less_len { length less.now ≡ blocks }
-    ensures { Copied less.now sup.new }
-{
-    let mut k: usize = 0;
-    while k < BLOCKS {
-        sup[k] = less[k];
-        k += 1;
-    }
 }
 
 // The blocks past i's lose one, and those past j's.
@@ -153,12 +112,10 @@ fn leave_sums(sup: &mut [u16], flight: &[u16], i: usize, j: usize)
     let y = BLOCKS - 1 - j / BLOCK;
     let first = &flight[x..];
     let second = &flight[y..];
-    let mut k: usize = 0;
-    while k < BLOCKS {
+    for k in 0..BLOCKS {
         less[k] = sup[k] - first[k] - second[k];
-        k += 1;
     }
-    write_sums(sup, &less);
+    sup.copy_from_slice(&less);
 }
 
 // Inner: the rows i and j leave.

@@ -108,17 +108,6 @@ module _ (t : List ℕ) (w : Whole t) where
             near = near (set m (get_or t (next_slot (x - 1)) 0) 1) (λ k h. mark_old m _ k small h) (mark_new m _ _ small refl);
           })
 
-  pub grow_none : (v : ℕ) (m q : List ℕ) (l x : ℕ) → Reached t m q l → Last t v (length t) x → Grew t v m q l m q l x
-  grow_none v m q l x s la = record {
-    state = s;
-    longer = omega arith;
-    same_m = refl;
-    same_q = refl;
-    kept = λ k h. h;
-    front = λ k h. refl;
-    near = λ e a b c. absurd (la.miss e a b c);
-  }
-
   pub reach_none : (m q : List ℕ) → Blank m → length m ≤ length q → get_or t 0 0 < length m → Reaching t (set m (get_or t 0 0) 1) (set q 0 (get_or t 0 0)) 0 1
   reach_none m q b r h =
       let u = get_or t 0 0 in

@@ -92,13 +92,10 @@ pub fn not_connected(t: &[u32], last: &[usize], prev: &[usize]) -> bool
     let mut m = [0u8; surface::MOST_CORNERS];
     let mut q = [0usize; surface::MOST_CORNERS];
     reach_all(t, last, prev, &mut m, &mut q);
-    let mut e: usize = 0;
-    while e < t.len() {
-        let v = t[e] as usize;
-        if m[v] == 0 {
+    for v in t {
+        if m[*v as usize] == 0 {
             return true;
         }
-        e += 1;
     }
     false
 }

@@ -4,15 +4,14 @@ use mathlib.Core.List.{List, [], ◌++◌, append_assoc, map, map-id, map-append
 use Prim.Native.Nat.{ℕ, suc, ◌+◌, ◌-◌, ◌*◌, ◌≤◌, ◌<◌}
 use native.Mathlib.Nat.{mul-le-mul, le_refl}
 use native.Mathlib.Omega.{arith}
-use lib.IntN.{ℤ, pos}
-use lib.ListN.{length, length-append, length-map, take, drop, length-drop, take-append-drop, replicate, length-replicate}
+use lib.IntN.{ℤ}
+use lib.ListN.{length, length-append, length-map, take, drop, length-drop, take-append-drop}
 use lib.Seq.{sets, length-take-le, drop_at}
-use Rattle.lines.specs.InnerLimits.{most_line, most_plain}
-use Rattle.lines.specs.Lines.{line, lines, FewDigits, LineAt}
+use Rattle.lines.specs.Lines.{line, lines, FewDigits}
 use Rattle.lines.specs.Inner.{PutFrom}
-use Rattle.lines.proofs.Cut.{map_take, map_drop, short_append, short_left, short_right, short_more, lines_more, cut_lines}
-use Rattle.lines.proofs.Turns.{put_more, put_length, front}
-use Rattle.reading.specs.Inner.{same, LineOf, LinesOf, Readable}
+use Rattle.lines.proofs.Cut.{map_take, map_drop, short_append, short_left, short_right, lines_more, cut_lines}
+use Rattle.lines.proofs.Turns.{put_more, put_length}
+use Rattle.reading.specs.Inner.{same, LineOf, LinesOf}
 
 -- ---- lines of coordinates are lines of numbers
 
@@ -26,30 +25,6 @@ module _ {most : ℕ} {w : List ℕ} {width k : ℕ} {l : List ℕ} {zs : List �
 
     pub their_short : FewDigits most zs
     their_short = subst (FewDigits most) (map-id zs) a.short
-
--- ---- a line
-
-abbrev pub blank : List ℤ
-blank = replicate most_line (pos 0)
-
-module _ {most width : ℕ} {w l : List ℕ} where
-  -- no line at all
-  pub no_line : ((zs : List ℤ) (r : List ℕ) → length zs ≡ width → ¬ LineAt most w l zs r) → (ns : List ℤ) (r : List ℕ) → length ns ≡ width → ¬ LineOf same most w l ns r
-  no_line none ns r h a = none ns r h (rw map-id at a)
-
-  module _ {staged : List ℤ} {r : List ℕ} (read : Readable most width) (p : PutFrom (LineAt most w l) width blank 0 staged r) where
-    -- its numbers stand in front of the stage
-    pub there : take width staged ≡ p.zs
-    there = let h = read.line in front blank staged p.zs width p.put p.count (omega (arith, length-replicate most_line (pos 0)))
-
-    pub there_length : width ≡ length (take width staged)
-    there_length = sym p.count ∙ sym (ap length there)
-
-    pub there_short : FewDigits most_plain (take width staged)
-    there_short = rw there (short_more most_plain most p.zs read.few p.here.short)
-
-    pub coordinate_read : {room room' : List ℤ} {start : ℕ} → room' ≡ sets room start (take width staged) → PutFrom (LineOf same most w l) width room start room' r
-    coordinate_read {room} {room'} {start} e = record { zs = p.zs; count = p.count; here = rw (map-id p.zs) p.here; put = e ∙ ap (sets room start) there }
 
 -- ---- lines
 
@@ -91,29 +66,28 @@ module _ {A : Type 0} {f : A → ℤ} {most : ℕ} {w : List ℕ} {width i : ℕ
 
 module _ {A : Type 0} (f : A → ℤ) (most width count : ℕ) (s : List ℕ) (at : ℕ) (w : List ℕ) (room : List A) where
   -- i lines are read, up to k
-  pub record Lined (room' : List A) (k start i : ℕ) : Type 0 where
+  pub record Lined (room' : List A) (k i : ℕ) : Type 0 where
     pub within : i ≤ count
-    pub place : start ≡ i * width
     pub put : PutFrom (LinesOf f most w width i (drop at s)) (i * width) room 0 room' (drop k s)
 
-  pub lines_start : Lined room at 0 0
-  lines_start = record { within = omega arith; place = omega arith; put = record { zs = []; count = omega arith; here = record { bytes = refl; short = tt }; put = refl } }
+  pub lines_start : Lined room at 0
+  lines_start = record { within = omega arith; put = record { zs = []; count = omega arith; here = record { bytes = refl; short = tt }; put = refl } }
 
-module _ {A : Type 0} {f : A → ℤ} {most width count : ℕ} {s : List ℕ} {at : ℕ} {w : List ℕ} {room room' : List A} {k start i : ℕ} (so : Lined f most width count s at w room room' k start i) where
-  pub line_room : count * width ≤ length room → i < count → start + width ≤ length room'
-  line_room h l = let p = so.place in let m : suc i * width ≤ count * width = mul-le-mul l (le_refl width) in omega (arith, put_length so.put)
+module _ {A : Type 0} {f : A → ℤ} {most width count : ℕ} {s : List ℕ} {at : ℕ} {w : List ℕ} {room room' : List A} {k i : ℕ} (so : Lined f most width count s at w room room' k i) where
+  pub line_room : count * width ≤ length room → i < count → i * width + width ≤ length room'
+  line_room h l = let m : suc i * width ≤ count * width = mul-le-mul l (le_refl width) in omega (arith, put_length so.put)
 
-  pub lines_next : (room₂ : List A) (n : ℕ) → i < count → PutFrom (LineOf f most w (drop k s)) width room' start room₂ (drop n s) → Lined f most width count s at w room room₂ n (start + width) (i + 1)
-  lines_next room₂ n h q = let p = so.put in let a = so.place in let c = p.count in let d = q.count in
+  pub lines_next : (room₂ : List A) (n : ℕ) → i < count → PutFrom (LineOf f most w (drop k s)) width room' (i * width) room₂ (drop n s) → Lined f most width count s at w room room₂ n (i + 1)
+  lines_next room₂ n h q = let p = so.put in let c = p.count in let d = q.count in
       let e : suc i ≡ i + 1 = omega arith in
-      let g : start ≡ 0 + i * width = omega arith in
+      let g : i * width ≡ 0 + i * width = omega arith in
       let m : PutFrom (LinesOf f most w width (suc i) (drop at s)) (suc i * width) room 0 room₂ (drop n s) = record {
         zs = p.zs ++ q.zs;
         count = length-append p.zs q.zs ∙ (omega arith);
         here = lines_on c p.here q.zs d q.here;
         put = put_more room room' room₂ 0 (i * width) p.zs q.zs p.put c (q.put ∙ ap (λ (x : ℕ). sets room' x q.zs) g);
       } in
-      record { within = omega arith; place = omega arith; put = subst (λ (x : ℕ). PutFrom (LinesOf f most w width x (drop at s)) (x * width) room 0 room₂ (drop n s)) e m }
+      record { within = omega arith; put = subst (λ (x : ℕ). PutFrom (LinesOf f most w width x (drop at s)) (x * width) room 0 room₂ (drop n s)) e m }
 
   -- no line is next, so there are not enough
   pub lines_stop : i < count → ((ns : List A) (r : List ℕ) → length ns ≡ width → ¬ LineOf f most w (drop k s) ns r) → (ys : List A) (r : List ℕ) → length ys ≡ count * width → ¬ LinesOf f most w width count (drop at s) ys r

@@ -63,8 +63,8 @@ pub fn read_record(log: &[u32], i: usize) -> Record
     Record {
         kept: Corner(log[i]),
         removed: Corner(log[i + 1]),
-        earlier: earlier,
-        later: later,
+        earlier,
+        later,
     }
 }
 
@@ -73,11 +73,9 @@ pub fn read_contracted(log: &[u32], i: usize) -> Contracted
     requires { i + width ≤ length log.now }
     ensures { IsContracted (record_at log.now i) result }
 {
-    let kept = Corner(log[i]);
-    let removed = Corner(log[i + 1]);
     Contracted {
-        kept: kept,
-        removed: removed,
+        kept: Corner(log[i]),
+        removed: Corner(log[i + 1]),
     }
 }
 
@@ -99,8 +97,6 @@ pub fn write_record(log: &mut [u32], i: usize, r: Record)
 {
     log[i] = r.kept.0;
     log[i + 1] = r.removed.0;
-    let earlier = r.earlier;
-    let later = r.later;
-    write_leaving(log, i + 2, earlier);
-    write_leaving(log, i + 6, later);
+    write_leaving(log, i + 2, r.earlier);
+    write_leaving(log, i + 6, r.later);
 }

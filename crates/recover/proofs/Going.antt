@@ -6,6 +6,9 @@ use native.Mathlib.Omega.{arith}
 use lib.IntN.{ℤ}
 use lib.ListN.{length, length-append, length-drop, take, drop, replicate}
 use lib.Seq.{take_all, take_at, drop-append-add, drop-drop}
+use Rattle.std.specs.Prelude.{Ok, Err, Option}
+use Rattle.regrow.specs.declared.Halt.{Halt}
+use Rattle.regrow.specs.declared.Halt.TheVariants.{Stopped, Refused}
 use Rattle.surface.specs.Limits.{least_corners}
 use Rattle.surface.specs.Lists.{Exactly}
 use Rattle.surface.specs.Rows.{rows, flat}
@@ -22,16 +25,13 @@ use Rattle.record.specs.Layout.{count, records, log_of, room_for}
 use Rattle.record.specs.Front.{standing, zeroed, lowered}
 use Rattle.record.proofs.Places.{records_length}
 use Rattle.record.proofs.Front.{front_stage, standing_front, zeroed_length, zeroed_again}
-use Rattle.least.specs.declared.Bound.{Bound}
 use Rattle.least.specs.Limited.{Allowed}
 use Rattle.going.specs.Going.{CanGoOn, WentOn}
 use Rattle.engine.proofs.Whole.{used_most}
-use Rattle.regrow.specs.declared.Regrown.TheVariants as following
-use Rattle.recover.specs.declared.Recovered.TheVariants.{Done, Stopped}
 use Rattle.recover.specs.Inner.{CanHandOver, HandedOver, CanRecover, WentOnFrom, fails, goes_on}
-use Rattle.recover.proofs.Handing.{all_followed}
+use Rattle.recover.proofs.Handing.{not_refused, all_followed}
 
-module _ {bound : Bound} {xs : List ℤ} {t kept l : List ℕ} (c : CanRecover bound xs t kept l) where
+module _ {bound : Option ℕ} {xs : List ℤ} {t kept l : List ℕ} (c : CanRecover bound xs t kept l) where
   whole : 3 * length (rows t) ≡ length t
   whole = whole_rows t c.threes
 
@@ -42,10 +42,11 @@ module _ {bound : Bound} {xs : List ℤ} {t kept l : List ℕ} (c : CanRecover b
   can_hand_over = record { table = stage_table; fits = let h = c.whole in let f = c.few in let r = c.room in omega arith }
 
   -- a record does not replay
-  pub failed : {k : ℕ} {t' l' : List ℕ} → HandedOver (corners xs) t kept l (following.Stopped k) t' l' → WentOnFrom bound xs t kept l (Stopped k) t' l'
-  failed h = fails h.reached refl h.table h.logged
+  pub failed : (h : Halt) {t' l' : List ℕ} → HandedOver (corners xs) t kept l (Err h) t' l' → WentOnFrom bound xs t kept l (Err h) t' l'
+  failed (Stopped k) h = fails h.reached refl h.table h.logged
+  failed (Refused r) h = absurd (not_refused _ _ _ h.reached)
 
-  module _ {k : ℕ} {t₁ l₁ : List ℕ} (h : HandedOver (corners xs) t kept l (following.Done k) t₁ l₁) where
+  module _ {k : ℕ} {t₁ l₁ : List ℕ} (h : HandedOver (corners xs) t kept l (Ok k) t₁ l₁) where
     led : Replayed (rows t) (records kept) h.state
     led = (all_followed (corners xs) t kept h.reached).0
 
@@ -103,8 +104,8 @@ module _ {bound : Bound} {xs : List ℤ} {t kept l : List ℕ} (c : CanRecover b
             let f = c.skin.stage.few in
             omega (arith, records_length kept, log_length)
 
-    pub went_on : {all : ℕ} {t' l' : List ℕ} → WentOn (Allowed bound xs) t₁ (length t / 3 - 2 * k) l₁ k all t' l' → WentOnFrom bound xs t kept l (Done k all) t' l'
-    went_on {all} {t'} {l'} w = goes_on h.reached run (ap (Done k) w.count) table logged
+    pub went_on : {all : ℕ} {t' l' : List ℕ} → WentOn (Allowed bound xs) t₁ (length t / 3 - 2 * k) l₁ k all t' l' → WentOnFrom bound xs t kept l (Ok (k, all)) t' l'
+    went_on {all} {t'} {l'} w = goes_on h.reached run (ap (λ (j : ℕ). Ok (k, j)) w.count) table logged
       where
         run : Run (Allowed bound xs) h.state w.log w.last
         run = rw stands at w.run

@@ -5,6 +5,7 @@ use Prim.Native.Nat.{ℕ, ◌*◌, ◌≤◌}
 use native.Mathlib.Omega.{arith}
 use lib.ListN.{length, length-append, take, drop}
 use lib.Seq.{sets, length-take-le}
+use Rattle.std.specs.Prelude.{Ok, Err, Result}
 use Rattle.follow.specs.Follow.{Followed, all, some}
 use Rattle.surface.specs.Rows.{Row, rows}
 use Rattle.surface.specs.Record.{Replayed}
@@ -12,8 +13,8 @@ use Rattle.refusal.specs.declared.Refusal.{Refusal}
 use Rattle.record.specs.Layout.{width, count, records, room_for}
 use Rattle.record.specs.Front.{zeroed}
 use Rattle.record.proofs.Places.{records_length}
-use Rattle.regrow.specs.declared.Regrown.{Regrown}
-use Rattle.regrow.specs.declared.Regrown.TheVariants as following
+use Rattle.regrow.specs.declared.Halt.{Halt}
+use Rattle.regrow.specs.declared.Halt.TheVariants.{Refused}
 use Rattle.regrow.proofs.Counted.{regrown_apart}
 use Rattle.replay.specs.Outcome.{replaying}
 use Rattle.lines.proofs.Turns.{in_front}
@@ -21,7 +22,7 @@ use Rattle.recover.specs.Inner.{done_in_lem, CanHandOver, HandedOver}
 
 module _ (n : ℕ) (t kept : List ℕ) where
   -- no more are done than were kept
-  pub done_few : {a : Regrown} {T : List Row} → Followed (replaying n t kept) a T → done_in_lem a ≤ count kept
+  pub done_few : {a : Result ℕ Halt} {T : List Row} → Followed (replaying n t kept) a T → done_in_lem a ≤ count kept
   done_few (all w e) = let h = ap done_in_lem e in omega (arith, records_length kept)
   done_few (some done i rest q w f e) =
       let h = ap done_in_lem e in
@@ -29,18 +30,18 @@ module _ (n : ℕ) (t kept : List ℕ) where
       omega (arith, records_length kept)
 
   -- following refuses nothing
-  pub not_refused : {r : Refusal} {T : List Row} → ¬ Followed (replaying n t kept) (following.Refused r) T
+  pub not_refused : {r : Refusal} {T : List Row} → ¬ Followed (replaying n t kept) (Err (Refused r)) T
   not_refused (all w e) = regrown_apart.refused_finished e
   not_refused (some done i rest {r = r} q w f e) = regrown_apart.refused_stopped {r = r} e
 
   -- where all are done, they lead to the stage handed over
-  pub all_followed : {k : ℕ} {T : List Row} → Followed (replaying n t kept) (following.Done k) T → Replayed (rows t) (records kept) T × (k ≡ count kept)
+  pub all_followed : {k : ℕ} {T : List Row} → Followed (replaying n t kept) (Ok k) T → Replayed (rows t) (records kept) T × (k ≡ count kept)
   all_followed (all w e) = (w, let h = ap done_in_lem e in omega (arith, records_length kept))
   all_followed (some done i rest {r = r} q w f e) = absurd (regrown_apart.finished_stopped {r = r} e)
 
 -- ---- the records done, in front of the log
 
-module _ {n : ℕ} {t kept l : List ℕ} {a : Regrown} {T : List Row} (h : CanHandOver n t kept l) (f : Followed (replaying n t kept) a T) (d : ℕ) (e : d ≡ done_in_lem a) where
+module _ {n : ℕ} {t kept l : List ℕ} {a : Result ℕ Halt} {T : List Row} (h : CanHandOver n t kept l) (f : Followed (replaying n t kept) a T) (d : ℕ) (e : d ≡ done_in_lem a) where
   pub numbers_kept : d * width ≤ length kept
   numbers_kept = omega (arith, done_few n t kept f)
 

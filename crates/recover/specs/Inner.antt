@@ -1,5 +1,7 @@
 -- What inner functions are asked on and give: no public contract names it.
-use Rattle.std.specs.Prelude.{◌≡◌, List, ◌++◌, ℕ, ◌+◌, ◌-◌, ◌≤◌, ◌%◌, ℤ, length, take, drop}
+use Rattle.regrow.specs.declared.Halt.{Halt}
+use Rattle.regrow.specs.declared.Halt.TheVariants.{Stopped, Refused}
+use Rattle.std.specs.Prelude.{◌≡◌, List, ◌++◌, ℕ, ◌+◌, ◌-◌, ◌≤◌, ◌%◌, ℤ, length, take, drop, Ok, Err, Result, Option}
 use Rattle.follow.specs.Follow.{Followed}
 use Rattle.surface.specs.Limits.{least_corners}
 use Rattle.surface.specs.Rows.{Row, rows}
@@ -10,20 +12,15 @@ use Rattle.faults.specs.Counts.{corners}
 use Rattle.run.specs.Run.{Run}
 use Rattle.record.specs.Layout.{count, log_of, room_for, WholeRecords}
 use Rattle.record.specs.Front.{zeroed}
-use Rattle.least.specs.declared.Bound.{Bound}
 use Rattle.least.specs.Limited.{Allowed}
 use Rattle.least.specs.Inner.{Measurable}
-use Rattle.regrow.specs.declared.Regrown.{Regrown}
-use Rattle.regrow.specs.declared.Regrown.TheVariants as following
 use Rattle.replay.specs.Outcome.{replaying}
-use Rattle.recover.specs.declared.Recovered.{Recovered}
-use Rattle.recover.specs.declared.Recovered.TheVariants.{Done, Stopped}
 
 -- how many records were done
-abbrev pub done_in_lem : Regrown → ℕ
-done_in_lem (following.Done k) = k
-done_in_lem (following.Stopped k) = k
-done_in_lem (following.Refused r) = 0
+abbrev pub done_in_lem : Result ℕ Halt → ℕ
+done_in_lem (Ok k) = k
+done_in_lem (Err (Stopped k)) = k
+done_in_lem (Err (Refused r)) = 0
 
 -- a stage's table, and a log room with room for the records kept
 pub record CanHandOver (n : ℕ) (t kept l : List ℕ) : Type 0 where
@@ -31,14 +28,14 @@ pub record CanHandOver (n : ℕ) (t kept l : List ℕ) : Type 0 where
   pub fits : length kept ≤ length l
 
 -- the records followed; the stage reached in the table, and the records done in front of the log
-pub record HandedOver (n : ℕ) (t kept l : List ℕ) (a : Regrown) (t' l' : List ℕ) : Type 0 where
+pub record HandedOver (n : ℕ) (t kept l : List ℕ) (a : Result ℕ Halt) (t' l' : List ℕ) : Type 0 where
   pub state : List Row
   pub reached : Followed (replaying n t kept) a state
   pub table : t' ≡ zeroed state t
   pub logged : l' ≡ take (room_for (done_in_lem a)) kept ++ drop (room_for (done_in_lem a)) l
 
 -- a skin, the records kept of its log, and room for all that may follow
-pub record CanRecover (bound : Bound) (xs : List ℤ) (t kept l : List ℕ) : Type 0 where
+pub record CanRecover (bound : Option ℕ) (xs : List ℤ) (t kept l : List ℕ) : Type 0 where
   pub threes : length t % 3 ≡ 0
   pub skin : Skin (corners xs) (rows t) xs
   pub whole : WholeRecords kept
@@ -47,9 +44,9 @@ pub record CanRecover (bound : Bound) (xs : List ℤ) (t kept l : List ℕ) : Ty
   pub measurable : Measurable bound (corners xs) xs
 
 -- what following and going on come to
-pub data WentOnFrom (bound : Bound) (xs : List ℤ) (t kept l : List ℕ) (r : Recovered) (t' l' : List ℕ) : Type 0 where
-  fails : {k : ℕ} {reached : List Row} → Followed (replaying (corners xs) t kept) (following.Stopped k) reached →
-      r ≡ Stopped k → t' ≡ zeroed reached t → l' ≡ take (room_for k) kept ++ drop (room_for k) l → WentOnFrom bound xs t kept l r t' l'
-  goes_on : {k : ℕ} {handed : List Row} {added : List Record} {last : List Row} → Followed (replaying (corners xs) t kept) (following.Done k) handed →
-      Run (Allowed bound xs) handed added last → r ≡ Done k (k + length added) → t' ≡ zeroed last t →
+pub data WentOnFrom (bound : Option ℕ) (xs : List ℤ) (t kept l : List ℕ) (r : Result (ℕ × ℕ) Halt) (t' l' : List ℕ) : Type 0 where
+  fails : {k : ℕ} {reached : List Row} → Followed (replaying (corners xs) t kept) (Err (Stopped k)) reached →
+      r ≡ Err (Stopped k) → t' ≡ zeroed reached t → l' ≡ take (room_for k) kept ++ drop (room_for k) l → WentOnFrom bound xs t kept l r t' l'
+  goes_on : {k : ℕ} {handed : List Row} {added : List Record} {last : List Row} → Followed (replaying (corners xs) t kept) (Ok k) handed →
+      Run (Allowed bound xs) handed added last → r ≡ Ok (k, k + length added) → t' ≡ zeroed last t →
       l' ≡ kept ++ (log_of added ++ drop (room_for (k + length added)) l) → WentOnFrom bound xs t kept l r t' l'

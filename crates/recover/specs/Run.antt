@@ -1,5 +1,5 @@
 -- What a recovery comes to that is done, and one that stopped at a record: the records kept and the stage that they lead to, by name.
-use Rattle.std.specs.Prelude.{◌≡◌, List, ◌∷◌, ◌++◌, ℕ, ◌+◌, ◌%◌, ℤ, length, take, drop}
+use Rattle.std.specs.Prelude.{◌≡◌, List, ◌∷◌, ◌++◌, ℕ, ◌+◌, ◌%◌, ℤ, length, take, drop, Option, Ok}
 use Rattle.surface.specs.Rows.{Row, rows}
 use Rattle.surface.specs.Record.{Record, Replays, Replayed}
 use Rattle.corners.specs.Skin.{Skin}
@@ -7,23 +7,21 @@ use Rattle.faults.specs.Counts.{corners}
 use Rattle.run.specs.Run.{Run}
 use Rattle.record.specs.Layout.{count, records, log_of, room_for}
 use Rattle.record.specs.Front.{zeroed}
-use Rattle.least.specs.declared.Bound.{Bound}
 use Rattle.least.specs.Limited.{Allowed}
-use Rattle.thin.specs.declared.Asked.{Asked}
-use Rattle.thin.specs.declared.Asked.TheVariants.{Under}
+use Rattle.thin.specs.Order.{Asked}
 use Rattle.logcut.specs.Cut.{CutOf}
 
 -- done: the records kept lead from the first skin to the stage handed over, and the run goes on from it to where no edge qualifies; its last stage stands
 -- in the table, the records kept and those added in the log
 pub record RecoveryOf (a : Asked) (xs : List ℤ) (t l b : List ℕ) (k all : ℕ) (t' l' : List ℕ) : Type 0 where
-  pub bound : Bound
+  pub bound : Option ℕ
   pub kept : List ℕ
   pub handed : List Row
   pub added : List Record
   pub last : List Row
   pub whole : length t % 3 ≡ 0
   pub skin : Skin (corners xs) (rows t) xs
-  pub under : a ≡ Under bound
+  pub under : a ≡ Ok bound
   pub cut : CutOf b (corners xs) (length (rows t)) kept
   pub led : Replayed (rows t) (records kept) handed
   pub run : Run (Allowed bound xs) handed added last

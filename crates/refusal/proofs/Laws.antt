@@ -5,8 +5,7 @@ use mathlib.Core.Logic.{inl, inr, ◌↔◌}
 use mathlib.Core.List.{List, [], ◌∷◌, ◌++◌}
 use Prim.Native.Nat.{ℕ}
 use native.Mathlib.Omega.{arith}
-use Rattle.refusal.specs.declared.Refusal.{Refusal}
-use Rattle.refusal.specs.declared.Verdict.TheVariants.{Passes, Refused}
+use Rattle.std.specs.Prelude.{Ok, Err, Result}
 use Rattle.refusal.specs.First.{Clause, FirstOf}
 
 -- m ends the list, and none of the lines before it is given
@@ -83,13 +82,13 @@ module _ {R A : Type 0} {passes : A} {refuses : R → A} (apart : Verdicts passe
   passes_front [] m f = refl
   passes_front (c ∷ l) m f = let p = passed c (l ++ m) f in inr (p.0, passes_front l m p.1)
 
--- 01's own verdicts: two refusals are two
-pub refused_one : {r s : Refusal} → Refused r ≡ Refused s → r ≡ s
+-- the verdicts of 01: two refusals are two
+pub refused_one : {R T : Type 0} {r s : R} → ◌≡◌ {A = Result T R} (Err r) (Err s) → r ≡ s
 refused_one e = cc
 
 -- and none of them passes
-pub refused_passes : {X : Type 0} {r : Refusal} → Refused r ≡ Passes → X
+pub refused_passes : {X R T : Type 0} {r : R} {u : T} → ◌≡◌ {A = Result T R} (Err r) (Ok u) → X
 refused_passes e = let z : ◌≡◌ {A = ℕ} 0 1 = cc in absurd (omega arith)
 
-pub verdicts : Verdicts Passes Refused
+pub verdicts : {R : Type 0} → Verdicts {R = R} {A = Result Unit R} (Ok tt) Err
 verdicts = record { one = refused_one; none = refused_passes }

@@ -5,10 +5,9 @@ use Prim.Native.Nat.{ℕ, ◌-◌, ◌<◌}
 use native.Mathlib.Omega.{arith}
 use lib.IntN.{ℤ, pos, nat_abs}
 use lib.ListN.{length, get_or}
+use Rattle.std.specs.Prelude.{Ok, Err, Result}
 use Rattle.refusal.specs.declared.Refusal.{Refusal}
 use Rattle.refusal.specs.declared.Refusal.TheVariants.{LimitUnusable, CountsOutside, RoomShort, CoordinateOutOfRange, NumberNotBelow, NumberTwice, EdgeTwice, ReverseMissing, CornerUnused, RingsMany, NotConnected, SheetForm, RecordFails}
-use Rattle.refusal.specs.declared.Verdict.{Verdict}
-use Rattle.refusal.specs.declared.Verdict.TheVariants.{Passes, Refused}
 use Rattle.refusal.specs.Number.{number}
 use Rattle.refusal.specs.Told.{Told, done, refused, stopped_as}
 use Rattle.refusal.specs.Outcome.{outcome}
@@ -60,15 +59,15 @@ pub refused_done : (r : Refusal) {vs : List ℤ} → refused r ≡ done vs → �
 refused_done r e = let h = (numbered r).0 in let k = ap (λ (t : Told). t.number) e in omega arith
 
 -- what passes is done, and what is refused tells its number
-pub passing : (vs : List ℤ) {v : Verdict} → v ≡ Passes → done vs ≡ outcome v vs
+pub passing : (vs : List ℤ) {v : Result Unit Refusal} → v ≡ Ok tt → done vs ≡ outcome v vs
 passing vs e = rw e
 
-pub refusing : (vs : List ℤ) {v : Verdict} {r : Refusal} → v ≡ Refused r → refused r ≡ outcome v vs
+pub refusing : (vs : List ℤ) {v : Result Unit Refusal} {r : Refusal} → v ≡ Err r → refused r ≡ outcome v vs
 refusing vs e = rw e
 
 -- one verdict and the same values have one outcome
-pub outcome_one : (vs : List ℤ) {v w : Verdict} {a b : Told} → v ≡ w → a ≡ outcome v vs → b ≡ outcome w vs → a ≡ b
-outcome_one vs e p q = p ∙ ap (λ (v : Verdict). outcome v vs) e ∙ sym q
+pub outcome_one : (vs : List ℤ) {v w : Result Unit Refusal} {a b : Told} → v ≡ w → a ≡ outcome v vs → b ≡ outcome w vs → a ≡ b
+outcome_one vs e p q = p ∙ ap (λ (v : Result Unit Refusal). outcome v vs) e ∙ sym q
 
 -- the count that an answer carries
 unfoldable pub counted : Told → ℕ

@@ -3,9 +3,8 @@ use mathlib.Core.Path.{◌≡◌, sym, ◌∙◌, ap, subst}
 use mathlib.Core.Logic.{◌⊎◌, inl, inr}
 use mathlib.Core.List.{List}
 use lib.IntN.{ℤ}
+use Rattle.std.specs.Prelude.{Ok, Err, Result}
 use Rattle.refusal.specs.declared.Refusal.{Refusal}
-use Rattle.refusal.specs.declared.Verdict.{Verdict}
-use Rattle.refusal.specs.declared.Verdict.TheVariants.{Passes, Refused}
 use Rattle.refusal.specs.First.{Clause, FirstOf, Refusals, First}
 use Rattle.refusal.specs.Told.{Told, done, refused}
 use Rattle.refusal.specs.Outcome.{outcome}
@@ -24,7 +23,7 @@ module _ {R A : Type 0} {passes : A} {refuses : R → A} (apart : Verdicts passe
   exactly_of {l} (inr (f, n)) = record { when = λ r g. absurd (apart.none (first_one apart l g f)); only = λ r q. absurd (n r q) }
 
 -- 01's own
-pub exactly : {l : Refusals} {v : Told} → ((e : Refusal) × First l (Refused e) × (v ≡ refused e)) ⊎ (First l Passes × ((r : Refusal) → ¬ (v ≡ refused r))) → Refuses l v
+pub exactly : {l : Refusals} {v : Told} → ((e : Refusal) × First l (Err e) × (v ≡ refused e)) ⊎ (First l (Ok tt) × ((r : Refusal) → ¬ (v ≡ refused r))) → Refuses l v
 exactly h = exactly_of verdicts (λ r s e. tells_refusal e) h
 
 -- what is done is not refused
@@ -32,6 +31,6 @@ pub not_refused : {v : Told} {vs : List ℤ} → v ≡ done vs → (r : Refusal)
 not_refused p r q = refused_done r (sym q ∙ p)
 
 -- a verdict and what it comes to
-pub by_verdict : {l : Refusals} {a : Told} (vs : List ℤ) (v : Verdict) → First l v → a ≡ outcome v vs → Refuses l a
-by_verdict vs Passes f p = exactly (inr (f, not_refused p))
-by_verdict vs (Refused r) f p = exactly (inl (r, f, p))
+pub by_verdict : {l : Refusals} {a : Told} (vs : List ℤ) (v : Result Unit Refusal) → First l v → a ≡ outcome v vs → Refuses l a
+by_verdict vs (Ok tt) f p = exactly (inr (f, not_refused p))
+by_verdict vs (Err r) f p = exactly (inl (r, f, p))

@@ -1,9 +1,7 @@
 -- "The first that holds is the answer, and it is given only then." Refusals may be of any type R and verdicts of any type A, which pass or refuse:
 -- refusals that stand in an enum of their own have the same lists and the same laws.
-use Rattle.std.specs.Prelude.{◌≡◌, ◌⊎◌, List, [], ◌∷◌}
+use Rattle.std.specs.Prelude.{◌≡◌, ◌⊎◌, List, [], ◌∷◌, Ok, Err, Result}
 use Rattle.refusal.specs.declared.Refusal.{Refusal}
-use Rattle.refusal.specs.declared.Verdict.{Verdict}
-use Rattle.refusal.specs.declared.Verdict.TheVariants.{Passes, Refused}
 
 -- a line of 01's table: the refusal, and when it is given
 pub record Clause (R : Type 0) : Type 1 where
@@ -23,5 +21,5 @@ FirstOf passes refuses (c ∷ l) v = (c.given × (v ≡ refuses c.refusal)) ⊎ 
 abbrev pub Refusals : Type 1
 Refusals = List (Clause Refusal)
 
-abbrev pub First : Refusals → Verdict → Type 0
-First = FirstOf Passes Refused
+abbrev pub First : Refusals → Result Unit Refusal → Type 0
+First = FirstOf (Ok tt) Err

@@ -1,15 +1,14 @@
 -- What inner functions are asked on and give: no public contract names it.
-use Rattle.std.specs.Prelude.{◌≡◌, cond, [], ◌∷◌, ℕ, ◌<◌, ltb}
-use Rattle.refusal.specs.declared.Verdict.{Verdict}
-use Rattle.refusal.specs.declared.Verdict.TheVariants.{Passes, Refused}
+use Rattle.std.specs.Prelude.{◌≡◌, cond, [], ◌∷◌, ℕ, ◌<◌, ltb, Ok, Err, Result}
+use Rattle.refusal.specs.declared.Refusal.{Refusal}
 use Rattle.refusal.specs.Number.{number}
 use Rattle.refusal.specs.First.{Refusals}
 
 -- the verdict with the lesser number; passing has none
-unfoldable pub lesser_of : Verdict → Verdict → Verdict
-lesser_of Passes w = w
-lesser_of (Refused a) Passes = Refused a
-lesser_of (Refused a) (Refused b) = cond (ltb (number b) (number a)) (Refused b) (Refused a)
+unfoldable pub lesser_of : Result Unit Refusal → Result Unit Refusal → Result Unit Refusal
+lesser_of (Ok tt) w = w
+lesser_of (Err a) (Ok tt) = Err a
+lesser_of (Err a) (Err b) = cond (ltb (number b) (number a)) (Err b) (Err a)
 
 -- the two lists have the same refusals, and their numbers rise, from above k
 unfoldable pub Rising : ℕ → Refusals → Refusals → Type 0

@@ -1,6 +1,6 @@
 -- What a call tells, held against its list of refusals.
-use Rattle.std.specs.Prelude.{◌≡◌, List}
-use Rattle.refusal.specs.declared.Verdict.TheVariants.{Passes, Refused}
+use Rattle.std.specs.Prelude.{◌≡◌, List, Ok, Err, Result}
+use Rattle.refusal.specs.declared.Refusal.{Refusal}
 use Rattle.refusal.specs.First.{Clause, FirstOf, Refusals}
 use Rattle.refusal.specs.Told.{Told, refused}
 
@@ -11,4 +11,4 @@ pub record RefusesOf {R A : Type 0} (passes : A) (refuses : R → A) (tells : R 
 
 -- of 01's own refusals, which tell their number alone
 abbrev pub Refuses : Refusals → Told → Type 0
-Refuses = RefusesOf Passes Refused refused
+Refuses = RefusesOf {A = Result Unit Refusal} (Ok tt) Err refused

@@ -4,6 +4,7 @@ use mathlib.Core.List.{List}
 use Prim.Native.Nat.{ℕ, ◌+◌, ◌*◌, ◌≤◌, ◌<◌}
 use native.Mathlib.Omega.{arith}
 use lib.ListN.{length, length-reverse}
+use Rattle.std.specs.Prelude.{Ok, Err, Result}
 use Rattle.follow.proofs.Following as following
 use Rattle.follow.proofs.Following.{Plain, outcome_one, outcome_whole, outcome_reached}
 use Rattle.surface.specs.Rows.{Row}
@@ -13,7 +14,6 @@ use Rattle.growth.proofs.Main as growth
 use Rattle.growth.proofs.Recorded.{replayed_grown, grown_back_stage}
 use Rattle.run.proofs.Main.{replayed_stage}
 use Rattle.refusal.specs.declared.Refusal.{Refusal}
-use Rattle.refusal.specs.declared.Verdict.TheVariants.{Passes}
 use Rattle.refusal.specs.First.{First}
 use Rattle.refusal.proofs.Laws.{verdicts, first_one, refused_one, refused_passes, rest_decides, passed, none_yet, ◌nor◌}
 use Rattle.faults.specs.Counts.{CountsFit}
@@ -22,8 +22,8 @@ use Rattle.record.specs.Layout.{count, records}
 use Rattle.record.specs.Front.{front_rows, standing, filled}
 use Rattle.record.proofs.Log.{first_length}
 use Rattle.record.proofs.Front.{standing_length, standing_filled}
-use Rattle.regrow.specs.declared.Regrown.{Regrown}
-use Rattle.regrow.specs.declared.Regrown.TheVariants.{Done, Refused}
+use Rattle.regrow.specs.declared.Halt.{Halt}
+use Rattle.regrow.specs.declared.Halt.TheVariants.{Refused}
 use Rattle.regrow.specs.Answer.{told, CountTold}
 use Rattle.growable.specs.Refusals.{GrowFits, room_need, grow_refusals}
 use Rattle.growable.proofs.Judging.{counts_told}
@@ -42,39 +42,39 @@ growing_plain n m room log = record {
 }
 
 -- no second outcome satisfies the same words
-pub grown_one : {n m : ℕ} {room log : List ℕ} {a b : Regrown} {room₁ room₂ : List ℕ} → GrownAs n m room log a room₁ → GrownAs n m room log b room₂ → (a ≡ b) × (room₁ ≡ room₂)
+pub grown_one : {n m : ℕ} {room log : List ℕ} {a b : Result ℕ Halt} {room₁ room₂ : List ℕ} → GrownAs n m room log a room₁ → GrownAs n m room log b room₂ → (a ≡ b) × (room₁ ≡ room₂)
 grown_one {n} {m} {room} {log} v w = outcome_one (growing n m room log) (growing_plain n m room log) v.outcome w.outcome
 
 -- what is refused by another number than 13 is unchanged
-pub refused_same : {n m : ℕ} {room log : List ℕ} {r : Refusal} {room' : List ℕ} → GrownAs n m room log (Refused r) room' → room' ≡ room
+pub refused_same : {n m : ℕ} {room log : List ℕ} {r : Refusal} {room' : List ℕ} → GrownAs n m room log (Err (Refused r)) room' → room' ≡ room
 refused_same {n} {m} {room} {log} w = following.refused_same (growing n m room log) regrown_apart w.outcome
 
 -- a stage within its counts and with room passes
-pub grow_passes : (n m : ℕ) (room log : List ℕ) → GrowFits n m log → room_need m log ≤ length room → Stage n (standing m room) → First (grow_refusals n m room log) Passes
+pub grow_passes : (n m : ℕ) (room log : List ℕ) → GrowFits n m log → room_need m log ≤ length room → Stage n (standing m room) → First (grow_refusals n m room log) (Ok tt)
 grow_passes n m room log fits h s = unfold grow_refusals in
-    rest_decides verdicts ((λ k. k fits) nor none_yet) _ (rest_decides verdicts ((λ k. omega arith) nor none_yet) _ (after_2 n (front_rows m room) Passes c (stage_passes (front_rows m room) c.table.threes n s)))
+    rest_decides verdicts ((λ k. k fits) nor none_yet) _ (rest_decides verdicts ((λ k. omega arith) nor none_yet) _ (after_2 n (front_rows m room) (Ok tt) c (stage_passes (front_rows m room) c.table.threes n s)))
   where
     c : CountsFit n (front_rows m room)
     c = counts_told n m room log fits h
 
 -- the log of steps from T, grown back from where they led, is done whole and leaves T
-pub restores : {n m : ℕ} {room log : List ℕ} {a : Regrown} {room' : List ℕ} {T : List Row} → GrowFits n m log → room_need m log ≤ length room → Stage n T → Replayed T (records log) (standing m room) →
-    GrownAs n m room log a room' → (a ≡ Done (count log)) × (room' ≡ filled T room)
+pub restores : {n m : ℕ} {room log : List ℕ} {a : Result ℕ Halt} {room' : List ℕ} {T : List Row} → GrowFits n m log → room_need m log ≤ length room → Stage n T → Replayed T (records log) (standing m room) →
+    GrownAs n m room log a room' → (a ≡ Ok (count log)) × (room' ≡ filled T room)
 restores {n} {m} {room} {log} fits h s r w =
     let z = replayed_stage s r in
     let o = outcome_whole (growing n m room log) (growing_plain n m room log) (grow_passes n m room log fits h z, z) (replayed_grown s r) w.outcome in
-    (o.0 ∙ ap Done (length-reverse (records log) ∙ first_length (count log) log), o.1)
+    (o.0 ∙ ap Ok (length-reverse (records log) ∙ first_length (count log) log), o.1)
 
 not_less : {i j : ℕ} → ¬ (i < j) → j ≤ i
 not_less h = omega arith
 
 -- the rows told stand in the room
-rows_inside : (n m : ℕ) (room log : List ℕ) → First (grow_refusals n m room log) Passes → 3 * m ≤ length room
+rows_inside : (n m : ℕ) (room log : List ℕ) → First (grow_refusals n m room log) (Ok tt) → 3 * m ≤ length room
 unfolding grow_refusals
 rows_inside n m room log f = let h : room_need m log ≤ length room = not_less (passed verdicts _ _ (passed verdicts _ _ f).1).0 in omega arith
 
 -- what is left is a stage, whatever the log: so many rows as stood, and two more for each record done
-pub grown_leaves : {n m : ℕ} {room log : List ℕ} {a : Regrown} {room' : List ℕ} → GrownAs n m room log a room' → {k : ℕ} → CountTold k (told a) → (length (standing (m + 2 * k) room') ≡ m + 2 * k) × Stage n (standing (m + 2 * k) room')
+pub grown_leaves : {n m : ℕ} {room log : List ℕ} {a : Result ℕ Halt} {room' : List ℕ} → GrownAs n m room log a room' → {k : ℕ} → CountTold k (told a) → (length (standing (m + 2 * k) room') ≡ m + 2 * k) × Stage n (standing (m + 2 * k) room')
 grown_leaves {n} {m} {room} {log} {a} w {k} d =
     let o = outcome_reached (growing n m room log) regrown_apart (did a d) w.outcome in
     let z = grown_rows n o.3 in

@@ -5,6 +5,7 @@ use mathlib.Core.List.{List, reverse}
 use Prim.Native.Nat.{ℕ, ◌+◌, ◌-◌, ◌*◌, ◌≤◌, ◌<◌}
 use native.Mathlib.Omega.{arith}
 use lib.ListN.{length, drop, length-reverse}
+use Rattle.std.specs.Prelude.{Ok, Err}
 use Rattle.follow.specs.Leads.{Leads, no_step, one_step}
 use Rattle.follow.specs.Inner.{FollowedIn}
 use Rattle.follow.proofs.Upto.{Upto, upto_none, upto_all, upto_fails, upto_more}
@@ -21,7 +22,7 @@ use Rattle.record.proofs.Places.{records_length, records_back}
 use Rattle.refusal.specs.declared.Refusal.TheVariants.{RecordFails}
 use Rattle.grow.specs.Room.{GrewBack}
 use Rattle.record.proofs.Front.{front_stage, standing_length, standing_filled, filled_standing, filled_length, filled_again}
-use Rattle.regrow.specs.declared.Regrown.TheVariants.{Done, Stopped}
+use Rattle.regrow.specs.declared.Halt.TheVariants.{Stopped}
 use Rattle.regrow.specs.Outcome.{growing}
 use Rattle.regrow.specs.Inner.{CanGrow}
 
@@ -71,8 +72,8 @@ module _ (n m : ℕ) (room log : List ℕ) (g : CanGrow n m room log) where
     pub table_stands : StageTable n (front_rows (m + 2 * done) room')
     table_stands = rw (ap (front_rows here) w.left) (front_stage here w.table (drop (3 * length w.table) room) w.many stage)
 
-    pub done_all : count log ≤ done → FollowedIn (growing n m room log) (Done done) room'
-    done_all h = record { state = w.table; reached = upto_all (growing n m room log) w.upto (omega (arith, all_of, h)); left = w.left }
+    pub done_all : {all : ℕ} → done ≡ all → count log ≤ done → FollowedIn (growing n m room log) (Ok all) room'
+    done_all e h = rw (← e) record { state = w.table; reached = upto_all (growing n m room log) w.upto (omega (arith, all_of, h)); left = w.left }
 
     module _ (more : done < count log) where
       pub room_for_two : 3 * (m + 2 * done + 2) ≤ length room'
@@ -85,7 +86,7 @@ module _ (n m : ℕ) (room log : List ℕ) (g : CanGrow n m room log) where
       more_items : done < length (reverse (records log))
       more_items = omega (arith, all_of, more)
 
-      pub next_fails : {room'' : List ℕ} → GrewBack n (m + 2 * done) next room' false room'' → FollowedIn (growing n m room log) (Stopped done) room''
+      pub next_fails : {room'' : List ℕ} → GrewBack n (m + 2 * done) next room' false room'' → FollowedIn (growing n m room log) (Err (Stopped done)) room''
       unfolding GrewBack
       next_fails f = record {
         state = w.table;

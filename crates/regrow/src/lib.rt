@@ -1,44 +1,48 @@
 // Growing back: a log's records undone on the table they led to, the last first.
 #![tactic(auto)]
 
+ghost use Rattle.std.specs.Prelude.{◌≡◌};
+ghost use Rattle.regrow.specs.declared.Halt.TheVariants.{Refused};
 ghost use Rattle.follow.specs.Inner.{FollowedIn};
 ghost use Rattle.regrow.specs.Outcome.{growing, GrownAs};
 ghost use Rattle.regrow.specs.Inner.{CanGrow};
 
-use refusal::{Refusal, Verdict};
+use refusal::Refusal;
 
-// What growing back and replay answer: all records done, those before one that fails, or the refusal.
-#[derive(Clone, Copy)]
-pub enum Regrown {
-    Done(usize),
+// Why growing back and replay stop: at a record that fails, with how many were done before it; or refused before any.
+#[derive(Clone, Copy, Debug, PartialEq, Eq)]
+pub enum Halt {
     Stopped(usize),
     Refused(Refusal),
 }
 
-// Grows a log back on the stage that stands in a room, from its last record on.
-fn grow_log(room: &mut [u32], rows: usize, corners: usize, log: &[u32]) -> Regrown
+impl From<Refusal> for Halt {
+    ghost from_gives = { λ r h. h ≡ Refused r };
+
+    fn from(r: Refusal) -> Halt {
+        Halt::Refused(r)
+    }
+}
+
+// Grows a log back on the stage that stands in a room, from its last record on: how many records were done.
+fn grow_log(room: &mut [u32], rows: usize, corners: usize, log: &[u32]) -> Result<usize, Halt>
     requires { CanGrow corners rows room.old log.now }
     ensures { FollowedIn (growing corners rows room.old log.now) result room.new }
 {
     let all = log.len() / record::WIDTH;
-    let mut done: usize = 0;
-    while done < all {
+    for done in 0..all {
         let r = record::read_record(log, record::WIDTH * (all - 1 - done));
         if !grow::grow(room, rows + 2 * done, corners, r) {
-            return Regrown::Stopped(done);
+            return Err(Halt::Stopped(done));
         }
-        done += 1;
     }
-    Regrown::Done(done)
+    Ok(all)
 }
 
 // Grows a log back on the rows that stand in a room.
-pub fn grow_back(room: &mut [u32], rows: usize, corners: usize, log: &[u32]) -> Regrown
+pub fn grow_back(room: &mut [u32], rows: usize, corners: usize, log: &[u32]) -> Result<usize, Halt>
     ensures { GrownAs corners rows room.old log.now result room.new }
 {
-    let v = growable::judge(room, rows, corners, log);
-    match v {
-        Verdict::Refused(r) => Regrown::Refused(r),
-        Verdict::Passes => grow_log(room, rows, corners, log),
-    }
+    growable::judge(room, rows, corners, log)?;
+    grow_log(room, rows, corners, log)
 }

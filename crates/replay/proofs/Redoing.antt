@@ -5,6 +5,8 @@ use mathlib.Core.List.{List}
 use Prim.Native.Nat.{ℕ, ◌+◌, ◌-◌, ◌*◌, ◌/◌, ◌≤◌, ◌<◌}
 use native.Mathlib.Omega.{arith}
 use lib.ListN.{length, replicate}
+use Rattle.std.specs.Prelude.{Ok, Err}
+use Rattle.regrow.specs.declared.Halt.TheVariants.{Stopped}
 use Rattle.follow.specs.Inner.{FollowedIn}
 use Rattle.follow.proofs.Upto.{Upto, upto_none, upto_all, upto_fails, upto_more}
 use Rattle.surface.specs.Rows.{Row, rows, flat}
@@ -19,7 +21,6 @@ use Rattle.record.proofs.Log.{first_at}
 use Rattle.record.proofs.Places.{records_length}
 use Rattle.record.proofs.Front.{front_stage, standing_front, zeroed_whole, zeroed_length, zeroed_again}
 use Rattle.redo.specs.Redo.{Redid}
-use Rattle.regrow.specs.declared.Regrown.TheVariants.{Done, Stopped}
 use Rattle.replay.specs.Outcome.{replaying}
 
 -- after so many records
@@ -64,8 +65,8 @@ module _ (n : ℕ) (t log : List ℕ) (g : StageTable n t) where
     pub table_stands : StageTable n (front_rows (length t / 3 - 2 * done) t')
     table_stands = rw (ap (front_rows here) w.left) (front_stage here w.table (replicate (length t - length (flat w.table)) 0) many stage)
 
-    pub done_all : count log ≤ done → FollowedIn (replaying n t log) (Done done) t'
-    done_all h = record { state = w.table; reached = upto_all (replaying n t log) w.upto (omega (arith, records_length log, h)); left = w.left }
+    pub done_all : {all : ℕ} → done ≡ all → count log ≤ done → FollowedIn (replaying n t log) (Ok all) t'
+    done_all e h = rw (← e) record { state = w.table; reached = upto_all (replaying n t log) w.upto (omega (arith, records_length log, h)); left = w.left }
 
     module _ (more : done < count log) where
       -- the record after those done
@@ -75,7 +76,7 @@ module _ (n : ℕ) (t log : List ℕ) (g : StageTable n t) where
       more_items : done < length (records log)
       more_items = omega (arith, records_length log, more)
 
-      pub next_fails : {t'' : List ℕ} → Redid (length t / 3 - 2 * done) next t' false t'' → FollowedIn (replaying n t log) (Stopped done) t''
+      pub next_fails : {t'' : List ℕ} → Redid (length t / 3 - 2 * done) next t' false t'' → FollowedIn (replaying n t log) (Err (Stopped done)) t''
       unfolding Redid
       next_fails f = record {
         state = w.table;

@@ -1,5 +1,5 @@
 -- Replay in 01's words: the refusals in their order, or the stage reached and what it leaves.
-use Rattle.std.specs.Prelude.{◌≡◌, false, List, ◌∷◌, ℕ, ◌+◌, ◌*◌, ◌≤◌, length}
+use Rattle.std.specs.Prelude.{◌≡◌, false, List, ◌∷◌, ℕ, ◌+◌, ◌*◌, ◌≤◌, length, Ok, Err, Result}
 use Rattle.follow.specs.Follow.{Call, Outcome}
 use Rattle.surface.specs.Limits.{least_rows}
 use Rattle.surface.specs.Rows.{Row, rows}
@@ -7,13 +7,12 @@ use Rattle.surface.specs.Stage.{Stage}
 use Rattle.surface.specs.Record.{Record, Replays}
 use Rattle.refusal.specs.declared.Refusal.{Refusal}
 use Rattle.refusal.specs.declared.Refusal.TheVariants.{CountsOutside, RecordFails}
-use Rattle.refusal.specs.declared.Verdict.TheVariants as verdict
 use Rattle.refusal.specs.First.{Refusals, ◌when◌, First}
 use Rattle.faults.specs.Counts.{CountsFit}
 use Rattle.faults.specs.Order.{row_refusals}
 use Rattle.record.specs.Layout.{count, records, WholeRecords}
 use Rattle.record.specs.Front.{zeroed}
-use Rattle.regrow.specs.declared.Regrown.{Regrown}
+use Rattle.regrow.specs.declared.Halt.{Halt}
 use Rattle.regrow.specs.Outcome.{regrown}
 
 -- not 2: the table and the corner count are within their limits, the log is a multiple of 10, and no fewer than 4 rows would stand
@@ -31,11 +30,11 @@ abbrev pub NotReplayed : List Row → Record → Refusal → Type 0
 NotReplayed T k r = ((T₁ : List Row) → ¬ Replays T k T₁) × (r ≡ RecordFails)
 
 -- replaying a log on the table t over n corners
-abbrev pub replaying : ℕ → List ℕ → List ℕ → Call (List Row) Record Refusal Refusal Regrown (List ℕ)
+abbrev pub replaying : ℕ → List ℕ → List ℕ → Call (List Row) Record Refusal Refusal (Result ℕ Halt) (List ℕ)
 replaying n t log = record {
   -- the first that holds; where none does, the table is a stage
-  Given = λ e. First (replay_refusals n t log) (verdict.Refused e);
-  Else = First (replay_refusals n t log) verdict.Passes × Stage n (rows t);
+  Given = λ e. First (replay_refusals n t log) (Err e);
+  Else = First (replay_refusals n t log) (Ok tt) × Stage n (rows t);
   -- replaying forward
   items = records log;
   start = rows t;
@@ -48,5 +47,5 @@ replaying n t log = record {
 }
 
 -- the answer a to replaying, and what then stands in the table
-pub record ReplayedAs (n : ℕ) (t log : List ℕ) (a : Regrown) (t' : List ℕ) : Type 0 where
+pub record ReplayedAs (n : ℕ) (t log : List ℕ) (a : Result ℕ Halt) (t' : List ℕ) : Type 0 where
   pub outcome : Outcome (replaying n t log) a t'

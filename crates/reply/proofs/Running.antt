@@ -6,6 +6,8 @@ use native.Mathlib.Omega.{arith}
 use lib.IntN.{ℤ, pos}
 use lib.ListN.{length, length-append, take, drop, replicate, length-replicate}
 use lib.Seq.{take_at}
+use Rattle.std.specs.Prelude.{Result, None}
+use Rattle.refusal.specs.declared.Refusal.{Refusal}
 use Rattle.surface.specs.Rows.{Row, rows, flat}
 use Rattle.surface.specs.Record.{Record}
 use Rattle.surface.proofs.Flat.{rows_flat, flat_length, rows_length}
@@ -17,13 +19,11 @@ use Rattle.figure.specs.Sum.{sixfold}
 use Rattle.figure.specs.Inner.{WithCoordinates}
 use Rattle.wide.specs.Rounding.{figure}
 use Rattle.figure.proofs.Sizes.{stage_coordinates}
-use Rattle.least.specs.declared.Bound.TheVariants.{Free}
 use Rattle.least.specs.Limited.{Allowed}
 use Rattle.going.specs.Going.{CanGoOn, WentOn}
 use Rattle.engine.proofs.Whole.{Went, ready, went}
 use Rattle.lines.specs.Lines.{line}
 use Rattle.lines.specs.Kinds.{row_lines, record_lines}
-use Rattle.tell.specs.declared.Answer.{Answer}
 use Rattle.tell.specs.Text.{OK, run_text, ok_text}
 use Rattle.tell.specs.Put.{Put}
 use Rattle.tell.specs.Inner.{CanTell}
@@ -50,8 +50,8 @@ module _ {xs : List ℤ} {t : List ℕ} (s : SheetSkin xs t) where
   pub can_go_on : CanGoOn (corners xs) t (length t / 3) no_log 0
   can_go_on = let m = s.many in let n = length-replicate {A = ℕ} most_logged 0 in ready t s.threes s.skin.stage no_log (omega arith)
 
-  module _ {k : ℕ} {t' l' : List ℕ} (o : WentOn (Allowed Free xs) t (length t / 3) no_log 0 k t' l') (same : length l' ≡ most_logged) where
-    w : Went (Allowed Free xs) t no_log k t' l'
+  module _ {k : ℕ} {t' l' : List ℕ} (o : WentOn (Allowed None xs) t (length t / 3) no_log 0 k t' l') (same : length l' ≡ most_logged) where
+    w : Went (Allowed None xs) t no_log k t' l'
     w = went t s.threes o
 
     -- three numbers for each row left, ten for each record
@@ -94,7 +94,7 @@ module _ {xs : List ℤ} {t : List ℕ} (s : SheetSkin xs t) where
           }
           )
 
-      pub run_put : {before after : ℤ} {text text' : List ℕ} {r : Answer} → before ≡ figure (sixfold xs (rows t)) → after ≡ figure (sixfold xs (rows (take (length t' - k * 6) t'))) →
+      pub run_put : {before after : ℤ} {text text' : List ℕ} {r : Result ℕ Refusal} → before ≡ figure (sixfold xs (rows t)) → after ≡ figure (sixfold xs (rows (take (length t' - k * 6) t'))) →
           Put (run_text (take (length t' - k * 6) t') (take (k * width) l') before after) text r text' → RunPut xs t text r text'
       run_put {before} {after} {text} {text'} {r} eb ea p = record {
         txt = ok_text xs (rows t) w.log w.last;

@@ -2,13 +2,11 @@
 #![tactic(auto)]
 
 ghost use Rattle.reply.specs.Outcome.{Replied};
-ghost use Rattle.reply.specs.Inner.{SheetSkin, RunPut};
+ghost use Rattle.form.specs.Inner.{Rooms};
+ghost use Rattle.reply.specs.Inner.{SheetSkin, RunPut, ReadSkin};
 
 use engines::Engine;
-use form::Form;
-use least::Bound;
-use refusal::Verdict;
-use tell::Answer;
+use refusal::Refusal;
 
 // Numbers of the log that the thinning of a sheet may need.
 const LOG: usize = (form::MOST_CORNERS - surface::LEAST_CORNERS) * record::WIDTH;
@@ -17,7 +15,7 @@ const LOG: usize = (form::MOST_CORNERS - surface::LEAST_CORNERS) * record::WIDTH
 pub const MOST_TEXT: usize = 65536;
 
 // The answer to a skin: the engine is asked itself, since the skin is checked already.
-fn thinned(table: &mut [u32], corners: &[i32], out: &mut [u8]) -> Answer
+fn thinned(table: &mut [u32], corners: &[i32], out: &mut [u8]) -> Result<usize, Refusal>
     requires { SheetSkin corners.now table.old }
     ensures { RunPut corners.now table.old out.old result out.new }
 {
@@ -25,16 +23,7 @@ fn thinned(table: &mut [u32], corners: &[i32], out: &mut [u8]) -> Answer
     let mut log = [0u32; LOG];
     let rows = table.len() / 3;
     let n = corners.len() / 3;
-    let k = engines::go_on(
-        Engine::Quick,
-        table,
-        rows,
-        n,
-        corners,
-        Bound::Free,
-        &mut log,
-        0,
-    );
+    let k = engines::go_on(Engine::Quick, table, rows, n, corners, None, &mut log, 0);
     // a record takes two rows
     let left = table.len() - k * 6;
     let after = figure::volume_of(&table[..left], corners);
@@ -42,23 +31,28 @@ fn thinned(table: &mut [u32], corners: &[i32], out: &mut [u8]) -> Answer
     tell::tell_run(&table[..left], &log[..logged], before, after, out)
 }
 
+// A sheet's skin: its corners and rows in front of the rooms, checked, and their counts.
+fn read_skin(
+    sheet: &[u8],
+    corners: &mut [i32],
+    table: &mut [u32],
+) -> Result<(usize, usize), Refusal>
+    requires { Rooms corners.old table.old }
+    ensures { ReadSkin sheet.now corners.new table.new result }
+{
+    let (n, m) = form::read_form(sheet, corners, table)?;
+    skin::check_first(&table[..m * 3], &corners[..n * 3])?;
+    Ok((n, m))
+}
+
 // The desk's whole answer to any bytes, in front of the lent text; the rest of it stays. Where it does not fit, nothing is written.
-pub fn reply(sheet: &[u8], text: &mut [u8]) -> Answer
+pub fn reply(sheet: &[u8], text: &mut [u8]) -> Result<usize, Refusal>
     ensures { Replied sheet.now text.old result text.new }
 {
     let mut table = [0u32; form::NUMBERS];
     let mut corners = [0i32; form::COORDINATES];
-    let read = form::read_form(sheet, &mut corners, &mut table);
-    match read {
-        Form::Refused(r) => tell::tell_refusal(r, text),
-        Form::Read(n, m) => {
-            let numbers = m * 3;
-            let coordinates = n * 3;
-            let verdict = skin::check_first(&table[..numbers], &corners[..coordinates]);
-            match verdict {
-                Verdict::Refused(r) => tell::tell_refusal(r, text),
-                Verdict::Passes => thinned(&mut table[..numbers], &corners[..coordinates], text),
-            }
-        }
+    match read_skin(sheet, &mut corners, &mut table) {
+        Ok((n, m)) => thinned(&mut table[..m * 3], &corners[..n * 3], text),
+        Err(r) => tell::tell_refusal(r, text),
     }
 }

@@ -4,16 +4,15 @@ use mathlib.Core.List.{List}
 use Prim.Native.Nat.{ℕ, ◌+◌, ◌-◌, ◌≤◌, ◌<◌}
 use native.Mathlib.Decide.{ℕ_discrete}
 use native.Mathlib.Omega.{arith}
-use mathlib.Core.Logic.{inl}
 use lib.ListN.{length, get_or, set, length-set}
 use lib.Seq.{get_or-set_same, get_or-set_other}
 use Rattle.surface.specs.Rows.{rows}
 use Rattle.surface.specs.Table.{Follows}
 use Rattle.faults.specs.Words.{NoReverse, BothWays}
-use Rattle.slots.specs.Slot.{next_slot, Whole, Under}
+use Rattle.slots.specs.Slot.{next_slot, Whole}
 use Rattle.slots.proofs.Slots.{next_inside, next_round, follows_at, at_follows, at_edge}
 use Rattle.reverses.specs.Reverse.{Reverse, Reverses, onward_slot, Onward}
-use Rattle.edges.specs.Sweep.{Found, FoundTo}
+use Rattle.edges.specs.Sweep.{Found}
 
 module _ (t : List ℕ) (w : Whole t) where
   -- no slot is found
@@ -39,13 +38,6 @@ pub record Settling (t reverse : List ℕ) (e : ℕ) : Type 0 where
   pub room : length t ≤ length reverse
   pub settled : (k : ℕ) → k < e → Reverse t k (get_or reverse k 0)
   pub found : (k : ℕ) → e ≤ k → k < length t → Found t (get_or t (next_slot k) 0) (get_or t k 0) (get_or reverse k 0)
-
-pub settle_none : (t reverse : List ℕ) (n : ℕ) → Whole t → Under t n → FoundTo t reverse n (length t) → Settling t reverse 0
-settle_none t reverse n w u m = record {
-  room = m.room;
-  settled = λ k h. absurd (omega arith);
-  found = λ k a b. m.found k b (inl (u.under (next_slot k) (next_inside (length t) k w.threes b)));
-}
 
 pub settle_more : (t reverse : List ℕ) (e : ℕ) → Whole t → e < length t → (get_or reverse e 0 ≡ 0 → ⊥) → Settling t reverse e →
     Settling t (set reverse e (get_or reverse e 0 - 1)) (e + 1)

@@ -16,19 +16,18 @@ pub fn reverse_missing(t: &[u32], n: usize, reverse: &mut [usize]) -> bool
     requires found_to { FoundTo t.now reverse.old n (length t.now) }
     ensures { Tells result (NoReverse (rows t.now)) (BothWays (rows t.now) × Reverses t.now reverse.new) }
 {
-    let mut e: usize = 0;
-    while e < t.len() {
+    for e in 0..t.len() {
         let x = reverse[e];
         if x == 0 {
             return true;
         }
         reverse[e] = x - 1;
-        e += 1;
     }
     false
 }
 
 // Inner: the slot whose row follows that of e round the corner at e.
+#[tactic(auto, using(slots::proofs::Slots::next_inside), unfolding(crate::specs::Reverse::onward_slot))]
 pub fn onward(reverse: &[usize], e: usize) -> usize
     requires e_lt_most_slots { e < most_slots }
     requires e_in_bounds { next_slot (next_slot e) < length reverse.now }

@@ -6,8 +6,9 @@ use Prim.Native.Nat.{ℕ, zero, suc, ◌+◌, ◌≤◌, ◌<◌}
 use native.Mathlib.Omega.{arith}
 use lib.IntN.{pos}
 use lib.ListN.{length, get_or}
-use Rattle.ring.specs.declared.Trial.{Trial}
-use Rattle.ring.specs.declared.Trial.TheVariants.{Number, Nothing}
+use Rattle.std.specs.Prelude.{Option, Some, None, List, option_copied}
+use Rattle.std.specs.Slice.{IsItemAt}
+use Rattle.std.proofs.Common.{Bor}
 use Rattle.refusal.specs.Told.{done}
 use Rattle.ring.specs.Answer.{told}
 use Rattle.ring.specs.Ring.{size, number_at, AnswerAt}
@@ -32,14 +33,21 @@ pub ring_numbers : length ring ≡ size
 unfolding ring
 ring_numbers = numbers_length_lem size 0
 
+-- what is found by place in a list that is that table
+pub looked_up : (l : List ℕ) (k : ℕ) (r : Option (Bor ℕ)) → l ≡ ring → IsItemAt l k r → AnswerAt k (option_copied r)
+looked_up l k (Some x) e h =
+    let there : k < size = omega (arith, h.3.0, ap length e, ring_numbers) in
+    (there, h.3.1 0 ∙ ap (λ m. get_or m k 0) e ∙ ring_at k there)
+looked_up l k None e h = omega (arith, h.3, ap length e, ring_numbers)
+
 -- no second answer satisfies the same words
-pub trial_one : (k : ℕ) (r s : Trial) → AnswerAt k r → AnswerAt k s → r ≡ s
-trial_one k (Number v) (Number w) p q = ap Number (p.1 ∙ sym q.1)
-trial_one k (Number v) Nothing p q = let h = p.0 in absurd (omega arith)
-trial_one k Nothing (Number w) p q = let h = q.0 in absurd (omega arith)
-trial_one k Nothing Nothing p q = refl
+pub trial_one : (k : ℕ) (r s : Option ℕ) → AnswerAt k r → AnswerAt k s → r ≡ s
+trial_one k (Some v) (Some w) p q = ap Some (p.1 ∙ sym q.1)
+trial_one k (Some v) None p q = let h = p.0 in absurd (omega arith)
+trial_one k None (Some w) p q = let h = q.0 in absurd (omega arith)
+trial_one k None None p q = refl
 
 -- the answer tells the number, or past the end nothing
-pub trial_told : (k : ℕ) (r : Trial) → AnswerAt k r → ((k < size) × (told r ≡ done (pos (number_at k) ∷ []))) ⊎ ((size ≤ k) × (told r ≡ done []))
-trial_told k (Number v) p = inl (p.0, ap (λ z. done (pos z ∷ [])) p.1)
-trial_told k Nothing p = inr (p, refl)
+pub trial_told : (k : ℕ) (r : Option ℕ) → AnswerAt k r → ((k < size) × (told r ≡ done (pos (number_at k) ∷ []))) ⊎ ((size ≤ k) × (told r ≡ done []))
+trial_told k (Some v) p = inl (p.0, ap (λ z. done (pos z ∷ [])) p.1)
+trial_told k None p = inr (p, refl)

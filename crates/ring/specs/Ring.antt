@@ -1,7 +1,5 @@
 -- The trial ring's grid rule.
-use Rattle.std.specs.Prelude.{◌≡◌, List, [], ◌∷◌, ℕ, ◌+◌, ◌*◌, ◌/◌, ◌%◌, ◌≤◌, ◌<◌, get_or}
-use Rattle.ring.specs.declared.Trial.{Trial}
-use Rattle.ring.specs.declared.Trial.TheVariants.{Number, Nothing}
+use Rattle.std.specs.Prelude.{◌≡◌, List, [], ◌∷◌, ℕ, ◌+◌, ◌*◌, ◌/◌, ◌%◌, ◌≤◌, ◌<◌, get_or, Option, Some, None}
 
 -- corner (r, c) is 8 r + c, both taken round at 8
 abbrev pub corner : ℕ → ℕ → ℕ
@@ -20,6 +18,6 @@ unfoldable pub number_at : ℕ → ℕ
 number_at k = get_or (six (k / 6 / 8) (k / 6 % 8)) (k % 6) 0
 
 -- the answer: the number at a place of the table, nothing past it
-abbrev pub AnswerAt : ℕ → Trial → Type 0
-AnswerAt k (Number v) = (k < size) × (v ≡ number_at k)
-AnswerAt k Nothing = size ≤ k
+abbrev pub AnswerAt : ℕ → Option ℕ → Type 0
+AnswerAt k (Some v) = (k < size) × (v ≡ number_at k)
+AnswerAt k None = size ≤ k

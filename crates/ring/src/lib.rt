@@ -22,19 +22,9 @@ const RING: [u32; 384] = [
     62, 6, 7, 62, 7, 63, 63, 7, 0, 63, 0, 56,
 ];
 
-// A number of the stored table, or that there is none.
-#[derive(Clone, Copy)]
-pub enum Trial {
-    Number(u32),
-    Nothing,
-}
-
-// The trial ring's number at a place of its table.
-pub fn trial_number(at: usize) -> Trial
+// The trial ring's number at a place of its table, or that there is none.
+pub fn trial_number(at: usize) -> Option<u32>
     ensures { AnswerAt at result }
 {
-    if 384 <= at {
-        return Trial::Nothing;
-    }
-    Trial::Number(RING[at])
+    RING.get(at).copied()
 }

@@ -15,7 +15,6 @@ use Rattle.surface.proofs.Cycle.{ring_from}
 use Rattle.faults.specs.Words.{Closed, ManyRings, OneRing}
 use Rattle.slots.specs.Slot.{next_slot}
 use Rattle.slots.specs.Chain.{Last}
-use Rattle.slots.specs.Marks.{Blank}
 use Rattle.slots.proofs.Slots.{follows_at, at_follows, at_edge, one_slot}
 use Rattle.slots.proofs.Marks.{mark_new, mark_old, mark_out}
 use Rattle.reverses.specs.Reverse.{onward_slot}
@@ -103,16 +102,6 @@ module _ (t last reverse : List ℕ) (r : CanWalk t last reverse) where
       begins : (e ≡ get_or last v 0 - 1) ⊎ (get_or m (get_or last v 0 - 1) 0 ≢ 0) → get_or m (get_or last v 0 - 1) 0 ≢ 0
       begins (inl q) = rw (sym q) n
       begins (inr q) = q
-
-  pub walk_idle : (m : List ℕ) (v x : ℕ) → x ≡ get_or last v 0 → x ≡ 0 → Sound t last m → HandedOn t reverse m → Walked t last reverse m m v
-  walk_idle m v x e z k c = record { marks = k; hands = c; kept = λ k h. h; begun = λ p. absurd (omega arith) }
-
-  pub walks_none : (m : List ℕ) → length t ≤ length m → Blank m → AllWalked t last reverse m 0
-  walks_none m h b = record {
-    marks = record { room = h; sound = λ e k n. absurd (n (b.blank e)) };
-    hands = record { on = λ e k n. absurd (n (b.blank e)) };
-    begun = λ v k. absurd (omega arith);
-  }
 
   pub walks_more : (m m' : List ℕ) (v : ℕ) → AllWalked t last reverse m v → Walked t last reverse m m' v → AllWalked t last reverse m' (v + 1)
   walks_more m m' v k w = record { marks = w.marks; hands = w.hands; begun = λ u h p. go u h p (ℕ_discrete u v) }

@@ -35,10 +35,8 @@ fn walk_all(t: &[u32], n: usize, last: &[usize], reverse: &[usize], m: &mut [u8]
     requires n_in_bounds { n ≤ length last.now }
     ensures { AllWalked t.now last.now reverse.now m.new n }
 {
-    let mut v: usize = 0;
-    while v < n {
+    for v in 0..n {
         walk(t, last, reverse, m, v);
-        v += 1;
     }
 }
 
@@ -51,12 +49,5 @@ pub fn many_rings(t: &[u32], n: usize, last: &[usize], reverse: &[usize]) -> boo
 {
     let mut m = [0u8; slots::MOST_SLOTS];
     walk_all(t, n, last, reverse, &mut m);
-    let mut e: usize = 0;
-    while e < t.len() {
-        if m[e] == 0 {
-            return true;
-        }
-        e += 1;
-    }
-    false
+    m[..t.len()].contains(&0)
 }

@@ -1,51 +1,95 @@
 -- The least number above one that is passed: found by looking a list through, or by the marks of it.
-use mathlib.Core.Path.{◌≡◌, refl}
+use mathlib.Core.Path.{◌≡◌, refl, sym, ◌∙◌}
 use mathlib.Core.Logic.{◌⊎◌, inl, inr}
+use mathlib.Core.Bool.{Bool, true, false, cond}
 use mathlib.Core.List.Memᴰ
-use mathlib.Core.List.{List}
-use Prim.Native.Nat.{ℕ, ◌+◌, ◌≤◌, ◌<◌}
+use mathlib.Core.List.{List, [], ◌∷◌}
+use Prim.Native.Nat.{ℕ, ◌≤◌, ◌<◌, min}
 use native.Mathlib.Decide.{dec_lt}
 use native.Mathlib.Omega.{arith}
-use lib.ListN.{length, get_or, take}
-use lib.Seq.{take_all}
-use Rattle.surface.specs.Limits.{most_corners}
+use Rattle.std.specs.Prelude.{Option, Some, None, nat_lt}
+use Rattle.std.specs.List.{fold, reduce, filter}
+use Rattle.std.proofs.lemmas.Bool.{ltb-true, lt-ltb}
 use Rattle.surface.specs.Lists.{◌∈◌}
-use Rattle.neighbours.specs.Around.{Marked}
-use Rattle.neighbours.proofs.Firsts.{first_split, first_old, first_new}
-use Rattle.rising.specs.Next.{NextAbove, NextMarked, Better, old, new}
+use Rattle.rising.specs.Next.{NextAbove}
 
-module _ (l : List ℕ) (past : ℕ) where
-  pub next_none : NextAbove (take 0 l) past most_corners
-  next_none = record { upto = omega arith; stands = λ h. absurd (omega arith); least = λ m h. absurd (Memᴰ.not-nil m) }
+module _ (p : ℕ → Bool) where
+  -- r is the least of x and those of l that pass
+  record Least (x : ℕ) (l : List ℕ) (r : ℕ) : Type 0 where
+    is : (r ≡ x) ⊎ ((r ∈ l) × (p r ≡ true))
+    first : r ≤ x
+    all : {w : ℕ} → w ∈ l → p w ≡ true → r ≤ w
 
-  -- one number more
-  pub next_more : (i best : ℕ) {r : ℕ} → i < length l → NextAbove (take i l) past best → Better past best (get_or l i 0) r → NextAbove (take (i + 1) l) past r
-  next_more i best {r} h g (old e k) = rw e (record {
-    upto = g.upto;
-    stands = λ z. (first_old l i h (g.stands z).0, (g.stands z).1);
-    least = λ {w} m z. go w z (first_split l i h m);
-  })
+  least_fold : (x : ℕ) (l : List ℕ) → Least x l (fold min x (filter p l))
+  least_fold x [] = record { is = inl refl; first = omega arith; all = λ m. absurd (Memᴰ.not-nil m) }
+  least_fold x (y ∷ l) = go (least_fold x l) (least_fold (min x y) l) (p y) refl
     where
-      go : (w : ℕ) → past < w → (w ∈ take i l) ⊎ (w ≡ get_or l i 0) → best ≤ w
-      go w z (inl m) = g.least m z
-      go w z (inr q) = rw q (k (rw q at z))
-  next_more i best {r} h g (new e p k) = rw e (record {
-    upto = let u = g.upto in omega arith;
-    stands = λ z. (first_new l i h refl, p);
-    least = λ {w} m z. go w z (first_split l i h m);
-  })
+      go : Least x l (fold min x (filter p l)) → Least (min x y) l (fold min (min x y) (filter p l)) → (b : Bool) → p y ≡ b → Least x (y ∷ l) (fold min x (cond b (y ∷ filter p l) (filter p l)))
+      go f g true e = record { is = is g.is (dec_lt y x); first = let a = g.first in omega arith; all = λ {w} m q. all w q (Memᴰ.cases_cons m) }
+        where
+          r : ℕ
+          r = fold min (min x y) (filter p l)
+
+          is : (r ≡ min x y) ⊎ ((r ∈ l) × (p r ≡ true)) → Dec (y < x) → (r ≡ x) ⊎ ((r ∈ y ∷ l) × (p r ≡ true))
+          is (inl q) (yes h) = let k : r ≡ y = omega arith in inr (Memᴰ.head k, rw k e)
+          is (inl q) (no h) = inl (omega arith)
+          is (inr q) d = inr (Memᴰ.tail q.0, q.1)
+
+          all : (w : ℕ) → p w ≡ true → (w ≡ y) ⊎ (w ∈ l) → r ≤ w
+          all w q (inl k) = let a = g.first in omega arith
+          all w q (inr k) = g.all k q
+      go g f false e = record { is = is g.is; first = g.first; all = λ {w} m q. all w q (Memᴰ.cases_cons m) }
+        where
+          r : ℕ
+          r = fold min x (filter p l)
+
+          is : (r ≡ x) ⊎ ((r ∈ l) × (p r ≡ true)) → (r ≡ x) ⊎ ((r ∈ y ∷ l) × (p r ≡ true))
+          is (inl q) = inl q
+          is (inr q) = inr (Memᴰ.tail q.0, q.1)
+
+          all : (w : ℕ) → p w ≡ true → (w ≡ y) ⊎ (w ∈ l) → r ≤ w
+          all w q (inl k) = absurd (let a : true ≡ false = sym q ∙ rw k e in cc)
+          all w q (inr k) = g.all k q
+
+-- the least of those above past
+module _ (past : ℕ) where
+  abbrev above : ℕ → Bool
+  above w = nat_lt past w
+
+  one_more : (y : ℕ) (l : List ℕ) → above y ≡ false → (o : Option ℕ) → NextAbove l past o → NextAbove (y ∷ l) past o
+  one_more y l e None g = λ w m. go w (Memᴰ.cases_cons m)
     where
-      go : (w : ℕ) → past < w → (w ∈ take i l) ⊎ (w ≡ get_or l i 0) → get_or l i 0 ≤ w
-      go w z (inl m) = let b = g.least m z in omega arith
-      go w z (inr q) = omega arith
+      go : (w : ℕ) → (w ≡ y) ⊎ (w ∈ l) → w ≤ past
+      go w (inl k) = grind (arith, lt-ltb past y)
+      go w (inr k) = g w k
+  one_more y l e (Some r) g = record { stands = Memᴰ.tail g.stands; above = g.above; least = λ {w} m z. go w z (Memᴰ.cases_cons m) }
+    where
+      go : (w : ℕ) → past < w → (w ≡ y) ⊎ (w ∈ l) → r ≤ w
+      go w z (inl k) = grind (arith, lt-ltb past y)
+      go w z (inr k) = g.least k z
 
-  pub next_end : (i : ℕ) {best : ℕ} → length l ≤ i → NextAbove (take i l) past best → NextAbove l past best
-  next_end i h g = rw (take_all i l h) at g
+  pub least_above_lem : (l : List ℕ) → NextAbove l past (reduce min (filter above l))
+  least_above_lem [] = λ w m. absurd (Memᴰ.not-nil m)
+  least_above_lem (y ∷ l) = go (least_above_lem l) (above y) refl
+    where
+      go : NextAbove l past (reduce min (filter above l)) → (b : Bool) → above y ≡ b → NextAbove (y ∷ l) past (reduce min (cond b (y ∷ filter above l) (filter above l)))
+      go f true e = record { stands = stands g.is; above = is_above g.is; least = λ {w} m z. least w z (Memᴰ.cases_cons m) }
+        where
+          r : ℕ
+          r = fold min y (filter above l)
 
--- the first marked number, where the marks are those of the list
-pub marked_next : (l m : List ℕ) (past r : ℕ) → Marked l m → NextMarked m past r → r < most_corners → NextAbove l past r
-marked_next l m past r g n h = record { upto = n.upto; stands = λ z. (g.only (n.marked z).0, (n.marked z).1); least = λ {w} k z. not_before w k z (dec_lt w r) }
-  where
-    not_before : (w : ℕ) → w ∈ l → past < w → Dec (w < r) → r ≤ w
-    not_before w k z (yes q) = absurd (g.all k (n.first h w z q))
-    not_before w k z (no q) = omega arith
+          g : Least above y l r
+          g = least_fold above y l
+
+          stands : (r ≡ y) ⊎ ((r ∈ l) × (above r ≡ true)) → r ∈ y ∷ l
+          stands (inl q) = Memᴰ.head q
+          stands (inr q) = Memᴰ.tail q.0
+
+          is_above : (r ≡ y) ⊎ ((r ∈ l) × (above r ≡ true)) → past < r
+          is_above (inl q) = rw q (ltb-true past y e)
+          is_above (inr q) = ltb-true past r q.1
+
+          least : (w : ℕ) → past < w → (w ≡ y) ⊎ (w ∈ l) → r ≤ w
+          least w z (inl k) = let a = g.first in omega arith
+          least w z (inr k) = g.all k (lt-ltb past w z)
+      go f false e = one_more y l e _ f

@@ -5,18 +5,17 @@ use Prim.Native.Nat.{ℕ, suc, ◌%◌, ◌^◌, ◌≤◌, ◌<◌}
 use native.Mathlib.Omega.{arith}
 use lib.IntN.{ℤ, pos, nat_abs}
 use lib.ListN.{length, drop, get_or}
+use Rattle.std.specs.Prelude.{Result, Ok}
 use Rattle.surface.specs.Rows.{rows}
 use Rattle.corners.specs.Skin.{Skin}
+use Rattle.refusal.specs.declared.Refusal.{Refusal}
 use Rattle.refusal.specs.First.{First}
-use Rattle.refusal.specs.declared.Verdict.TheVariants.{Passes}
 use Rattle.faults.proofs.Order.{skin_passes}
 use Rattle.surface.proofs.Flat.{at_place}
 use Rattle.slots.proofs.Slots.{whole_rows, at_follows}
 use Rattle.text.specs.Decimal.{decimal}
 use Rattle.text.proofs.Digits.{below_digits}
 use Rattle.lines.specs.Lines.{FewDigits}
-use Rattle.sheet.specs.declared.Sheet.{Sheet}
-use Rattle.sheet.specs.declared.Sheet.TheVariants.{Read}
 use Rattle.lines.specs.Kinds.{corner_lines, row_lines}
 use Rattle.heading.specs.Heading.{most_digits}
 use Rattle.form.specs.Limits.{most_sheet_corners, most_sheet_rows}
@@ -59,11 +58,11 @@ module _ (n : ℕ) (xs : List ℤ) (t : List ℕ) (threes : length t % 3 ≡ 0) 
         rows_short = short_numbers t (λ i h. let k = skin.stage.below (at_follows t threes i h) in omega arith);
       }
 
-  pub its_form : First (form_refusals (sheet_text n m xs t)) Passes
+  pub its_form : First (form_refusals (sheet_text n m xs t)) (Ok tt)
   its_form = form_passes (sheet_text n m xs t) (sheet_size its_sheet counts) n m (corner_lines n xs ++ row_lines m t) (its_line its_sheet) counts its_sheet
 
   -- lent rooms that are long enough, it reads, and into them go its own table and corners
-  pub its_sheet_reads : (troom troom' : List ℕ) (croom croom' : List ℤ) (a : Sheet) → length t ≤ length troom → length xs ≤ length croom → ReadSheet (sheet_text n m xs t) troom troom' croom croom' a → SameOutcome a (Read n m) troom' (t ++ drop (length t) troom) croom' (xs ++ drop (length xs) croom)
+  pub its_sheet_reads : (troom troom' : List ℕ) (croom croom' : List ℤ) (a : Result (ℕ × ℕ) Refusal) → length t ≤ length troom → length xs ≤ length croom → ReadSheet (sheet_text n m xs t) troom troom' croom croom' a → SameOutcome a (Ok (n, m)) troom' (t ++ drop (length t) troom) croom' (xs ++ drop (length xs) croom)
   its_sheet_reads troom troom' croom croom' a h k o =
       let s = its_sheet in
-      one_outcome (sheet_text n m xs t) troom croom o (read its_form s (after_room (record { counts = counts; corners = s.corners; rows = s.rows }) troom croom h k Passes (skin_passes t threes n xs skin)) skin refl refl refl)
+      one_outcome (sheet_text n m xs t) troom croom o (read its_form s (after_room (record { counts = counts; corners = s.corners; rows = s.rows }) troom croom h k (Ok tt) (skin_passes t threes n xs skin)) skin refl refl refl)

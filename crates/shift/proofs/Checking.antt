@@ -6,11 +6,11 @@ use Prim.Native.Nat.{ℕ, ◌*◌, ◌/◌, ◌≤◌, ◌<◌}
 use native.Mathlib.Omega.{arith}
 use lib.IntN.{ℤ}
 use lib.ListN.{length}
+use Rattle.std.specs.Prelude.{Ok, Err}
 use Rattle.surface.specs.Record.{Record}
 use Rattle.corners.specs.Skin.{InRange}
 use Rattle.refusal.specs.declared.Refusal.{Refusal}
 use Rattle.refusal.specs.declared.Refusal.TheVariants.{CountsOutside, CoordinateOutOfRange, NumberNotBelow}
-use Rattle.refusal.specs.declared.Verdict.TheVariants.{Passes, Refused}
 use Rattle.refusal.specs.First.{Clause, Refusals}
 use Rattle.refusal.proofs.Laws.{verdicts, given_first, passes_none, refused_passes, NoneBefore, none_yet, ◌nor◌}
 use Rattle.record.specs.Layout.{width, record_at, records}
@@ -50,24 +50,24 @@ past_or_below a b (inr (removed_past m h)) = let k = b.removed m in omega arith
 
 module _ (xs : List ℤ) (log : List ℕ) (v : ℕ) where
   -- by a line that is given, where none before it is
-  refuse : {c : Clause Refusal} {m : Refusals} → NoneBefore (c ∷ m) (shift_refusals xs log v) → c.given → CheckedShift xs log v (Refused c.refusal)
+  refuse : {c : Clause Refusal} {m : Refusals} → NoneBefore (c ∷ m) (shift_refusals xs log v) → c.given → CheckedShift xs log v (Err c.refusal)
   refuse h g = record { holds = given_first verdicts h g; clear = λ e. refused_passes e }
 
-  pub refuse_2 : (¬ ShiftFits xs log) → CheckedShift xs log v (Refused CountsOutside)
+  pub refuse_2 : (¬ ShiftFits xs log) → CheckedShift xs log v (Err CountsOutside)
   unfolding shift_refusals
   refuse_2 p = refuse none_yet p
 
   module _ (fit : ShiftFits xs log) where
-    pub refuse_4 : OutOfRange xs → CheckedShift xs log v (Refused CoordinateOutOfRange)
+    pub refuse_4 : OutOfRange xs → CheckedShift xs log v (Err CoordinateOutOfRange)
     unfolding shift_refusals
     refuse_4 p = refuse ((λ n. n fit) nor none_yet) p
 
     module _ (range : InRange xs) where
-      pub refuse_5 : Past (corners xs) (records log) v → CheckedShift xs log v (Refused NumberNotBelow)
+      pub refuse_5 : Past (corners xs) (records log) v → CheckedShift xs log v (Err NumberNotBelow)
       unfolding shift_refusals
       refuse_5 p = refuse ((λ n. n fit) nor in_or_out range nor none_yet) p
 
-      pub all_clear : v < corners xs → BelowIn (corners xs) (records log) → CheckedShift xs log v Passes
+      pub all_clear : v < corners xs → BelowIn (corners xs) (records log) → CheckedShift xs log v (Ok tt)
       unfolding shift_refusals
       all_clear a b = record {
         holds = (passes_none verdicts _).1 ((λ n. n fit) nor in_or_out range nor past_or_below a b nor none_yet);

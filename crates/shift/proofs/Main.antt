@@ -8,6 +8,7 @@ use native.Mathlib.Decide.{ℕ_discrete}
 use native.Mathlib.Omega.{arith}
 use lib.ListN.{length}
 use lib.IntN.{ℤ}
+use Rattle.std.specs.Prelude.{Ok, Err, Result}
 use Rattle.surface.specs.Lists.{◌∈◌}
 use Rattle.surface.specs.Rows.{Row}
 use Rattle.surface.specs.Table.{Used}
@@ -17,6 +18,7 @@ use Rattle.follow.specs.Leads.{no_step, one_step}
 use Rattle.surface.specs.Record.{Record, Replayed}
 use Rattle.surface.proofs.Counted.{used_new}
 use Rattle.surface.proofs.Linked.{opposite}
+use Rattle.refusal.specs.declared.Refusal.{Refusal}
 use Rattle.refusal.specs.Told.{Told}
 use Rattle.refusal.proofs.Laws.{first_one, verdicts}
 use Rattle.refusal.proofs.Outcome.{tells_refusal, refused_done, outcome_one}
@@ -29,9 +31,8 @@ use Rattle.distance.specs.InnerChain.{Chain, chain_none, chain_more}
 use Rattle.distance.proofs.Shift.{chain_bound, distance_back}
 use Rattle.run.specs.Run.{Taken}
 use Rattle.run.proofs.Main.{step_stage, taken_allowed, taken_cut, taken_replayed}
-use Rattle.shift.specs.declared.Shifted.{Shifted}
-use Rattle.shift.specs.declared.Shifted.TheVariants.{StandIn, Refused}
 use Rattle.standin.specs.StandIn.{stand_in, moves}
+use Rattle.shift.specs.declared.Shifted.{Shifted}
 use Rattle.shift.specs.Order.{ShiftFits}
 use Rattle.shift.specs.Inner.{BelowIn}
 use Rattle.shift.specs.Answer.{told}
@@ -41,19 +42,19 @@ use Rattle.shift.proofs.Checking.{all_clear}
 use Rattle.shift.proofs.Reporting.{shift_done}
 
 -- what is told tells the answer
-pub told_one : (a b : Shifted) → told a ≡ told b → a ≡ b
-told_one (StandIn v k d) (StandIn w j e) h =
+pub told_one : (a b : Result Shifted Refusal) → told a ≡ told b → a ≡ b
+told_one (Ok s) (Ok z) h =
     let vs = ap (λ (t : Told). t.values) h in
-    let ev : v.0 ≡ w.0 = cc in
-    let ek : k ≡ j = cc in
-    let ed : d ≡ e = cc in
-    λ i. StandIn (record { 0 = ev i }) (ek i) (ed i)
-told_one (StandIn v k d) (Refused s) h = absurd (refused_done s (sym h))
-told_one (Refused r) (StandIn w j e) h = absurd (refused_done r h)
-told_one (Refused r) (Refused s) h = ap Refused (tells_refusal h)
+    let ev : s.stand_in.0 ≡ z.stand_in.0 = cc in
+    let ek : s.count ≡ z.count = cc in
+    let ed : s.squared ≡ z.squared = cc in
+    λ i. Ok (record { stand_in = record { 0 = ev i }; count = ek i; squared = ed i })
+told_one (Ok z) (Err s) h = absurd (refused_done s (sym h))
+told_one (Err r) (Ok z) h = absurd (refused_done r h)
+told_one (Err r) (Err s) h = ap Err (tells_refusal h)
 
 -- no second answer meets the words of `shift`
-pub shift_one : {xs : List ℤ} {log : List ℕ} {v : ℕ} (a b : Shifted) → ShiftReport xs log v (told a) → ShiftReport xs log v (told b) → a ≡ b
+pub shift_one : {xs : List ℤ} {log : List ℕ} {v : ℕ} (a b : Result Shifted Refusal) → ShiftReport xs log v (told a) → ShiftReport xs log v (told b) → a ≡ b
 shift_one a b p q = told_one a b (outcome_one _ (first_one verdicts _ p.first q.first) p.tells q.tells)
 
 -- ---- the shift bound
@@ -123,20 +124,20 @@ module _ {n : ℕ} {T : List Row} {xs : List ℤ} (s : Stage n T) (three : lengt
   fit = let k = log_length l in record { coordinates = record { threes = omega arith; count = rw many (stage_corners s) }; whole = omega arith }
 
   -- no shift is refused there, and the answer is stand-in, count and squared distance
-  pub shift_there : ShiftReport xs (log_of l) v (told (StandIn (record { 0 = stand_in v l }) (moves v l) (squared_distance_lem xs v (stand_in v l))))
+  pub shift_there : ShiftReport xs (log_of l) v (told (Ok (record { stand_in = record { 0 = stand_in v l }; count = moves v l; squared = squared_distance_lem xs v (stand_in v l) })))
   shift_there =
       let c = many in
       let r = records_log l in
       let k = all_clear xs (log_of l) v fit range (omega arith) (rw (c, r) (replayed_below l s t)) in
       shift_done k refl (ap (stand_in v) (sym r)) (ap (moves v) (sym r)) refl
 
-  pub log_shift : (a : Shifted) → ShiftReport xs (log_of l) v (told a) → a ≡ StandIn (record { 0 = stand_in v l }) (moves v l) (squared_distance_lem xs v (stand_in v l))
+  pub log_shift : (a : Result Shifted Refusal) → ShiftReport xs (log_of l) v (told a) → a ≡ Ok (record { stand_in = record { 0 = stand_in v l }; count = moves v l; squared = squared_distance_lem xs v (stand_in v l) })
   log_shift a p = shift_one a _ p shift_there
 
 -- so for a log that thinning wrote from a stage on under a limit of L, or a beginning of one, read with the corners it was written over, the bound holds of
 -- what is told
 pub log_shift_bound : {P : ℕ → ℕ → Type 0} {n : ℕ} {T T' : List Row} {xs : List ℤ} (L : ℕ) → Stage n T → length xs ≡ 3 * n → InRange xs → ((a b : ℕ) → P a b → Short xs L a b) → (l m : List Record) → Taken P T (l ++ m) T' →
-    {v : ℕ} → v < n → (a : Shifted) → ShiftReport xs (log_of l) v (told a) → Bounded L a
+    {v : ℕ} → v < n → (a : Result Shifted Refusal) → ShiftReport xs (log_of l) v (told a) → Bounded L a
 log_shift_bound {xs = xs} L s three range within l m t {v} h a p =
     let c = taken_cut l t in
     record {

@@ -6,10 +6,9 @@ use Prim.Native.Nat.{ℕ, ◌<◌}
 use native.Mathlib.Decide.{ℕ_discrete}
 use native.Mathlib.Omega.{arith}
 use lib.IntN.{ℤ, pos}
+use Rattle.std.specs.Prelude.{Ok, Err, Result}
 use Rattle.surface.specs.Record.{Record}
 use Rattle.refusal.specs.declared.Refusal.{Refusal}
-use Rattle.refusal.specs.declared.Verdict.{Verdict}
-use Rattle.refusal.specs.declared.Verdict.TheVariants.{Passes, Refused}
 use Rattle.refusal.specs.Told.{done, refused}
 use Rattle.refusal.proofs.Outcome.{passing, refusing}
 use Rattle.record.specs.Layout.{records}
@@ -45,12 +44,12 @@ module _ {xs : List ℤ} {log : List ℕ} {v : ℕ} where
       let h : stand_in v (records log) < corners xs = stand_in_below v (records log) c.asked c.below in
       omega arith
 
-  module _ {a : Verdict} (c : CheckedShift xs log v a) where
-    pub shift_done : a ≡ Passes → {w k d : ℕ} → w ≡ stand_in v (records log) → k ≡ moves v (records log) → d ≡ squared_distance_lem xs v w → ShiftReport xs log v (done (pos w ∷ pos k ∷ pos d ∷ []))
+  module _ {a : Result Unit Refusal} (c : CheckedShift xs log v a) where
+    pub shift_done : a ≡ Ok tt → {w k d : ℕ} → w ≡ stand_in v (records log) → k ≡ moves v (records log) → d ≡ squared_distance_lem xs v w → ShiftReport xs log v (done (pos w ∷ pos k ∷ pos d ∷ []))
     unfolding shift_of
     shift_done p {w} {k} {d} ew ek ed =
         let far : d ≡ squared_distance_lem xs v (stand_in v (records log)) = ed ∙ ap (λ z. squared_distance_lem xs v z) ew in
         record { verdict = a; first = c.holds; tells = (λ i. done (pos (ew i) ∷ pos (ek i) ∷ pos (far i) ∷ [])) ∙ passing (shift_of xs log v) p }
 
-    pub shift_refused : {r : Refusal} → a ≡ Refused r → ShiftReport xs log v (refused r)
+    pub shift_refused : {r : Refusal} → a ≡ Err r → ShiftReport xs log v (refused r)
     shift_refused p = record { verdict = a; first = c.holds; tells = refusing (shift_of xs log v) p }

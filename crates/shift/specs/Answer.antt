@@ -1,11 +1,11 @@
 -- What the answer of a shift report tells: 01's number and the values of each case.
-use Rattle.std.specs.Prelude.{[], ◌∷◌, pos}
-use Rattle.refusal.specs.Told.{Told, done, refused}
+use Rattle.std.specs.Prelude.{[], ◌∷◌, pos, Ok, Err, Result}
 use Rattle.shift.specs.declared.Shifted.{Shifted}
-use Rattle.shift.specs.declared.Shifted.TheVariants.{StandIn, Refused}
+use Rattle.refusal.specs.declared.Refusal.{Refusal}
+use Rattle.refusal.specs.Told.{Told, done, refused}
 
-abbrev pub told : Shifted → Told
+abbrev pub told : Result Shifted Refusal → Told
 -- 0, stand-in, count and squared distance
-told (StandIn v k d) = done (pos v.0 ∷ pos k ∷ pos d ∷ [])
+told (Ok s) = done (pos s.stand_in.0 ∷ pos s.count ∷ pos s.squared ∷ [])
 -- the refusal's number
-told (Refused r) = refused r
+told (Err r) = refused r

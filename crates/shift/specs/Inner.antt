@@ -1,10 +1,9 @@
 -- What inner functions are asked on and give: no public contract names it.
-use Rattle.std.specs.Prelude.{◌≡◌, List, ℕ, ◌<◌, ℤ}
+use Rattle.std.specs.Prelude.{◌≡◌, List, ℕ, ◌<◌, ℤ, Ok, Result}
+use Rattle.refusal.specs.declared.Refusal.{Refusal}
 use Rattle.surface.specs.Lists.{◌∈◌}
 use Rattle.surface.specs.Record.{Record}
 use Rattle.corners.specs.Skin.{InRange}
-use Rattle.refusal.specs.declared.Verdict.{Verdict}
-use Rattle.refusal.specs.declared.Verdict.TheVariants.{Passes}
 use Rattle.refusal.specs.First.{First}
 use Rattle.record.specs.Layout.{records}
 use Rattle.faults.specs.Counts.{corners}
@@ -23,6 +22,6 @@ pub record Clear (xs : List ℤ) (log : List ℕ) (v : ℕ) : Type 0 where
   pub below : BelowIn (corners xs) (records log)
 
 -- the verdict: the first that holds, or that none does
-pub record CheckedShift (xs : List ℤ) (log : List ℕ) (v : ℕ) (a : Verdict) : Type 0 where
+pub record CheckedShift (xs : List ℤ) (log : List ℕ) (v : ℕ) (a : Result Unit Refusal) : Type 0 where
   pub holds : First (shift_refusals xs log v) a
-  pub clear : a ≡ Passes → Clear xs log v
+  pub clear : a ≡ Ok tt → Clear xs log v

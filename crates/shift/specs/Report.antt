@@ -1,6 +1,6 @@
 -- What a shift report tells, in every case.
-use Rattle.std.specs.Prelude.{◌≡◌, List, [], ◌∷◌, ℕ, ◌*◌, ◌≤◌, ℤ, pos}
-use Rattle.refusal.specs.declared.Verdict.{Verdict}
+use Rattle.std.specs.Prelude.{◌≡◌, List, [], ◌∷◌, ℕ, ◌*◌, ◌≤◌, ℤ, pos, Result}
+use Rattle.refusal.specs.declared.Refusal.{Refusal}
 use Rattle.refusal.specs.First.{First}
 use Rattle.refusal.specs.Told.{Told, done}
 use Rattle.refusal.specs.Outcome.{outcome}
@@ -17,12 +17,12 @@ shift_of xs log v = pos (stand_in v (records log)) ∷ pos (moves v (records log
 
 -- the first of 2, 4 and 5 that holds, and where none does, stand-in, count and squared distance
 pub record ShiftReport (xs : List ℤ) (log : List ℕ) (v : ℕ) (a : Told) : Type 0 where
-  pub verdict : Verdict
+  pub verdict : Result Unit Refusal
   pub first : First (shift_refusals xs log v) verdict
   pub tells : a ≡ outcome verdict (shift_of xs log v)
 
 -- the answer tells 0, a stand-in, a count k and a squared distance, which is at most k x k x L x L
-pub record Bounded (L : ℕ) (a : Shifted) : Type 0 where
+pub record Bounded (L : ℕ) (a : Result Shifted Refusal) : Type 0 where
   pub corner : ℕ
   pub k : ℕ
   pub squared : ℕ

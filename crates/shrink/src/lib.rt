@@ -7,30 +7,22 @@ ghost use Rattle.std.proofs.lemmas.List.Edits.{sets};
 ghost use Rattle.shrink.specs.Flat.{has, swap, leaves, after, Moved};
 
 // Whether a row holds a number.
+#[tactic(auto, unfolding(crate::specs::Flat::has))]
 fn holds(a: u32, x: u32, y: u32, z: u32) -> bool
     ensures { result ≡ has a x y z }
 {
-    if x == a {
-        return true;
-    }
-    if y == a {
-        return true;
-    }
-    z == a
+    x == a || y == a || z == a
 }
 
 // Inner: whether a row leaves: it holds both.
 pub fn row_leaves(a: u32, b: u32, x: u32, y: u32, z: u32) -> bool
     ensures { result ≡ leaves a b x y z }
 {
-    if holds(a, x, y, z) {
-        holds(b, x, y, z)
-    } else {
-        false
-    }
+    holds(a, x, y, z) && holds(b, x, y, z)
 }
 
 // The removed number replaced.
+#[tactic(auto, unfolding(crate::specs::Flat::swap))]
 fn swapped(a: u32, b: u32, x: u32) -> u32
     ensures { result ≡ swap a b x }
 {
@@ -66,11 +58,9 @@ fn move_row(t: &mut [u32], i: usize, j: usize, a: u32, b: u32) -> usize
 fn move_up(t: &mut [u32], a: u32, b: u32) -> usize
     ensures { (result ≤ length t.old) × (length t.new ≡ length t.old) × (take result t.new ≡ after a b t.old) }
 {
-    let mut i: usize = 0;
-    let mut j: usize = 0;
-    while 3 <= t.len() - i {
-        j = move_row(t, i, j, a, b);
-        i = i + 3;
+    let mut j = 0;
+    for row in 0..t.len() / 3 {
+        j = move_row(t, 3 * row, j, a, b);
     }
     j
 }
@@ -80,11 +70,7 @@ pub fn clear(t: &mut [u32], i: usize)
     requires { i ≤ length t.old }
     ensures { t.new ≡ take i t.old ++ replicate (length t.old - i) 0 }
 {
-    let mut k = i;
-    while k < t.len() {
-        t[k] = 0;
-        k += 1;
-    }
+    t[i..].fill(0);
 }
 
 // Inner: the rows that stay move up, and the rest is cleared.

@@ -4,41 +4,41 @@
 ghost use Rattle.faults.specs.Order.{CheckedStageAt};
 ghost use Rattle.faults.specs.Inner.{CheckedAt, CheckedFirst, CheckedStage};
 
-use refusal::{Refusal, Verdict};
+use refusal::Refusal;
 
 // 2, 4 and the rest, of a table with its coordinates.
-fn check_at(t: &[u32], xs: &[i32], first: bool) -> Verdict
+fn check_at(t: &[u32], xs: &[i32], first: bool) -> Result<(), Refusal>
     ensures { CheckedAt first xs.now t.now result }
 {
     if !counts::counts_fit_at(t, xs) {
-        return Verdict::Refused(Refusal::CountsOutside);
+        return Err(Refusal::CountsOutside);
     }
     if coordinates::out_of_range(xs) {
-        return Verdict::Refused(Refusal::CoordinateOutOfRange);
+        return Err(Refusal::CoordinateOutOfRange);
     }
     stage::check_rows(t, xs.len() / 3, first)
 }
 
 // Inner: a first table with its coordinates, as thinning and sheets have it; passing, it is a skin.
-pub fn check_first(t: &[u32], xs: &[i32]) -> Verdict
+pub fn check_first(t: &[u32], xs: &[i32]) -> Result<(), Refusal>
     ensures { CheckedFirst xs.now t.now result }
 {
     check_at(t, xs, true)
 }
 
 // Inner: a stage's table with its coordinates; passing, it is a stage.
-pub fn check_stage_at(t: &[u32], xs: &[i32]) -> Verdict
+pub fn check_stage_at(t: &[u32], xs: &[i32]) -> Result<(), Refusal>
     ensures { CheckedStageAt xs.now t.now result }
 {
     check_at(t, xs, false)
 }
 
 // Inner: a stage's table with a told corner count; passing, it is a stage.
-pub fn check_stage(t: &[u32], n: usize) -> Verdict
+pub fn check_stage(t: &[u32], n: usize) -> Result<(), Refusal>
     ensures { CheckedStage n t.now result }
 {
     if !counts::counts_fit(t, n) {
-        return Verdict::Refused(Refusal::CountsOutside);
+        return Err(Refusal::CountsOutside);
     }
     stage::check_rows(t, n, false)
 }

@@ -1,12 +1,18 @@
 -- Marks in a list: 0 for none.
 use mathlib.Core.Path.{◌≡◌, refl, sym, ◌∙◌, ap}
 use mathlib.Core.Logic.{◌≢◌, ◌⊎◌, inl, inr}
+use mathlib.Core.Bool.{Bool, true, false}
 use mathlib.Core.List.{List, [], ◌∷◌}
-use Prim.Native.Nat.{ℕ, zero, suc, ◌<◌}
+use Prim.Native.Nat.{ℕ, zero, suc, ◌≤◌, ◌<◌}
 use native.Mathlib.Decide.{ℕ_discrete}
 use native.Mathlib.Omega.{arith}
-use lib.ListN.{length, get_or, set, replicate}
+use lib.Dec.{eqb}
+use lib.ListN.{length, get_or, set, replicate, take}
 use lib.Seq.{get_or-set_same, get_or-set_other}
+use Rattle.std.specs.Bool.{MatchBool}
+use Rattle.std.specs.List.{IsAnyAnswer}
+use Rattle.std.proofs.lemmas.Bool.{eqb-true, eqb-false}
+use Rattle.std.proofs.lemmas.List.{get_or-take, length-take-le}
 use Rattle.slots.specs.Marks.{zeros}
 
 pub zeros_set : (m : List ℕ) (e : ℕ) → e < length m → get_or m e 0 ≡ 0 → suc (zeros (set m e 1)) ≡ zeros m
@@ -44,3 +50,11 @@ pub no_mark : (n k : ℕ) → ◌≡◌ {A = ℕ} (get_or (replicate n 0) k 0) 0
 no_mark zero k = refl
 no_mark (suc n) zero = refl
 no_mark (suc n) (suc k) = no_mark n k
+
+-- whether one of the first n is 0, by what `contains` tells
+pub none_among : (n : ℕ) (l : List ℕ) (r : Bool) → n ≤ length l → IsAnyAnswer (λ y b. eqb y 0 ≡ b) (take n l) r →
+    MatchBool r ((k : ℕ) × (k < n) × (get_or l k 0 ≡ 0)) ((k : ℕ) → k < n → get_or l k 0 ≢ 0)
+none_among n l true h a =
+    let small : a.0 < n = omega (arith, a.1, length-take-le n l h) in
+    (a.0, small, sym (get_or-take n l a.0 0 small) ∙ eqb-true _ _ (a.2 0))
+none_among n l false h a = λ k small e. eqb-false _ _ (a k 0 (omega arith) (omega (arith, length-take-le n l h))) (get_or-take n l k 0 small ∙ e)

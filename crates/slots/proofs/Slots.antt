@@ -36,6 +36,9 @@ next_inside n e w h = go (next_cases e)
     go (inl k) = omega arith
     go (inr k) = omega arith
 
+pub third_inside : (n e : ℕ) → n % 3 ≡ 0 → e < n → next_slot (next_slot e) < n
+third_inside n e w h = next_inside n (next_slot e) w (next_inside n e w h)
+
 pub next_0 : (i : ℕ) → next_slot (3 * i) ≡ 3 * i + 1
 next_0 i = next_on (3 * i) (λ h. omega arith)
 

@@ -18,17 +18,16 @@ pub fn next(e: usize) -> usize
 }
 
 // Inner: for each corner its last slot, and for each slot the one before it with the same corner.
+// One more than the slot, and 0 for none: an Option<usize> would double the lent arrays.
 pub fn chains(t: &[u32], last: &mut [usize], prev: &mut [usize])
     requires under { Under t.now (length last.old) }
     requires t_in_bounds { length t.now ≤ length prev.old }
     requires blank { Blank last.old }
     ensures { Chained t.now last.new prev.new }
 {
-    let mut i: usize = 0;
-    while i < t.len() {
-        let v = t[i] as usize;
+    for (i, x) in t.iter().enumerate() {
+        let v = *x as usize;
         prev[i] = last[v];
         last[v] = i + 1;
-        i += 1;
     }
 }

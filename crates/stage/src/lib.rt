@@ -10,7 +10,7 @@ ghost use Rattle.faults.specs.Inner.{CheckedRows};
 ghost use Rattle.slots.specs.Slot.{Whole};
 ghost use Rattle.slots.specs.Chain.{Lasts};
 
-use refusal::{Refusal, Verdict};
+use refusal::Refusal;
 
 // 9, a corner unused, where a first table is asked.
 fn first_unused(t: &[u32], n: usize, last: &[usize], first: bool) -> bool
@@ -19,41 +19,38 @@ fn first_unused(t: &[u32], n: usize, last: &[usize], first: bool) -> bool
     requires n_in_bounds { n ≤ length last.now }
     ensures { Tells result ((first ≡ true) × Unused n (rows t.now)) (first ≡ true → AllUsed n (rows t.now)) }
 {
-    if first {
-        return numbers::corner_unused(t, n, last);
-    }
-    false
+    first && numbers::corner_unused(t, n, last)
 }
 
 // Inner: the first of 5 to 11 that holds; 9 is asked of first tables only.
-pub fn check_rows(t: &[u32], n: usize, first: bool) -> Verdict
+pub fn check_rows(t: &[u32], n: usize, first: bool) -> Result<(), Refusal>
     requires { CountsFit n t.now }
     ensures { CheckedRows first n (rows t.now) result }
 {
     if numbers::not_below(t, n) {
-        return Verdict::Refused(Refusal::NumberNotBelow);
+        return Err(Refusal::NumberNotBelow);
     }
     if numbers::twice_in_row(t) {
-        return Verdict::Refused(Refusal::NumberTwice);
+        return Err(Refusal::NumberTwice);
     }
     let mut last = [0usize; surface::MOST_CORNERS];
     let mut prev = [0usize; slots::MOST_SLOTS];
     slots::chains(t, &mut last, &mut prev);
     let mut reverse = [0usize; slots::MOST_SLOTS];
     if edges::edge_twice(t, n, &last, &prev, &mut reverse) {
-        return Verdict::Refused(Refusal::EdgeTwice);
+        return Err(Refusal::EdgeTwice);
     }
     if reverses::reverse_missing(t, n, &mut reverse) {
-        return Verdict::Refused(Refusal::ReverseMissing);
+        return Err(Refusal::ReverseMissing);
     }
     if first_unused(t, n, &last, first) {
-        return Verdict::Refused(Refusal::CornerUnused);
+        return Err(Refusal::CornerUnused);
     }
     if rings::many_rings(t, n, &last, &reverse) {
-        return Verdict::Refused(Refusal::RingsMany);
+        return Err(Refusal::RingsMany);
     }
     if reach::not_connected(t, &last, &prev) {
-        return Verdict::Refused(Refusal::NotConnected);
+        return Err(Refusal::NotConnected);
     }
-    Verdict::Passes
+    Ok(())
 }

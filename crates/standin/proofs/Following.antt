@@ -53,9 +53,6 @@ pub record Following (log : List ℕ) (v at moved j : ℕ) : Type 0 where
   pub count : moved + moves at (drop j (records log)) ≡ moves v (records log)
 
 module _ {log : List ℕ} {v : ℕ} where
-  pub follow_start : Following log v v 0 0
-  follow_start = record { inside = omega arith; few = omega arith; place = refl; count = omega arith }
-
   module _ {at moved j : ℕ} (f : Following log v at moved j) where
     -- one record more, which moves the stand-in or does not
     pub follow_moved : j < length log / width → {e : Contracted} → IsContracted (record_at log (width * j)) e → e.removed.0 ≡ at → Following log v e.kept.0 (moved + 1) (j + 1)

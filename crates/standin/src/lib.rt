@@ -18,17 +18,14 @@ pub struct Followed {
 pub fn follow(log: &[u32], corner: u32) -> Followed
     ensures { (result.corner.0 ≡ stand_in corner (records log.now)) × (result.count ≡ moves corner (records log.now)) }
 {
-    let count = log.len() / record::WIDTH;
     let mut at = corner;
-    let mut moved: usize = 0;
-    let mut j: usize = 0;
-    while j < count {
+    let mut moved = 0;
+    for j in 0..log.len() / record::WIDTH {
         let e = record::read_contracted(log, record::WIDTH * j);
         if e.removed.0 == at {
             at = e.kept.0;
             moved += 1;
         }
-        j += 1;
     }
     Followed {
         corner: Corner(at),

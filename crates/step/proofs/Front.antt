@@ -4,7 +4,7 @@ use mathlib.Core.List.{List, ◌++◌, append_assoc}
 use Prim.Native.Nat.{ℕ, ◌+◌, ◌-◌, ◌*◌, ◌≤◌}
 use native.Mathlib.Omega.{arith}
 use lib.ListN.{length, take, drop, replicate, take-append-drop, replicate-append-replicate}
-use lib.Seq.{take_at, drop_at, take-take, length-take-le, drop-append-le}
+use lib.Seq.{take-take, length-take-le, drop-append-le}
 use Rattle.surface.specs.Rows.{Row, rows, flat}
 use Rattle.surface.specs.Stage.{Stage}
 use Rattle.surface.specs.InnerStageTable.{StageTable}
@@ -13,14 +13,8 @@ use Rattle.surface.proofs.Flat.{flat_rows, rows_length}
 use Rattle.surface.proofs.Main.{contraction}
 use Rattle.record.specs.declared.Record.{Record}
 use Rattle.record.specs.Meant.{meant}
-use Rattle.step.specs.Step.{Stepped}
 use Rattle.record.specs.Front.{front_rows}
 use Rattle.step.specs.Front.{SteppedFront, Fallen}
-
-pub step_in : (t : List ℕ) (r a b : ℕ) (k : Record) (p : List ℕ) → 3 * r ≤ length t → length p ≡ length (front_rows r t) → Stepped (front_rows r t) a b k p → SteppedFront t r a b k (p ++ drop (3 * r) t)
-step_in t r a b k p h same s =
-    let n : length p ≡ 3 * r = same ∙ length-take-le (3 * r) t h in
-    record { stepped = rw (take_at p (drop (3 * r) t) (3 * r) n) s; past = drop_at p (drop (3 * r) t) (3 * r) n }
 
 module _ {n : ℕ} {t₀ : List ℕ} {r₀ : ℕ} where
   -- before any step

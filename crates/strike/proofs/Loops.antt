@@ -3,17 +3,16 @@ use mathlib.Core.Path.{◌≡◌, refl, ◌∙◌, ap}
 use mathlib.Core.Logic.{◌≢◌, ◌⊎◌, inl, inr}
 use mathlib.Core.List.Memᴰ
 use mathlib.Core.List.{List}
-use Prim.Native.Nat.{ℕ, ◌+◌, ◌*◌, ◌≤◌, ◌<◌, ◌/◌}
+use Prim.Native.Nat.{ℕ, ◌+◌, ◌≤◌, ◌<◌}
 use native.Mathlib.Decide.{ℕ_discrete}
 use native.Mathlib.Omega.{arith}
 use lib.ListN.{length, get_or, set, take, length-set}
 use lib.Seq.{take_all, get_or-set_same, get_or-set_other}
-use Rattle.surface.specs.Limits.{most_corners}
 use Rattle.surface.specs.Lists.{◌∈◌}
 use Rattle.surface.proofs.Flat.{at_place, place_of}
 use Rattle.neighbours.proofs.Firsts.{first_split, first_old, first_new}
 use Rattle.spots.specs.InnerHeld.{own_place_lem}
-use Rattle.strike.specs.InnerStrike.{Inside, Picks, SlotsRenamed, Killed}
+use Rattle.strike.specs.InnerStrike.{Inside, Picks, SlotsRenamed}
 
 -- x is a number of l with the property P, or one with it stands in l from place i on
 pub data Sought (P : ℕ → Type 0) (l : List ℕ) (i x : ℕ) : Type 0 where
@@ -71,47 +70,3 @@ pub rename_end : {h₀ ring : List ℕ} {u i : ℕ} {h : List ℕ} → length ri
 rename_end {ring = ring} {i = i} l g =
     let a = take_all i ring l in
     record { size = g.size; there = λ {x} m. g.there (rw a m); else = λ p n. g.else p (λ x m. n x (rw a at m)) }
-
--- a row leaves: the places from x on, one after another
-pub killed_four : (h : List ℕ) (r x : ℕ) → x ≡ 4 * r → 4 * r + 4 ≤ length h →
-    Killed h r (set (set (set (set h x most_corners) (x + 1) most_corners) (x + 2) most_corners) (x + 3) most_corners)
-killed_four h r x e l = record {
-  size = length-set h₃ (x + 3) most_corners ∙ l₃;
-  there = λ p q. there p q (ℕ_discrete p (x + 3)) (ℕ_discrete p (x + 2)) (ℕ_discrete p (x + 1));
-  else = λ p d.
-      get_or-set_other h₃ (x + 3) p most_corners 0 (λ q. d (omega arith))
-      ∙ get_or-set_other h₂ (x + 2) p most_corners 0 (λ q. d (omega arith))
-      ∙ get_or-set_other h₁ (x + 1) p most_corners 0 (λ q. d (omega arith))
-      ∙ get_or-set_other h x p most_corners 0 (λ q. d (omega arith));
-}
-  where
-    h₁ : List ℕ
-    h₁ = set h x most_corners
-
-    h₂ : List ℕ
-    h₂ = set h₁ (x + 1) most_corners
-
-    h₃ : List ℕ
-    h₃ = set h₂ (x + 2) most_corners
-
-    l₁ : length h₁ ≡ length h
-    l₁ = length-set h x most_corners
-
-    l₂ : length h₂ ≡ length h
-    l₂ = length-set h₁ (x + 1) most_corners ∙ l₁
-
-    l₃ : length h₃ ≡ length h
-    l₃ = length-set h₂ (x + 2) most_corners ∙ l₂
-
-    there : (p : ℕ) → p / 4 ≡ r → Dec (p ≡ x + 3) → Dec (p ≡ x + 2) → Dec (p ≡ x + 1) → get_or (set h₃ (x + 3) most_corners) p 0 ≡ most_corners
-    there p q (yes k) d f = let a = l₃ in rw k (get_or-set_same h₃ (x + 3) most_corners 0 (omega arith))
-    there p q (no k) (yes d) f = let a = l₂ in get_or-set_other h₃ (x + 3) p most_corners 0 k ∙ (rw d (get_or-set_same h₂ (x + 2) most_corners 0 (omega arith)))
-    there p q (no k) (no d) (yes f) =
-        let a = l₁ in
-        get_or-set_other h₃ (x + 3) p most_corners 0 k ∙ get_or-set_other h₂ (x + 2) p most_corners 0 d ∙ (rw f (get_or-set_same h₁ (x + 1) most_corners 0 (omega arith)))
-    there p q (no k) (no d) (no f) =
-        let z : p ≡ x = omega arith in
-        get_or-set_other h₃ (x + 3) p most_corners 0 k
-        ∙ get_or-set_other h₂ (x + 2) p most_corners 0 d
-        ∙ get_or-set_other h₁ (x + 1) p most_corners 0 f
-        ∙ (rw z (get_or-set_same h x most_corners 0 (omega arith)))

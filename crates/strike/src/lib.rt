@@ -37,14 +37,12 @@ fn find(held: &[u16], ring: &[u16], u: u16) -> Beside
 {
     let mut one: usize = 0;
     let mut two: usize = 0;
-    let mut i: usize = 0;
-    while i < ring.len() {
-        let x = ring[i] as usize;
+    for place in ring {
+        let x = *place as usize;
         one = pick(held[x], u, x, one);
         two = pick(held[spots::after(x)], u, x, two);
-        i += 1;
     }
-    Beside { one: one, two: two }
+    Beside { one, two }
 }
 
 // The rows of two places.
@@ -69,10 +67,8 @@ fn rename(held: &mut [u16], ring: &[u16], u: u16)
     requires { Inside held.old ring.now }
     ensures { SlotsRenamed held.old ring.now u held.new }
 {
-    let mut i: usize = 0;
-    while i < ring.len() {
-        held[spots::own_place(ring[i] as usize)] = u;
-        i += 1;
+    for x in ring {
+        held[spots::own_place(*x as usize)] = u;
     }
 }
 
@@ -133,7 +129,7 @@ pub fn step(
     Record {
         kept: Corner(u as u32),
         removed: Corner(v as u32),
-        earlier: earlier,
-        later: later,
+        earlier,
+        later,
     }
 }

@@ -8,6 +8,7 @@ use lib.ListN.{length, length-append}
 use mir.Syntax.{w64}
 use mir.Val.{SFits, to_z, of_z}
 use mir.ValLaws.{to_z-of_z}
+use Rattle.std.specs.Prelude.{Ok}
 use Rattle.refusal.specs.declared.Refusal.{Refusal}
 use Rattle.refusal.specs.Number.{number}
 use Rattle.text.specs.InnerReading.{Written}
@@ -17,17 +18,16 @@ use Rattle.lines.specs.Kinds.{R, K, row_lines, record_lines}
 use Rattle.lines.proofs.Lengths.{line_length, plain_length}
 use Rattle.lines.proofs.Turns.{in_front}
 use Rattle.writing.proofs.Writing.{Onward, onward_start, onward, onward_end, onward_fits, onward_front}
-use Rattle.tell.specs.declared.Answer.TheVariants as answer
 use Rattle.tell.specs.Text.{OK, NO, no_text, run_text}
 use Rattle.tell.specs.Put.{Put, fits}
 use Rattle.tell.specs.Inner.{most_told, CanTell}
 
 -- what is written from the start on stands in front, the rest as it was
-pub put_front : {txt l l' : List ℕ} {r : ℕ} → length txt ≤ length l → Written l 0 txt r l' → Put txt l (answer.Written r) l'
+pub put_front : {txt l l' : List ℕ} {r : ℕ} → length txt ≤ length l → Written l 0 txt r l' → Put txt l (Ok r) l'
 put_front {txt} {l} {r = r} h p =
     let a = p.place in
     let e : r ≡ length txt = omega arith in
-    fits h (ap answer.Written e) (p.text ∙ in_front l txt h)
+    fits h (ap Ok e) (p.text ∙ in_front l txt h)
 
 -- a small number as the machine has it with a sign
 small_fits : (n : ℕ) → n ≤ most_told → SFits w64 (pos n)
@@ -54,7 +54,7 @@ module _ (r : Refusal) (n : ℕ) (e : n ≡ number r) (f : n ≤ most_told) wher
     pub no_fits : 0 + length (line NO machine_number) ≤ length l
     no_fits = let e = ap length no_line in omega arith
 
-    pub no_written : {k : ℕ} {l₁ : List ℕ} → Written l 0 (line NO machine_number) k l₁ → Put (no_text r) l (answer.Written k) l₁
+    pub no_written : {k : ℕ} {l₁ : List ℕ} → Written l 0 (line NO machine_number) k l₁ → Put (no_text r) l (Ok k) l₁
     no_written p = put_front room (rw no_line at p)
 
 -- ---- the lines of a run
@@ -135,5 +135,5 @@ module _ (t log : List ℕ) (before after : ℤ) (g : CanTell t log) where
           pub records_fit : r₂ + length (record_lines k log) ≤ length l₂
           records_fit = onward_fits (record_lines k log) after_rows open_fits
 
-          pub run_written : {r₃ : ℕ} {l₃ : List ℕ} → Written l₂ r₂ (record_lines k log) r₃ l₃ → Put (run_text t log before after) l (answer.Written r₃) l₃
+          pub run_written : {r₃ : ℕ} {l₃ : List ℕ} → Written l₂ r₂ (record_lines k log) r₃ l₃ → Put (run_text t log before after) l (Ok r₃) l₃
           run_written w = put_front room (onward_end (onward _ (record_lines k log) [] (sym (append-nil _)) after_rows w))

@@ -7,27 +7,26 @@ ghost use Rattle.tell.specs.Inner.{CanTell};
 
 use refusal::Refusal;
 
-// How many bytes were written, or that the text is short.
-#[derive(Clone, Copy)]
-pub enum Answer {
-    Written(usize),
-    Refused(Refusal),
-}
-
-// Inner: `NO` and the number of a refusal.
-pub fn tell_refusal(r: Refusal, out: &mut [u8]) -> Answer
+// Inner: `NO` and the number of a refusal. Answers how many bytes were written, or that the text is short.
+pub fn tell_refusal(r: Refusal, out: &mut [u8]) -> Result<usize, Refusal>
     ensures { Put (no_text r) out.old result out.new }
 {
-    let number = [refusal::number_of(r) as i64];
+    let number = [u32::from(r) as i64];
     // its word and its newline
     if out.len() < 3 + writing::fields_length(&number) {
-        return Answer::Refused(Refusal::RoomShort);
+        return Err(Refusal::RoomShort);
     }
-    Answer::Written(writing::write_line(out, 0, b"NO", &number))
+    Ok(writing::write_line(out, 0, b"NO", &number))
 }
 
-// Inner: a last stage, its log and the two figures.
-pub fn tell_run(last: &[u32], log: &[u32], before: i64, after: i64, out: &mut [u8]) -> Answer
+// Inner: a last stage, its log and the two figures; answered alike.
+pub fn tell_run(
+    last: &[u32],
+    log: &[u32],
+    before: i64,
+    after: i64,
+    out: &mut [u8],
+) -> Result<usize, Refusal>
     requires { CanTell last.now log.now }
     ensures { Put (run_text last.now log.now before after) out.old result out.new }
 {
@@ -37,12 +36,12 @@ pub fn tell_run(last: &[u32], log: &[u32], before: i64, after: i64, out: &mut [u
     // the word and the newline of each line, and all fields
     let words = 3 + 2 * (rows + records);
     let first_fields = writing::fields_length(&head);
-    let other_fields = writing::numbers_length(last) + writing::numbers_length(log);
+    let other_fields = writing::fields_length(last) + writing::fields_length(log);
     if out.len() < words + first_fields + other_fields {
-        return Answer::Refused(Refusal::RoomShort);
+        return Err(Refusal::RoomShort);
     }
     let first = writing::write_line(out, 0, b"OK", &head);
     let second = writing::number_lines(out, first, b"R", last, 3, rows);
     let third = writing::number_lines(out, second, b"K", log, record::WIDTH, records);
-    Answer::Written(third)
+    Ok(third)
 }

@@ -1,31 +1,13 @@
 -- A number is read digit by digit: what holds between two digits, and why each way out is right.
 use mathlib.Core.Path.{◌≡◌, sym, ◌∙◌, ap, subst}
 use mathlib.Core.List.{List, [], ◌∷◌, ◌++◌, append_assoc}
-use Prim.Native.Nat.{ℕ, suc, ◌+◌, ◌-◌, ◌*◌, ◌^◌, ◌≤◌, ◌<◌}
+use Prim.Native.Nat.{ℕ, ◌+◌, ◌-◌, ◌*◌, ◌^◌, ◌≤◌, ◌<◌}
 use native.Mathlib.Omega.{arith}
-use lib.ListN.{length, length-append, drop, get_or, drop_of_length-le}
-use lib.Seq.{drop-cons}
+use lib.ListN.{length, length-append, drop}
 use Rattle.text.specs.Decimal.{digit, decimal}
-use Rattle.text.specs.Inner.{Digit, NoDigit}
-use Rattle.text.specs.InnerReading.{NumberAt, DigitAt}
+use Rattle.text.specs.Inner.{NoDigit}
+use Rattle.text.specs.InnerReading.{NumberAt, Standing}
 use Rattle.text.proofs.Digits.{decimal_one, decimal_more, AllDigits, is_digit, one_more, all_digits, head, digits_below, Left, left, same_digits}
-
--- ---- the digit at a place
-
-pub past_end : (s : List ℕ) (i : ℕ) → length s ≤ i → DigitAt s i 10
-past_end s i h = record { here = λ l. absurd (omega arith); none = λ l. subst NoDigit (sym (drop_of_length-le s h)) tt }
-
-pub another : (s : List ℕ) (i : ℕ) → i < length s → (¬ Digit (get_or s i 0)) → DigitAt s i 10
-another s i h n = record { here = λ l. absurd (omega arith); none = λ l. subst NoDigit (sym (drop-cons s i 0 h)) n }
-
-pub digit_here : (s : List ℕ) (i : ℕ) → i < length s → digit 0 ≤ get_or s i 0 → get_or s i 0 ≤ digit 9 → DigitAt s i (get_or s i 0 - digit 0)
-digit_here s i h a b = record { here = λ l. (h, drop-cons s i 0 h ∙ (λ k. e k ∷ drop (f k) s)); none = λ l. absurd (omega arith) }
-  where
-    e : get_or s i 0 ≡ digit (get_or s i 0 - digit 0)
-    e = omega arith
-
-    f : suc i ≡ i + 1
-    f = omega arith
 
 -- ---- no number stands there
 
@@ -49,22 +31,22 @@ pub record Scanned (most : ℕ) (s : List ℕ) (at v i : ℕ) : Type 0 where
   pub short : length (decimal v) ≤ most
 
 module _ (most : ℕ) (s : List ℕ) (at v : ℕ) where
-  pub scan_start : 0 < most → v < 10 → DigitAt s at v → Scanned most s at v (at + 1)
-  scan_start m h d =
-      let e = decimal_one v h in
+  pub scan_start : 0 < most → Standing s at v → Scanned most s at v (at + 1)
+  scan_start m d =
+      let e = decimal_one v d.below in
       let k = ap length e in
-      record { bytes = (d.here h).1 ∙ ap (λ x. x ++ drop (at + 1) s) (sym e); place = omega arith; short = omega arith }
+      record { bytes = d.here ∙ ap (λ x. x ++ drop (at + 1) s) (sym e); place = omega arith; short = omega arith }
 
   module _ (i : ℕ) (sc : Scanned most s at v i) where
     pub scan_end : NoDigit (drop i s) → NumberAt most (drop at s) v (drop i s)
     scan_end h = record { bytes = sc.bytes; short = sc.short; ends = h }
 
-    module _ (d : ℕ) (h : d < 10) (there : DigitAt s i d) where
+    module _ (d : ℕ) (there : Standing s i d) where
       next_bytes : drop at s ≡ decimal v ++ (digit d ∷ []) ++ drop (i + 1) s
-      next_bytes = sc.bytes ∙ ap (λ x. decimal v ++ x) (there.here h).1 ∙ sym (append_assoc (decimal v) (digit d ∷ []) (drop (i + 1) s))
+      next_bytes = sc.bytes ∙ ap (λ x. decimal v ++ x) there.here ∙ sym (append_assoc (decimal v) (digit d ∷ []) (drop (i + 1) s))
 
       next_digits : AllDigits (decimal v ++ (digit d ∷ []))
-      next_digits = one_more (decimal v) (digit d) (all_digits v) (is_digit d h)
+      next_digits = one_more (decimal v) (digit d) (all_digits v) (is_digit d there.below)
 
       -- a needless zero
       pub scan_needless : {w : ℕ} {r : List ℕ} → v ≡ 0 → NumberAt most (drop at s) w r → ⊥
@@ -95,7 +77,7 @@ module _ (most : ℕ) (s : List ℕ) (at v : ℕ) where
       pub scan_more : (v ≡ 0 → ⊥) → i - at < most → Scanned most s at (v * 10 + d) (i + 1)
       scan_more z l =
           let pos : 0 < v = omega arith in
-          let e = decimal_more v d pos h in
+          let e = decimal_more v d pos there.below in
           let p = sc.place in
           let k = length-append (decimal v) (digit d ∷ []) in
           let f = ap length e in

@@ -2,23 +2,19 @@
 use mathlib.Core.Path.{◌≡◌, refl, sym, ◌∙◌, ap, subst}
 use mathlib.Core.List.{List, ◌∷◌, ◌++◌}
 use Prim.Native.Nat.{ℕ, zero, suc, ◌+◌, ◌^◌, ◌≤◌, ◌<◌}
-use mathlib.Core.Bool.{true, false}
+use mathlib.Core.Bool.{true}
 use native.Mathlib.Omega.{arith}
-use lib.IntN.{ℤ, pos, negsuc, nat_abs, ◌-ℤ◌, +ℤ_idl}
+use lib.IntN.{ℤ, pos, negsuc, nat_abs, neg_ℤ, ◌-ℤ◌, +ℤ_idl}
 use lib.ListN.{drop}
 use lib.Signed.{lt_z}
 use mir.Syntax.{w64}
 use mir.Val.{SFits, to_z, of_z}
 use mir.ValLaws.{to_z-of_z}
 use Rattle.ints.proofs.Machine.{Is, lit, var, less, fits, kept}
-use Rattle.ints.proofs.Short.{below, not_below_lem}
+use Rattle.ints.proofs.Short.{below}
 use Rattle.text.specs.Decimal.{minus, decimal, signed}
 use Rattle.text.specs.Inner.{Digit, NoDigit}
-use Rattle.text.specs.InnerReading.{NumberAt, SignedAt, ReadNumber, ReadSigned, below_zero_lem, above_zero, Fits63}
-use Rattle.text.specs.declared.Cursor.{Cursor}
-use Rattle.text.specs.declared.Number.{Number}
-use Rattle.text.specs.declared.Number.TheVariants as number
-use Rattle.text.specs.declared.Signed.TheVariants as whole
+use Rattle.text.specs.InnerReading.{NumberAt, SignedAt}
 use Rattle.text.proofs.Digits.{decimal_injective, digits_below}
 use Rattle.text.proofs.Scan.{none_there, number_unique}
 
@@ -27,8 +23,8 @@ use Rattle.text.proofs.Scan.{none_there, number_unique}
 pub fits_above : (v : ℕ) → v < 2 ^ 63 → SFits w64 (pos v)
 fits_above v h = record { sfits = h }
 
-pub read_above : (v : ℕ) (c : Cursor) → v < 2 ^ 63 → whole.Read (to_z w64 v) c ≡ above_zero (number.Read v c)
-read_above v c h = ap (λ z. whole.Read z c) (to_z-of_z w64 (pos v) (fits_above v h))
+pub read_above : (v : ℕ) → v < 2 ^ 63 → to_z w64 v ≡ pos v
+read_above v h = to_z-of_z w64 (pos v) (fits_above v h)
 
 module _ (v : ℕ) (h : v < 2 ^ 63) where
   taken : Is (0 + v) (pos 0 -ℤ pos v) (pos 0 -ℤ to_z w64 v)
@@ -40,9 +36,9 @@ module _ (v : ℕ) (h : v < 2 ^ 63) where
 zero_less : (k : ℕ) → pos 0 -ℤ pos (suc k) ≡ negsuc k
 zero_less k = +ℤ_idl (negsuc k)
 
-pub read_below : (v : ℕ) (c : Cursor) → (v ≡ 0 → ⊥) → v < 2 ^ 63 → whole.Read (to_z w64 (of_z w64 (pos 0 -ℤ to_z w64 v))) c ≡ below_zero_lem (number.Read v c)
-read_below zero c n h = absurd (n refl)
-read_below (suc k) c n h = ap (λ z. whole.Read z c) ((kept w64 (taken (suc k) h) (omega arith)).same ∙ zero_less k)
+pub read_below : (v : ℕ) → v < 2 ^ 63 → to_z w64 (of_z w64 (pos 0 -ℤ to_z w64 v)) ≡ neg_ℤ (pos v)
+read_below zero h = refl
+read_below (suc k) h = (kept w64 (taken (suc k) h) (omega arith)).same ∙ zero_less k
 
 -- ---- after a minus, and with none
 
@@ -64,33 +60,27 @@ same_number {v = v} {w = w} a b = decimal_injective v w (number_unique a b).0
 
 module _ (most : ℕ) (s : List ℕ) (at : ℕ) where
   -- no zero has a minus
-  minus_zero : (c : ℕ) → drop at s ≡ minus ∷ drop c s → (x : List ℕ) → NumberAt most (drop c s) 0 x → (z : ℤ) (r : List ℕ) → SignedAt most (drop at s) z r → ⊥
-  minus_zero c e x a (pos m) r b = no_number e (as_number b)
-  minus_zero c e x a (negsuc m) r b = let z = same_number a (tail_number e b) in omega arith
+  pub minus_zero : (c : ℕ) → drop at s ≡ minus ∷ drop c s → {x : List ℕ} → NumberAt most (drop c s) 0 x → (z : ℤ) (r : List ℕ) → SignedAt most (drop at s) z r → ⊥
+  minus_zero c e a (pos m) r b = no_number e (as_number b)
+  minus_zero c e a (negsuc m) r b = let z = same_number a (tail_number e b) in omega arith
 
-  minus_none : (c : ℕ) → drop at s ≡ minus ∷ drop c s → ((v : ℕ) (r : List ℕ) → ¬ NumberAt most (drop c s) v r) → (z : ℤ) (r : List ℕ) → SignedAt most (drop at s) z r → ⊥
+  pub minus_none : (c : ℕ) → drop at s ≡ minus ∷ drop c s → ((v : ℕ) (r : List ℕ) → ¬ NumberAt most (drop c s) v r) → (z : ℤ) (r : List ℕ) → SignedAt most (drop at s) z r → ⊥
   minus_none c e a (pos m) r b = no_number e (as_number b)
   minus_none c e a (negsuc m) r b = a (suc m) r (tail_number e b)
 
-  none_above : ((r : List ℕ) → ¬ (drop at s ≡ minus ∷ r)) → ((v : ℕ) (r : List ℕ) → ¬ NumberAt most (drop at s) v r) → (z : ℤ) (r : List ℕ) → SignedAt most (drop at s) z r → ⊥
+  pub none_above : ((r : List ℕ) → ¬ (drop at s ≡ minus ∷ r)) → ((v : ℕ) (r : List ℕ) → ¬ NumberAt most (drop at s) v r) → (z : ℤ) (r : List ℕ) → SignedAt most (drop at s) z r → ⊥
   none_above e a (pos m) r b = a m r (as_number b)
   none_above e a (negsuc m) r b = e (decimal (suc m) ++ r) b.bytes
 
-  pub signed_below : (c : ℕ) → drop at s ≡ minus ∷ drop c s → (n : Number) → ReadNumber most s c n → ReadSigned most s at (below_zero_lem n)
-  unfolding ReadNumber ReadSigned
-  signed_below c e (number.Read zero k) a = λ z r b. minus_zero c e (drop k.at s) a z r b
-  signed_below c e (number.Read (suc n) k) a = record { bytes = e ∙ ap (λ x. minus ∷ x) a.bytes; short = a.short; ends = a.ends }
-  signed_below c e number.Bad a = λ z r b. minus_none c e a z r b
+  pub signed_below : (c n : ℕ) {r : List ℕ} → drop at s ≡ minus ∷ drop c s → NumberAt most (drop c s) n r → (n ≡ 0 → ⊥) → SignedAt most (drop at s) (neg_ℤ (pos n)) r
+  signed_below c zero e a h = absurd (h refl)
+  signed_below c (suc n) e a h = record { bytes = e ∙ ap (λ x. minus ∷ x) a.bytes; short = a.short; ends = a.ends }
 
-  pub signed_above : ((r : List ℕ) → ¬ (drop at s ≡ minus ∷ r)) → (n : Number) → ReadNumber most s at n → ReadSigned most s at (above_zero n)
-  unfolding ReadNumber ReadSigned
-  signed_above e (number.Read n k) a = record { bytes = a.bytes; short = a.short; ends = a.ends }
-  signed_above e number.Bad a = λ z r b. none_above e a z r b
+  pub signed_above : {n : ℕ} {r : List ℕ} → NumberAt most (drop at s) n r → SignedAt most (drop at s) (pos n) r
+  signed_above a = record { bytes = a.bytes; short = a.short; ends = a.ends }
 
-  pub small_enough : most ≤ 18 → (n : Number) → ReadNumber most s at n → Fits63 n
-  unfolding ReadNumber
-  small_enough h (number.Read v c) a = let k = a.short in omega (arith, digits_below v 18 (omega arith))
-  small_enough h number.Bad a = tt
+pub small_enough : {most n : ℕ} {l r : List ℕ} → most ≤ 18 → NumberAt most l n r → n < 2 ^ 63
+small_enough {n = n} h a = let k = a.short in omega (arith, digits_below n 18 (omega arith))
 
 -- only one number with its sign, and one end
 pub signed_unique : {most : ℕ} {l p q : List ℕ} (z w : ℤ) → SignedAt most l z p → SignedAt most l w q → (z ≡ w) × (p ≡ q)
@@ -111,6 +101,3 @@ Tested z = to_z w64 (of_z w64 z)
 
 pub signed_neg : (z : ℤ) → SFits w64 z → lt_z (Tested z) (pos 0) ≡ true → signed z ≡ minus ∷ decimal (nat_abs z)
 signed_neg z f t = let b = below z f (sym (ap (λ k. lt_z k (pos 0)) (to_z-of_z w64 z f)) ∙ t) in rw b.is
-
-pub signed_pos : (z : ℤ) → SFits w64 z → lt_z (Tested z) (pos 0) ≡ false → signed z ≡ decimal (nat_abs z)
-signed_pos z f t = let b = not_below_lem z f (sym (ap (λ k. lt_z k (pos 0)) (to_z-of_z w64 z f)) ∙ t) in ap signed (sym (to_z-of_z w64 z f) ∙ b.same)

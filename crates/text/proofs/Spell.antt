@@ -1,11 +1,11 @@
 -- A number is written as its text is defined: all but the last digit, then that.
-use mathlib.Core.Path.{◌≡◌, sym, ◌∙◌, ap, subst}
+use mathlib.Core.Path.{◌≡◌, sym, ◌∙◌, ap}
 use mathlib.Core.List.{List, [], ◌∷◌, ◌++◌}
 use Prim.Native.Nat.{ℕ, suc, ◌+◌, ◌*◌, ◌/◌, ◌%◌, ◌^◌, ◌≤◌, ◌<◌}
 use native.Mathlib.Omega.{arith}
 use lib.ListN.{length, length-append, set}
 use lib.Seq.{sets}
-use Rattle.text.specs.Decimal.{digit, minus, decimal}
+use Rattle.text.specs.Decimal.{digit, decimal}
 use Rattle.text.specs.InnerReading.{Written}
 use Rattle.text.proofs.Digits.{decimal_one, decimal_more, below_digits}
 
@@ -42,10 +42,3 @@ write_after l l₁ at b r w a =
     let e : at + 1 ≡ suc at = omega arith in
     let p = a.place in
     record { place = omega arith; text = a.text ∙ ap (λ (k : ℕ). sets (set l at b) k w) e }
-
--- a text with a minus in front, and one with none
-pub sign_first : (l l₁ : List ℕ) (at v r : ℕ) (t : List ℕ) → t ≡ minus ∷ decimal v → Written (set l at minus) (at + 1) (decimal v) r l₁ → Written l at t r l₁
-sign_first l l₁ at v r t e a = subst (λ w. Written l at w r l₁) (sym e) (write_after l l₁ at minus r (decimal v) a)
-
-pub sign_none : (l l₁ : List ℕ) (at v r : ℕ) (t : List ℕ) → t ≡ decimal v → Written l at (decimal v) r l₁ → Written l at t r l₁
-sign_none l l₁ at v r t e a = subst (λ w. Written l at w r l₁) (sym e) a

@@ -8,14 +8,14 @@ use native.Mathlib.Decide.{ℕ_discrete}
 use native.Mathlib.Omega.{arith}
 use lib.IntN.{ℤ, pos, nat_abs}
 use lib.ListN.{length, drop, replicate, get_or}
+use Rattle.std.specs.Prelude.{Ok, Err, Result, Option}
+use Rattle.refusal.specs.declared.Refusal.TheVariants.{LimitUnusable}
 use Rattle.surface.specs.Rows.{Row, rows, flat}
 use Rattle.surface.specs.Stage.{Stage}
 use Rattle.surface.specs.Record.{Record, Replayed}
 use Rattle.surface.proofs.Main.{euler_there, corners_there}
 use Rattle.corners.specs.Skin.{Skin}
 use Rattle.refusal.specs.declared.Refusal.{Refusal}
-use Rattle.refusal.specs.declared.Verdict.TheVariants.{Passes}
-use Rattle.refusal.specs.declared.Verdict.TheVariants as verdict
 use Rattle.refusal.specs.First.{First}
 use Rattle.refusal.specs.Told as answers
 use Rattle.refusal.proofs.Outcome.{refused_done}
@@ -26,22 +26,18 @@ use Rattle.faults.proofs.Order.{after_2_at, skin_passes}
 use Rattle.run.specs.Run.{Taken}
 use Rattle.run.proofs.Main.{run_one, taken_cut, taken_replayed, replayed_stage, replayed_euler, replayed_rows, replayed_corners}
 use Rattle.record.specs.Layout.{width, log_of}
-use Rattle.least.specs.declared.Bound.{Bound}
 use Rattle.least.specs.Limited.{Allowed}
-use Rattle.thin.specs.declared.Asked.{Asked}
-use Rattle.thin.specs.declared.Asked.TheVariants.{Under, NoUse}
-use Rattle.thin.specs.declared.Thinning.{Thinning}
-use Rattle.thin.specs.declared.Thinning.TheVariants.{Done, Refused}
+use Rattle.thin.specs.Order.{Asked}
 use Rattle.thin.specs.Answer.{told}
 use Rattle.thin.specs.Thin.{log_need, thin_refusals, ThinnedAs, refused, done}
 use Rattle.thin.specs.Run.{RunOf, KeptAfter}
 
-pub under_one : {b c : Bound} → Under b ≡ Under c → b ≡ c
+pub under_one : {b c : Option ℕ} → ◌≡◌ {A = Asked} (Ok b) (Ok c) → b ≡ c
 under_one e = cc
 
 -- no second outcome satisfies the same words
-pub thinned_one : {k : Asked} {xs : List ℤ} {t l : List ℕ} {a a₂ : Thinning} {t' t₂ l' l₂ : List ℕ} → ThinnedAs k xs t l a t' l' → ThinnedAs k xs t l a₂ t₂ l₂ → (a ≡ a₂) × (t' ≡ t₂) × (l' ≡ l₂)
-thinned_one (refused f ea et el) (refused f₂ ea₂ et₂ el₂) = (ea ∙ ap Refused (refused_one (first_one verdicts _ f f₂)) ∙ sym ea₂, et ∙ sym et₂, el ∙ sym el₂)
+pub thinned_one : {k : Asked} {xs : List ℤ} {t l : List ℕ} {a a₂ : Result ℕ Refusal} {t' t₂ l' l₂ : List ℕ} → ThinnedAs k xs t l a t' l' → ThinnedAs k xs t l a₂ t₂ l₂ → (a ≡ a₂) × (t' ≡ t₂) × (l' ≡ l₂)
+thinned_one (refused f ea et el) (refused f₂ ea₂ et₂ el₂) = (ea ∙ ap Err (refused_one (first_one verdicts _ f f₂)) ∙ sym ea₂, et ∙ sym et₂, el ∙ sym el₂)
 thinned_one (refused f ea et el) (done f₂ _ _ _ _ _ _) = refused_passes (first_one verdicts _ f f₂)
 thinned_one (done f _ _ _ _ _ _) (refused f₂ ea et el) = refused_passes (first_one verdicts _ f₂ f)
 thinned_one {xs = xs} {t = t} {l = l} (done {b = b} f s eb r ea et el) (done {b = c} f₂ s₂ ec r₂ ea₂ et₂ el₂) =
@@ -49,19 +45,19 @@ thinned_one {xs = xs} {t = t} {l = l} (done {b = b} f s eb r ea et el) (done {b 
     let k = run_one (rw e at r) r₂ in
     let w = k.0 in
     let z = k.1 in (
-      ea ∙ ap (λ q. Done (length q)) w ∙ sym ea₂,
+      ea ∙ ap (λ q. Ok (length q)) w ∙ sym ea₂,
       et ∙ ap (λ q. flat q ++ replicate (length t - length (flat q)) 0) z ∙ sym et₂,
       el ∙ ap (λ q. log_of q ++ drop (width * length q) l) w ∙ sym el₂,
     )
 
 -- what is refused is not done
-pub done_refused : {X : Type 0} {k : ℕ} {r : Refusal} → Done k ≡ Refused r → X
-done_refused e = let z : ◌≡◌ {A = ℕ} 0 1 = cc in absurd (omega arith)
+pub done_refused : {X : Type 0} {k : ℕ} {r : Refusal} → ◌≡◌ {A = Result ℕ Refusal} (Ok k) (Err r) → X
+done_refused e = refused_passes (sym e)
 
 -- a skin with room and a usable limit or none passes
-pub thin_passes : {a : Asked} {xs : List ℤ} (t : List ℕ) {room : ℕ} → ¬ (a ≡ NoUse) → length t % 3 ≡ 0 → Skin (corners xs) (rows t) xs → log_need xs ≤ room → First (thin_refusals a xs t room) Passes
+pub thin_passes : {a : Asked} {xs : List ℤ} (t : List ℕ) {room : ℕ} → ¬ (a ≡ Err LimitUnusable) → length t % 3 ≡ 0 → Skin (corners xs) (rows t) xs → log_need xs ≤ room → First (thin_refusals a xs t room) (Ok tt)
 thin_passes {a} {xs} t {room} u threes s h = unfold thin_refusals in
-    rest_decides verdicts (u nor (λ k. k fits) nor (λ k. omega arith) nor none_yet) Passes (after_2_at true xs t Passes fits (skin_passes t threes (corners xs) xs s))
+    rest_decides verdicts (u nor (λ k. k fits) nor (λ k. omega arith) nor none_yet) (Ok tt) (after_2_at true xs t (Ok tt) fits (skin_passes t threes (corners xs) xs s))
   where
     fits : CountsFitAt xs t
     fits = record {
@@ -70,13 +66,13 @@ thin_passes {a} {xs} t {room} u threes s h = unfold thin_refusals in
     }
 
 -- with room and a usable limit or none, every skin is accepted
-pub accepted : {a : Asked} {xs : List ℤ} {t l : List ℕ} {r : Thinning} {t' l' : List ℕ} → ¬ (a ≡ NoUse) → length t % 3 ≡ 0 → Skin (corners xs) (rows t) xs → log_need xs ≤ length l →
-    ThinnedAs a xs t l r t' l' → (k : ℕ) × (r ≡ Done k)
+pub accepted : {a : Asked} {xs : List ℤ} {t l : List ℕ} {r : Result ℕ Refusal} {t' l' : List ℕ} → ¬ (a ≡ Err LimitUnusable) → length t % 3 ≡ 0 → Skin (corners xs) (rows t) xs → log_need xs ≤ length l →
+    ThinnedAs a xs t l r t' l' → (k : ℕ) × (r ≡ Ok k)
 accepted u threes s room (refused f er et el) = refused_passes (first_one verdicts _ f (thin_passes _ u threes s room))
 accepted u threes s room (done {log = log} f z eb r er et el) = (length log, er)
 
 -- what passes is made of whole rows
-pub passes_whole : (a : Asked) (xs : List ℤ) (t : List ℕ) (room : ℕ) → First (thin_refusals a xs t room) Passes → length t % 3 ≡ 0
+pub passes_whole : (a : Asked) (xs : List ℤ) (t : List ℕ) (room : ℕ) → First (thin_refusals a xs t room) (Ok tt) → length t % 3 ≡ 0
 unfolding thin_refusals
 passes_whole a xs t room f = go (passed verdicts _ _ (passed verdicts _ _ f).1).0 (ℕ_discrete (length t % 3) 0)
   where
@@ -84,10 +80,10 @@ passes_whole a xs t room f = go (passed verdicts _ _ (passed verdicts _ _ f).1).
     go c (yes e) = e
     go c (no n) = absurd (c (λ k. n k.table.threes))
 
-pub done_count : {k m : ℕ} → Done k ≡ Done m → k ≡ m
+pub done_count : {k m : ℕ} → ◌≡◌ {A = Result ℕ Refusal} (Ok k) (Ok m) → k ≡ m
 done_count e = cc
 
-pub thinned_run : {a : Asked} {xs : List ℤ} {t l : List ℕ} {k : ℕ} {t' l' : List ℕ} → ThinnedAs a xs t l (Done k) t' l' → RunOf a xs t l k t' l'
+pub thinned_run : {a : Asked} {xs : List ℤ} {t l : List ℕ} {k : ℕ} {t' l' : List ℕ} → ThinnedAs a xs t l (Ok k) t' l' → RunOf a xs t l k t' l'
 thinned_run (refused f er et el) = done_refused er
 thinned_run {a} {xs} {t} {l} (done {b = b} {log = log} {last = last} f s eb r er et el) =
     record { b = b; log = log; last = last; whole = passes_whole a xs t (length l) f; skin = s; under = eb; run = r; count = done_count er; table = et; logged = el }
@@ -119,18 +115,18 @@ pub thinned_kept : {a : Asked} {xs : List ℤ} {t l : List ℕ} {k : ℕ} {t' l'
 thinned_kept w p q e = let c = taken_cut p (rw e at w.run.taken) in (c.0, c.1, replayed_kept w.skin.stage (taken_replayed c.1))
 
 -- the answer tells the first refusal that holds, and else 0 and how many records were written
-pub thin_told : {a : Asked} {xs : List ℤ} {t l : List ℕ} {r : Thinning} {t' l' : List ℕ} → ThinnedAs a xs t l r t' l' →
-    ((e : Refusal) × First (thin_refusals a xs t (length l)) (verdict.Refused e) × (told r ≡ answers.refused e))
-    ⊎ (First (thin_refusals a xs t (length l)) Passes × (k : ℕ) × (r ≡ Done k) × (told r ≡ answers.done (pos k ∷ [])))
+pub thin_told : {a : Asked} {xs : List ℤ} {t l : List ℕ} {r : Result ℕ Refusal} {t' l' : List ℕ} → ThinnedAs a xs t l r t' l' →
+    ((e : Refusal) × First (thin_refusals a xs t (length l)) (Err e) × (told r ≡ answers.refused e))
+    ⊎ (First (thin_refusals a xs t (length l)) (Ok tt) × (k : ℕ) × (r ≡ Ok k) × (told r ≡ answers.done (pos k ∷ [])))
 thin_told (refused {e = e} f er et el) = inl (e, f, ap told er)
 thin_told (done {log = log} f s eb r er et el) = inr (f, length log, er, ap told er)
 
 -- 0 and a number tell that so many records were written
-pub told_done : (a : Thinning) {k : ℕ} → told a ≡ answers.done (pos k ∷ []) → a ≡ Done k
-told_done (Done j) e = ap Done (ap (λ (v : answers.Told). nat_abs (get_or v.values 0 (pos 0))) e)
-told_done (Refused r) e = absurd (refused_done r e)
+pub told_done : (a : Result ℕ Refusal) {k : ℕ} → told a ≡ answers.done (pos k ∷ []) → a ≡ Ok k
+told_done (Ok j) e = ap Ok (ap (λ (v : answers.Told). nat_abs (get_or v.values 0 (pos 0))) e)
+told_done (Err r) e = absurd (refused_done r e)
 
 -- a refused thinning changes nothing
-pub refused_same : {a : Asked} {xs : List ℤ} {t l : List ℕ} {r : Refusal} {t' l' : List ℕ} → ThinnedAs a xs t l (Refused r) t' l' → (t' ≡ t) × (l' ≡ l)
+pub refused_same : {a : Asked} {xs : List ℤ} {t l : List ℕ} {r : Refusal} {t' l' : List ℕ} → ThinnedAs a xs t l (Err r) t' l' → (t' ≡ t) × (l' ≡ l)
 refused_same (refused f er et el) = (et, el)
 refused_same (done f s eb r er et el) = done_refused (sym er)

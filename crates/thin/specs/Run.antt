@@ -1,5 +1,5 @@
 -- The run that a thinning which is done comes to, and what its steps keep.
-use Rattle.std.specs.Prelude.{◌≡◌, List, ◌++◌, ℕ, ◌+◌, ◌*◌, ◌%◌, ℤ, length, drop}
+use Rattle.std.specs.Prelude.{◌≡◌, List, ◌++◌, ℕ, ◌+◌, ◌*◌, ◌%◌, ℤ, length, drop, Option, Ok}
 use Rattle.surface.specs.Lists.{Exactly}
 use Rattle.surface.specs.Rows.{Row, rows}
 use Rattle.surface.specs.Table.{Used}
@@ -11,20 +11,18 @@ use Rattle.faults.specs.Counts.{corners}
 use Rattle.run.specs.Run.{Run}
 use Rattle.record.specs.Layout.{log_of, room_for}
 use Rattle.record.specs.Front.{zeroed}
-use Rattle.least.specs.declared.Bound.{Bound}
 use Rattle.least.specs.Limited.{Allowed}
-use Rattle.thin.specs.declared.Asked.{Asked}
-use Rattle.thin.specs.declared.Asked.TheVariants.{Under}
+use Rattle.thin.specs.Order.{Asked}
 
 -- what was thinned: a skin, and the run, each of whose records is the least edge that qualifies, and that ends where none does; its last stage stands in
 -- the table, its records in the log
 pub record RunOf (a : Asked) (xs : List ℤ) (t l : List ℕ) (k : ℕ) (t' l' : List ℕ) : Type 0 where
-  pub b : Bound
+  pub b : Option ℕ
   pub log : List Record
   pub last : List Row
   pub whole : length t % 3 ≡ 0
   pub skin : Skin (corners xs) (rows t) xs
-  pub under : a ≡ Under b
+  pub under : a ≡ Ok b
   pub run : Run (Allowed b xs) (rows t) log last
   pub count : k ≡ length log
   pub table : t' ≡ zeroed last t

@@ -8,8 +8,7 @@ use lib.ListN.{length, get_or}
 use Rattle.surface.specs.Lists.{◌∈◌}
 use Rattle.surface.specs.Rows.{Row, row, rows}
 use Rattle.surface.proofs.Flat.{place_of}
-use Rattle.ring.specs.declared.Trial.{Trial}
-use Rattle.ring.specs.declared.Trial.TheVariants.{Number, Nothing}
+use Rattle.std.specs.Prelude.{Option, Some, None}
 use Rattle.ring.specs.Ring.{corner, size, AnswerAt}
 use Rattle.ring.specs.Inner.{ring}
 use Rattle.ring.specs.Answer.{told}
@@ -64,7 +63,7 @@ ring_torus = record {
 }
 
 pub trial_ring : TrialRing
-trial_ring = record { answered = λ answers tells. (ring, record { inside = λ k h. ap told (there answers tells k (omega (arith, ring_numbers, h))); past = λ k h. ap told (trial_one k (answers k) Nothing (tells k) (omega (arith, ring_numbers, h))) }, ring_torus) }
+trial_ring = record { answered = λ answers tells. (ring, record { inside = λ k h. ap told (there answers tells k (omega (arith, ring_numbers, h))); past = λ k h. ap told (trial_one k (answers k) None (tells k) (omega (arith, ring_numbers, h))) }, ring_torus) }
   where
-    there : (answers : ℕ → Trial) → ((k : ℕ) → AnswerAt k (answers k)) → (k : ℕ) → k < size → answers k ≡ Number (get_or ring k 0)
-    there answers tells k h = trial_one k (answers k) (Number (get_or ring k 0)) (tells k) (h, ring_at k h)
+    there : (answers : ℕ → Option ℕ) → ((k : ℕ) → AnswerAt k (answers k)) → (k : ℕ) → k < size → answers k ≡ Some (get_or ring k 0)
+    there answers tells k h = trial_one k (answers k) (Some (get_or ring k 0)) (tells k) (h, ring_at k h)

@@ -1,11 +1,10 @@
 -- "That the whole stored table follows this rule and is closed is shown once": what holds of the table whose numbers are answered place by place.
-use Rattle.std.specs.Prelude.{◌≡◌, ◌⊎◌, List, [], ◌∷◌, ℕ, ◌+◌, ◌*◌, ◌≤◌, ◌<◌, pos, length, get_or}
+use Rattle.std.specs.Prelude.{◌≡◌, ◌⊎◌, List, [], ◌∷◌, ℕ, ◌+◌, ◌*◌, ◌≤◌, ◌<◌, pos, length, get_or, Option}
 use Rattle.surface.specs.Lists.{◌∈◌}
 use Rattle.surface.specs.Rows.{Row, row, rows}
 use Rattle.surface.specs.Table.{Used}
 use Rattle.surface.specs.Stage.{Stage}
 use Rattle.surface.specs.Euler.{Euler}
-use Rattle.ring.specs.declared.Trial.{Trial}
 use Rattle.refusal.specs.Told.{done}
 use Rattle.ring.specs.Answer.{told}
 use Rattle.ring.specs.Ring.{corner, size, AnswerAt}
@@ -35,10 +34,10 @@ pub record Torus (l : List ℕ) : Type 0 where
   pub euler : Euler (rows l) (pos 0)
 
 -- the answers tell the numbers of l, place by place, and nothing past them
-pub record AnsweredBy (answers : ℕ → Trial) (l : List ℕ) : Type 0 where
+pub record AnsweredBy (answers : ℕ → Option ℕ) (l : List ℕ) : Type 0 where
   pub inside : (k : ℕ) → k < length l → told (answers k) ≡ done (pos (get_or l k 0) ∷ [])
   pub past : (k : ℕ) → length l ≤ k → told (answers k) ≡ done []
 
 -- whatever answers each place as `trial_number`'s contract says answers the numbers of one table, and that is the torus of the rule
 pub record TrialRing : Type 0 where
-  pub answered : (answers : ℕ → Trial) → ((k : ℕ) → AnswerAt k (answers k)) → (l : List ℕ) × AnsweredBy answers l × Torus l
+  pub answered : (answers : ℕ → Option ℕ) → ((k : ℕ) → AnswerAt k (answers k)) → (l : List ℕ) × AnsweredBy answers l × Torus l

@@ -1,11 +1,10 @@
 // The trial cases of 01, run over the proved crates. What it prints is held to the file stdout beside src/, which was written from 01.
 #![tactic(auto)]
 
-use length::{Length, Order, Reading, read_limit};
-use regrow::Regrown;
-use ring::Trial;
-use thin::Thinning;
-use volume::Measured;
+use length::{Length, Order, read_limit};
+use refusal::Refusal;
+use regrow::Halt;
+use std::io;
 
 // The farthest that a coordinate may lie from 0.
 const FAR: i32 = corners::MOST_COORDINATE;
@@ -55,87 +54,66 @@ const O_LOG: [u32; 2 * record::WIDTH] = [
     0, 1, 0, 0, 1, 2, 3, 0, 4, 1, 0, 2, 0, 0, 2, 3, 2, 5, 2, 0,
 ];
 
-// A line of a name and a whole number.
-fn show(name: &[u8], value: i64) {
-    io::write_all(1, name);
-    if value < 0 {
-        io::write_all(1, b"-");
-    }
-    io::print_decimal(1, ints::size(value));
-    io::write_all(1, b"\n");
-}
-
 // A line of a typed length and its limit.
-fn show_limit(name: &[u8], l: Length) {
-    let r = read_limit(l);
-    match r {
-        Reading::Whole(c) => {
-            io::write_all(1, name);
-            io::print_decimal(1, c);
-            io::write_all(1, b" cm\n");
-        }
-        Reading::Unusable => {
-            io::write_all(1, name);
-            io::write_all(1, b"unusable\n");
-        }
+fn show_limit(rt: &impl Print, name: &str, l: Length) -> io::Result<()> {
+    match read_limit(l) {
+        Some(c) => println!(rt; "{name}: {c} cm"),
+        None => println!(rt; "{name}: unusable"),
     }
 }
 
 // 01's typed limits, and 02's in survey feet, ft, and international feet, ift.
-fn limits() {
-    show_limit(b"limit 1.5 m: ", Length::Metres(1.5));
-    show_limit(b"limit 1.375 m: ", Length::Metres(1.375));
-    show_limit(b"limit 4.75 ft: ", Length::Feet(4.75));
-    show_limit(b"limit 0.29 m: ", Length::Metres(0.29));
-    show_limit(b"limit 0.3 m: ", Length::Metres(0.3));
-    show_limit(b"limit 4.75 ift: ", Length::InternationalFeet(4.75));
-    show_limit(b"limit 6561.25 ft: ", Length::Feet(6561.25));
-    show_limit(b"limit 6561.25 ift: ", Length::InternationalFeet(6561.25));
-    show_limit(b"limit 6561.7 ft: ", Length::Feet(6561.7));
-    show_limit(b"limit 6561.7 ift: ", Length::InternationalFeet(6561.7));
+fn limits(rt: &impl Print) -> io::Result<()> {
+    show_limit(rt, "limit 1.5 m", Length::Metres(1.5))?;
+    show_limit(rt, "limit 1.375 m", Length::Metres(1.375))?;
+    show_limit(rt, "limit 4.75 ft", Length::Feet(4.75))?;
+    show_limit(rt, "limit 0.29 m", Length::Metres(0.29))?;
+    show_limit(rt, "limit 0.3 m", Length::Metres(0.3))?;
+    show_limit(rt, "limit 4.75 ift", Length::InternationalFeet(4.75))?;
+    show_limit(rt, "limit 6561.25 ft", Length::Feet(6561.25))?;
+    show_limit(rt, "limit 6561.25 ift", Length::InternationalFeet(6561.25))?;
+    show_limit(rt, "limit 6561.7 ft", Length::Feet(6561.7))?;
+    show_limit(rt, "limit 6561.7 ift", Length::InternationalFeet(6561.7))
+}
+
+// A line of a refusal.
+fn show_refusal(rt: &impl Print, name: &str, e: Refusal) -> io::Result<()> {
+    println!(rt; "{name}: refused {}", u32::from(e))
 }
 
 // A line of a thinning's answer.
-fn show_thinning(name: &[u8], r: Thinning) {
-    io::write_all(1, name);
+fn show_thinning(rt: &impl Print, name: &str, r: Result<usize, Refusal>) -> io::Result<()> {
     match r {
-        Thinning::Done(k) => {
-            io::print_decimal(1, k as u64);
-            io::write_all(1, b" records\n");
-        }
-        Thinning::Refused(e) => {
-            io::write_all(1, b"refused ");
-            io::print_decimal(1, refusal::number_of(e) as u64);
-            io::write_all(1, b"\n");
-        }
+        Ok(k) => println!(rt; "{name}: {k} records"),
+        Err(e) => show_refusal(rt, name, e),
     }
 }
 
 // The same of a small table thinned without a limit.
-fn show_thinned(name: &[u8], t: &mut [u32], xs: &[i32]) {
+fn show_thinned(rt: &impl Print, name: &str, t: &mut [u32], xs: &[i32]) -> io::Result<()> {
     let mut log = [0u32; FIVE_RECORDS];
-    show_thinning(name, thin::thin(t, xs, Order::NoLimit, &mut log));
+    show_thinning(rt, name, thin::thin(t, xs, Order::NoLimit, &mut log))
 }
 
 // The octahedron without its last row, with fewer rows than a skin has, and with a coordinate missing.
-fn octahedra() {
+fn octahedra(rt: &impl Print) -> io::Result<()> {
     let xs = O_CORNERS;
     let mut open = [0u32; 21];
-    copy(&O, &mut open);
-    show_thinned(b"O without its last row: ", &mut open, &xs);
+    open.copy_from_slice(&O[..21]);
+    show_thinned(rt, "O without its last row", &mut open, &xs)?;
     let mut three = [0u32; 9];
-    copy(&O, &mut three);
-    show_thinned(b"O's first three rows: ", &mut three, &xs);
+    three.copy_from_slice(&O[..9]);
+    show_thinned(rt, "O's first three rows", &mut three, &xs)?;
     let mut t = O;
-    show_thinned(b"O without its last coordinate: ", &mut t, &xs[..17]);
+    show_thinned(rt, "O without its last coordinate", &mut t, &xs[..17])
 }
 
 // Coordinates at their limit and past it.
-fn far_corners() {
+fn far_corners(rt: &impl Print) -> io::Result<()> {
     let mut t = T;
-    show_thinned(b"T to 50,000 and -50,000: ", &mut t, &spanned(FAR, -FAR));
-    show_thinned(b"T to 50,001: ", &mut t, &spanned(FAR + 1, 300));
-    show_thinned(b"T to -50,001: ", &mut t, &spanned(300, -FAR - 1));
+    show_thinned(rt, "T to 50,000 and -50,000", &mut t, &spanned(FAR, -FAR))?;
+    show_thinned(rt, "T to 50,001", &mut t, &spanned(FAR + 1, 300))?;
+    show_thinned(rt, "T to -50,001", &mut t, &spanned(300, -FAR - 1))
 }
 
 // The corners (0, 0, 0), (x, 0, 0), (0, 300, 0) and (0, 0, z).
@@ -144,214 +122,163 @@ fn spanned(x: i32, z: i32) -> [i32; 12] {
 }
 
 // T and another tetrahedron in one table.
-fn with_t(second: &[u32]) -> [u32; 24] {
+fn with_t(second: &[u32; 12]) -> [u32; 24] {
     let mut t = [0u32; 24];
-    copy(&T, &mut t);
-    copy(second, &mut t[12..]);
+    t[..12].copy_from_slice(&T);
+    t[12..].copy_from_slice(second);
     t
 }
 
 // Two tetrahedra: sharing a corner, apart, and with a corner that no row uses.
-fn pairs() {
+fn pairs(rt: &impl Print) -> io::Result<()> {
     let mut shared = with_t(&T_SHARING);
     let mut apart = with_t(&T_APART);
     let xs = NINE_CORNERS;
     show_thinned(
-        b"two tetrahedra that share a corner: ",
+        rt,
+        "two tetrahedra that share a corner",
         &mut shared,
         &xs[..21],
-    );
-    show_thinned(b"and a corner that no row uses: ", &mut shared, &xs[..24]);
-    show_thinned(b"two tetrahedra apart: ", &mut apart, &xs[..24]);
-    show_thinned(b"and a corner that no row uses: ", &mut apart, &xs);
+    )?;
+    show_thinned(rt, "and a corner that no row uses", &mut shared, &xs[..24])?;
+    show_thinned(rt, "two tetrahedra apart", &mut apart, &xs[..24])?;
+    show_thinned(rt, "and a corner that no row uses", &mut apart, &xs)
 }
 
 // The numbers of a list, parted by blanks, on one line.
-fn show_numbers(name: &[u8], l: &[u32]) {
-    io::write_all(1, name);
-    let mut i: usize = 0;
-    while i < l.len() {
-        io::write_all(1, b" ");
-        io::print_decimal(1, wide(l[i]));
-        i += 1;
+fn show_numbers(rt: &impl Print, name: &str, l: &[u32]) -> io::Result<()> {
+    print!(rt; "{name}:")?;
+    for x in l {
+        print!(rt; " {x}")?;
     }
-    io::write_all(1, b"\n");
-}
-
-fn wide(x: u32) -> u64 {
-    x as u64
-}
-
-// The first list into the front of the second, as far as there is room.
-fn copy(from: &[u32], to: &mut [u32]) {
-    let mut i: usize = 0;
-    while i < from.len() {
-        if to.len() <= i {
-            return;
-        }
-        to[i] = from[i];
-        i += 1;
-    }
+    println!(rt)
 }
 
 // The octahedron thinned: its rows and records as in 01's sheet.
-fn thin_octahedron() {
+fn thin_octahedron(rt: &impl Print) -> io::Result<()> {
     let mut t = O;
     let xs = O_CORNERS;
     let mut log = [7u32; 2 * record::WIDTH + 1];
     let r = thin::thin(&mut t, &xs, Order::NoLimit, &mut log);
-    show_thinning(b"O thinned: ", r);
-    show_numbers(b"O's table then:", &t);
-    show_numbers(b"O's log then:", &log);
+    show_thinning(rt, "O thinned", r)?;
+    show_numbers(rt, "O's table then", &t)?;
+    show_numbers(rt, "O's log then", &log)?;
     let mut short = [7u32; 2 * record::WIDTH - 1];
     let again = thin::thin(&mut t, &xs, Order::NoLimit, &mut short);
-    show_thinning(b"with room for 19 numbers: ", again);
+    show_thinning(rt, "with room for 19 numbers", again)
 }
 
 // A line of the answer of growing back or of replay.
-fn show_regrown(name: &[u8], a: Regrown) {
-    io::write_all(1, name);
+fn show_regrown(rt: &impl Print, name: &str, a: Result<usize, Halt>) -> io::Result<()> {
     match a {
-        Regrown::Done(k) => {
-            io::print_decimal(1, k as u64);
-            io::write_all(1, b" records done\n");
-        }
-        Regrown::Stopped(k) => {
-            io::write_all(1, b"refused 13 after ");
-            io::print_decimal(1, k as u64);
-            io::write_all(1, b" records\n");
-        }
-        Regrown::Refused(e) => {
-            io::write_all(1, b"refused ");
-            io::print_decimal(1, refusal::number_of(e) as u64);
-            io::write_all(1, b"\n");
-        }
+        Ok(k) => println!(rt; "{name}: {k} records done"),
+        Err(Halt::Stopped(k)) => println!(rt; "{name}: refused 13 after {k} records"),
+        Err(Halt::Refused(e)) => show_refusal(rt, name, e),
     }
 }
 
 // The octahedron's last rows in a room with two numbers to spare, and a log grown back there.
-fn grow_octahedron(name: &[u8], log: &[u32]) {
+fn grow_octahedron(rt: &impl Print, name: &str, log: &[u32]) -> io::Result<()> {
     let mut room = [9u32; 26];
-    copy(&O_END, &mut room);
-    show_regrown(name, regrow::grow_back(&mut room, 4, 6, log));
-    show_numbers(b"the room then:", &room);
+    room[..12].copy_from_slice(&O_END);
+    show_regrown(rt, name, regrow::grow_back(&mut room, 4, 6, log))?;
+    show_numbers(rt, "the room then", &room)
 }
 
 // A log replayed on the octahedron.
-fn replay_octahedron(name: &[u8], log: &[u32]) {
+fn replay_octahedron(rt: &impl Print, name: &str, log: &[u32]) -> io::Result<()> {
     let mut t = O;
-    show_regrown(name, replay::replay(&mut t, 6, log));
-    show_numbers(b"the table then:", &t);
+    show_regrown(rt, name, replay::replay(&mut t, 6, log))?;
+    show_numbers(rt, "the table then", &t)
 }
 
 // The octahedron's log with another first record.
 fn with_first(first: [u32; record::WIDTH]) -> [u32; 2 * record::WIDTH] {
     let mut log = O_LOG;
-    copy(&first, &mut log);
+    log[..record::WIDTH].copy_from_slice(&first);
     log
 }
 
 // Such a log grown back.
-fn spoiled(name: &[u8], first: [u32; record::WIDTH]) {
-    grow_octahedron(name, &with_first(first));
+fn spoiled(rt: &impl Print, name: &str, first: [u32; record::WIDTH]) -> io::Result<()> {
+    grow_octahedron(rt, name, &with_first(first))
 }
 
 // Growing back and replay: 01's octahedron, and records that fail.
-fn logs() {
-    grow_octahedron(b"O grown back from its two records: ", &O_LOG);
-    replay_octahedron(b"O's two records replayed: ", &O_LOG);
+fn logs(rt: &impl Print) -> io::Result<()> {
+    grow_octahedron(rt, "O grown back from its two records", &O_LOG)?;
+    replay_octahedron(rt, "O's two records replayed", &O_LOG)?;
     let turned = with_first([0u32, 1, 0, 1, 2, 0, 3, 0, 4, 1]);
-    grow_octahedron(b"with a row turned: ", &turned);
-    replay_octahedron(b"replayed: ", &turned);
-    spoiled(b"removed is used: ", [0u32, 2, 0, 0, 1, 2, 3, 0, 4, 2]);
-    spoiled(b"places equal: ", [0u32, 1, 3, 0, 1, 2, 3, 0, 4, 1]);
+    grow_octahedron(rt, "with a row turned", &turned)?;
+    replay_octahedron(rt, "replayed", &turned)?;
+    spoiled(rt, "removed is used", [0u32, 2, 0, 0, 1, 2, 3, 0, 4, 2])?;
+    spoiled(rt, "places equal", [0u32, 1, 3, 0, 1, 2, 3, 0, 4, 1])?;
     spoiled(
-        b"a place one past the grown table: ",
+        rt,
+        "a place one past the grown table",
         [0u32, 1, 0, 0, 1, 2, 8, 0, 4, 1],
-    );
+    )
 }
 
 // T with one record, M with five and with six.
-fn too_many_records() {
+fn too_many_records(rt: &impl Print) -> io::Result<()> {
     let mut t = T;
     show_regrown(
-        b"T with one record: ",
+        rt,
+        "T with one record",
         replay::replay(&mut t, 4, &O_LOG[..record::WIDTH]),
-    );
+    )?;
     let mut m = [
         0u32, 1, 3, 0, 3, 2, 1, 2, 4, 1, 4, 3, 2, 3, 5, 2, 5, 4, 3, 4, 6, 3, 6, 5, 4, 5, 0, 4, 0,
         6, 5, 6, 1, 5, 1, 0, 6, 0, 2, 6, 2, 1,
     ];
     let mut log = [0u32; 6 * record::WIDTH];
-    let first = [0u32, 1, 0, 0, 1, 3, 11, 5, 1, 0];
-    copy(&first, &mut log);
+    log[..record::WIDTH].copy_from_slice(&[0u32, 1, 0, 0, 1, 3, 11, 5, 1, 0]);
     show_regrown(
-        b"M with five records: ",
+        rt,
+        "M with five records",
         replay::replay(&mut m, 7, &log[..FIVE_RECORDS]),
-    );
-    show_regrown(b"M with six records: ", replay::replay(&mut m, 7, &log));
-    show_numbers(b"M then:", &m);
+    )?;
+    show_regrown(rt, "M with six records", replay::replay(&mut m, 7, &log))?;
+    show_numbers(rt, "M then", &m)
 }
 
 // The trial ring's numbers into a lent table.
 fn copy_ring(t: &mut [u32]) {
-    let mut i: usize = 0;
-    while i < t.len() {
-        t[i] = ring_number(i);
-        i += 1;
-    }
-}
-
-// A number of the trial ring, 0 past its end.
-fn ring_number(i: usize) -> u32 {
-    let r = ring::trial_number(i);
-    match r {
-        Trial::Number(v) => v,
-        Trial::Nothing => 0,
+    for (i, x) in t.iter_mut().enumerate() {
+        *x = ring::trial_number(i).unwrap_or(0);
     }
 }
 
 // Distinct corners, as long as they are fewer than 1,000: the coordinates count up, and start anew at 1,000.
 fn place_corners(xs: &mut [i32]) {
-    let mut i: usize = 0;
-    while i < xs.len() {
-        xs[i] = (i % 1000) as i32;
-        i += 1;
+    for (i, x) in xs.iter_mut().enumerate() {
+        *x = (i % 1000) as i32;
     }
 }
 
 // The trial ring thinned: 55 records, 18 rows left.
-fn thin_ring() {
+fn thin_ring(rt: &impl Print) -> io::Result<()> {
     let mut t = [0u32; RING_NUMBERS];
     copy_ring(&mut t);
     let mut xs = [0i32; RING_COORDINATES];
     place_corners(&mut xs);
     let mut log = [0u32; 60 * record::WIDTH];
     let r = thin::thin(&mut t, &xs, Order::NoLimit, &mut log);
-    show_thinning(b"the trial ring thinned: ", r);
-    show_numbers(b"past its 18 rows then:", &t[54..60]);
+    show_thinning(rt, "the trial ring thinned", r)?;
+    show_numbers(rt, "past its 18 rows then", &t[54..60])
 }
 
 // A number of the torus: 1,024 rows over 512 corners.
 fn torus_number(i: usize) -> u32 {
     let r = i / 6 / ACROSS;
     let c = i / 6 % ACROSS;
-    let k = i % 6;
-    let down = torus_corner(r + 1, c);
-    let across = torus_corner(r + 1, c + 1);
-    if k == 1 {
-        return down;
+    match i % 6 {
+        1 => torus_corner(r + 1, c),
+        2 | 4 => torus_corner(r + 1, c + 1),
+        5 => torus_corner(r, c + 1),
+        _ => torus_corner(r, c),
     }
-    if k == 2 {
-        return across;
-    }
-    if k == 4 {
-        return across;
-    }
-    if k == 5 {
-        return torus_corner(r, c + 1);
-    }
-    torus_corner(r, c)
 }
 
 fn torus_corner(r: usize, c: usize) -> u32 {
@@ -359,10 +286,8 @@ fn torus_corner(r: usize, c: usize) -> u32 {
 }
 
 fn copy_torus(t: &mut [u32]) {
-    let mut i: usize = 0;
-    while i < t.len() {
-        t[i] = torus_number(i);
-        i += 1;
+    for (i, x) in t.iter_mut().enumerate() {
+        *x = torus_number(i);
     }
 }
 
@@ -371,23 +296,14 @@ fn copy_torus(t: &mut [u32]) {
 fn torus_coordinate(i: usize, out: i32) -> i32 {
     let p = i / 3 / ACROSS % 2;
     let q = i / 3 % 2;
-    let j = i % 3;
-    if j == 0 {
-        if q == 0 {
-            return out;
-        }
-        return near(out);
+    match i % 3 {
+        0 if q == 0 => out,
+        0 => near(out),
+        1 if p == q => FAR,
+        1 => -FAR,
+        _ if p == 0 => FAR,
+        _ => -FAR,
     }
-    if j == 1 {
-        if p == q {
-            return FAR;
-        }
-        return -FAR;
-    }
-    if p == 0 {
-        return FAR;
-    }
-    -FAR
 }
 
 // The other end of a coordinate's range.
@@ -396,77 +312,76 @@ fn near(out: i32) -> i32 {
 }
 
 fn place_torus(xs: &mut [i32], out: i32) {
-    let mut i: usize = 0;
-    while i < xs.len() {
-        xs[i] = torus_coordinate(i, out);
-        i += 1;
+    for (i, x) in xs.iter_mut().enumerate() {
+        *x = torus_coordinate(i, out);
     }
 }
 
 // A line of a volume's answer.
-fn show_volume(name: &[u8], r: Measured) {
+fn show_volume(rt: &impl Print, name: &str, r: Result<i64, Refusal>) -> io::Result<()> {
     match r {
-        Measured::Figure(f) => show(name, f),
-        Measured::Refused(e) => {
-            io::write_all(1, name);
-            io::write_all(1, b"refused ");
-            io::print_decimal(1, refusal::number_of(e) as u64);
-            io::write_all(1, b"\n");
-        }
+        Ok(f) => println!(rt; "{name}: {f}"),
+        Err(e) => show_refusal(rt, name, e),
     }
 }
 
 // Sums on either side of a half cubic metre, and at one and a half: the three corners of T beside the first span the sum.
-fn halves() {
-    show_span(b"the sum 2,999,999: ", 2000, 1, 1, 1500, -1);
-    show_span(b"the sum -2,999,999: ", 2000, 1, 1, 1500, 1);
-    show_span(b"the sum 3,000,000: ", 100, 0, 0, 100, -300);
-    show_span(b"the sum -3,000,000: ", 100, 0, 0, 100, 300);
-    show_span(b"the sum 9,000,000: ", 300, 0, 0, 100, -300);
-    show_span(b"the sum -9,000,000: ", 300, 0, 0, 100, 300);
+fn halves(rt: &impl Print) -> io::Result<()> {
+    show_span(rt, "the sum 2,999,999", [2000, 1, 1, 1500, -1])?;
+    show_span(rt, "the sum -2,999,999", [2000, 1, 1, 1500, 1])?;
+    show_span(rt, "the sum 3,000,000", [100, 0, 0, 100, -300])?;
+    show_span(rt, "the sum -3,000,000", [100, 0, 0, 100, 300])?;
+    show_span(rt, "the sum 9,000,000", [300, 0, 0, 100, -300])?;
+    show_span(rt, "the sum -9,000,000", [300, 0, 0, 100, 300])
 }
 
 // The volume of T with the corners (0, 0, 0), (a, b, 0), (c, d, 0) and (0, 0, e): its sum is (b x c - a x d) x e.
-fn show_span(name: &[u8], a: i32, b: i32, c: i32, d: i32, e: i32) {
+fn show_span(rt: &impl Print, name: &str, [a, b, c, d, e]: [i32; 5]) -> io::Result<()> {
     let xs = [0i32, 0, 0, a, b, 0, c, d, 0, 0, 0, e];
-    show_volume(name, volume::volume(&T, &xs));
+    show_volume(rt, name, volume::volume(&T, &xs))
 }
 
 // The most rows, and one more; under a limit of 0 no edge is short enough, since no two corners lie on one point.
-fn most_rows() {
+fn most_rows(rt: &impl Print) -> io::Result<()> {
     let mut xs = [0i32; TORUS_COORDINATES];
     place_corners(&mut xs);
     let mut log = [0u32; 508 * record::WIDTH];
     let zero = Order::Limit(Length::Centimetres(0.0));
     let mut most = [0u32; TORUS_NUMBERS];
     copy_torus(&mut most);
-    show_thinning(b"1,024 rows: ", thin::thin(&mut most, &xs, zero, &mut log));
+    show_thinning(rt, "1,024 rows", thin::thin(&mut most, &xs, zero, &mut log))?;
     let mut more = [0u32; TORUS_NUMBERS + 3];
     copy_torus(&mut more);
-    show_thinning(b"1,025 rows: ", thin::thin(&mut more, &xs, zero, &mut log));
+    show_thinning(rt, "1,025 rows", thin::thin(&mut more, &xs, zero, &mut log))
 }
 
 // The largest sums: 512,000,000,000,000,000 either way.
-fn largest_sums() {
+fn largest_sums(rt: &impl Print) -> io::Result<()> {
     let mut t = [0u32; TORUS_NUMBERS];
     copy_torus(&mut t);
     let mut xs = [0i32; TORUS_COORDINATES];
     place_torus(&mut xs, FAR);
-    show_volume(b"1,024 rows at the limits: ", volume::volume(&t, &xs));
+    show_volume(rt, "1,024 rows at the limits", volume::volume(&t, &xs))?;
     place_torus(&mut xs, -FAR);
-    show_volume(b"and mirrored: ", volume::volume(&t, &xs));
+    show_volume(rt, "and mirrored", volume::volume(&t, &xs))
 }
 
-fn main() {
-    limits();
-    halves();
-    octahedra();
-    most_rows();
-    far_corners();
-    pairs();
-    thin_octahedron();
-    logs();
-    too_many_records();
-    thin_ring();
-    largest_sums();
+// Every trial, up to the first line that cannot be written.
+fn all(rt: &impl Print) -> io::Result<()> {
+    limits(rt)?;
+    halves(rt)?;
+    octahedra(rt)?;
+    most_rows(rt)?;
+    far_corners(rt)?;
+    pairs(rt)?;
+    thin_octahedron(rt)?;
+    logs(rt)?;
+    too_many_records(rt)?;
+    thin_ring(rt)?;
+    largest_sums(rt)
+}
+
+// The status is 0 also where a line cannot be written.
+fn main(rt: HostRuntime) {
+    let _ = all(&rt);
 }

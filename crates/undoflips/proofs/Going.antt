@@ -1,10 +1,11 @@
 -- The records of a flip log undone one by one, the last first: after so many, the table is that reached, and the chains are its own.
-use mathlib.Core.Path.{◌≡◌, refl, ◌∙◌}
+use mathlib.Core.Path.{◌≡◌, refl, ◌∙◌, sym}
 use mathlib.Core.Bool.{true, false}
 use mathlib.Core.List.{List, reverse}
-use Prim.Native.Nat.{ℕ, ◌+◌, ◌-◌, ◌*◌, ◌≤◌, ◌<◌}
+use Prim.Native.Nat.{ℕ, ◌+◌, ◌-◌, ◌*◌, ◌<◌}
 use native.Mathlib.Omega.{arith}
 use lib.ListN.{length, drop, length-reverse}
+use Rattle.std.specs.Prelude.{Ok, Err}
 use Rattle.follow.proofs.Leading.{leads_keep}
 use Rattle.follow.proofs.Upto.{Upto, upto_none, upto_all, upto_fails, upto_more}
 use Rattle.surface.specs.Rows.{rows}
@@ -19,7 +20,7 @@ use Rattle.chart.specs.Chart.{InChains}
 use Rattle.chart.proofs.Looking.{chained_flat}
 use Rattle.flip.proofs.Flipping.{stage_charted}
 use Rattle.flipped.specs.declared.FlipRefusal.TheVariants.{UndoFails}
-use Rattle.flipped.specs.declared.Flipped.TheVariants.{Done, Stopped}
+use Rattle.flipped.specs.declared.FlipHalt.TheVariants.{Stopped}
 use Rattle.fliplog.specs.Layout.{width, flip_in, flip_log}
 use Rattle.unflip.specs.Inner.{Undoes}
 use Rattle.undoflips.specs.Outcome.{undoing}
@@ -46,8 +47,8 @@ module _ (t log : List ℕ) (g : AnyStage t) where
     pub charted : Charted t' last prev
     charted = stage_charted {n = g.corners} (stage g.corners g.table) w.chains
 
-    pub done_all : count flip_log log ≤ done → UndoneOn t log (Done done) t'
-    done_all h = record { followed = λ n s. record { state = rows t'; reached = upto_all (undoing n t log) (w.upto n s) (omega (arith, many_items, h)); left = chained_flat w.chains } }
+    pub done_all : done ≡ count flip_log log → UndoneOn t log (Ok (count flip_log log)) t'
+    done_all h = rw (sym h) (record { followed = λ n s. record { state = rows t'; reached = upto_all (undoing n t log) (w.upto n s) (omega (arith, many_items, h)); left = chained_flat w.chains } })
 
     module _ (more : done < count flip_log log) where
       -- the record before those done
@@ -57,7 +58,7 @@ module _ (t log : List ℕ) (g : AnyStage t) where
       more_items : done < length (reverse (items flip_log log))
       more_items = omega (arith, many_items, more)
 
-      pub next_fails : (t'' : List ℕ) → Undoes t' next false t'' → UndoneOn t log (Stopped UndoFails done) t''
+      pub next_fails : (t'' : List ℕ) → Undoes t' next false t'' → UndoneOn t log (Err (Stopped UndoFails done)) t''
       unfolding Undoes
       next_fails t'' f = record {
         followed = λ n s. record {

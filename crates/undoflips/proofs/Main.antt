@@ -4,6 +4,7 @@ use mathlib.Core.List.{List}
 use Prim.Native.Nat.{ℕ}
 use native.Mathlib.Omega.{arith}
 use lib.ListN.{length-reverse}
+use Rattle.std.specs.Prelude.{Ok, Err, Result}
 use Rattle.follow.proofs.Leading.{leads_keep}
 use Rattle.follow.proofs.Following as following
 use Rattle.follow.proofs.Following.{Plain, outcome_one}
@@ -13,14 +14,13 @@ use Rattle.surface.specs.Stage.{Stage}
 use Rattle.surface.proofs.Flat.{rows_flat}
 use Rattle.flips.proofs.Flips as flips
 use Rattle.refusal.specs.declared.Refusal.{Refusal}
-use Rattle.refusal.specs.declared.Verdict.TheVariants.{Passes}
 use Rattle.refusal.specs.First.{First}
 use Rattle.refusal.proofs.Laws.{verdicts, first_one, refused_one, refused_passes, rest_decides, passed, none_yet, ◌nor◌}
 use Rattle.faults.proofs.Order.{after_2, stage_passes}
 use Rattle.laid.specs.Laid.{count, items}
 use Rattle.laid.proofs.Laws.{first_length}
-use Rattle.flipped.specs.declared.Flipped.{Flipped}
-use Rattle.flipped.specs.declared.Flipped.TheVariants.{Refused}
+use Rattle.flipped.specs.declared.FlipHalt.{FlipHalt}
+use Rattle.flipped.specs.declared.FlipHalt.TheVariants.{Refused}
 use Rattle.flipped.specs.Answer.{told, FlipsTold}
 use Rattle.flipped.proofs.Telling.{flipped_apart, did}
 use Rattle.fliplog.specs.Layout.{flip_log}
@@ -41,25 +41,25 @@ undoing_plain n t log = record {
 }
 
 -- no second outcome satisfies the same words
-pub undid_one : {n : ℕ} {t log : List ℕ} {a b : Flipped} {t₁ t₂ : List ℕ} → UndoneAs n t log a t₁ → UndoneAs n t log b t₂ → (a ≡ b) × (t₁ ≡ t₂)
+pub undid_one : {n : ℕ} {t log : List ℕ} {a b : Result ℕ FlipHalt} {t₁ t₂ : List ℕ} → UndoneAs n t log a t₁ → UndoneAs n t log b t₂ → (a ≡ b) × (t₁ ≡ t₂)
 undid_one {n} {t} {log} v w = outcome_one (undoing n t log) (undoing_plain n t log) v.outcome w.outcome
 
 -- what is refused before any record is unchanged
-pub refused_same : {n : ℕ} {t log : List ℕ} {r : Refusal} {t' : List ℕ} → UndoneAs n t log (Refused r) t' → t' ≡ t
+pub refused_same : {n : ℕ} {t log : List ℕ} {r : Refusal} {t' : List ℕ} → UndoneAs n t log (Err (Refused r)) t' → t' ≡ t
 refused_same {n} {t} {log} w = following.refused_same (undoing n t log) flipped_apart w.outcome
 
 -- a stage within its counts passes
-pub undo_passes : (n : ℕ) (t log : List ℕ) → UndoFits n t log → Stage n (rows t) → First (undo_refusals n t log) Passes
+pub undo_passes : (n : ℕ) (t log : List ℕ) → UndoFits n t log → Stage n (rows t) → First (undo_refusals n t log) (Ok tt)
 undo_passes n t log fits s = unfold undo_refusals in
-    rest_decides verdicts ((λ k. k fits) nor none_yet) _ (after_2 n t Passes fits.counts (stage_passes t fits.counts.table.threes n s))
+    rest_decides verdicts ((λ k. k fits) nor none_yet) _ (after_2 n t (Ok tt) fits.counts (stage_passes t fits.counts.table.threes n s))
 
 -- what passes is whole rows
-passed_table : (n : ℕ) (t log : List ℕ) → First (undo_refusals n t log) Passes → flat (rows t) ≡ t
+passed_table : (n : ℕ) (t log : List ℕ) → First (undo_refusals n t log) (Ok tt) → flat (rows t) ≡ t
 unfolding undo_refusals
 passed_table n t log f = whole_table n t (λ m. (passed verdicts _ _ f).0 (λ k. m k.counts))
 
 -- k records told: the last k are undone
-pub undone_left : {n : ℕ} {t log : List ℕ} {a : Flipped} {t' : List ℕ} → UndoneAs n t log a t' → {k : ℕ} → FlipsTold k (told a) → UndoneLeft n t log k t'
+pub undone_left : {n : ℕ} {t log : List ℕ} {a : Result ℕ FlipHalt} {t' : List ℕ} → UndoneAs n t log a t' → {k : ℕ} → FlipsTold k (told a) → UndoneLeft n t log k t'
 undone_left {n} {t} {log} {a} {t'} w {k} d =
     let o = outcome_upto (undoing n t log) flipped_apart (did a d) w.outcome in
     let s : StageKept n (rows t) o.1 = leads_keep (StageKept n (rows t)) (λ T T' i m u. kept_on m (undo_keeps u)) (kept_none o.0.1) o.2.led in

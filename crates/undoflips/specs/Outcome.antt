@@ -1,5 +1,5 @@
 -- Undoing a flip log in 02's words: the refusals in their order, or the records undone, the last first, and what that leaves.
-use Rattle.std.specs.Prelude.{◌≡◌, false, List, ◌∷◌, reverse, ℕ}
+use Rattle.std.specs.Prelude.{◌≡◌, false, List, ◌∷◌, reverse, ℕ, Ok, Err, Result}
 use Rattle.follow.specs.Follow.{Call, Outcome}
 use Rattle.surface.specs.Rows.{Row, rows, flat}
 use Rattle.surface.specs.Stage.{Stage}
@@ -7,14 +7,13 @@ use Rattle.flips.specs.Flip.{Flip}
 use Rattle.flips.specs.Undo.{Undone}
 use Rattle.refusal.specs.declared.Refusal.{Refusal}
 use Rattle.refusal.specs.declared.Refusal.TheVariants.{CountsOutside}
-use Rattle.refusal.specs.declared.Verdict.TheVariants as verdict
 use Rattle.refusal.specs.First.{Refusals, ◌when◌, First}
 use Rattle.faults.specs.Counts.{CountsFit}
 use Rattle.faults.specs.Order.{row_refusals}
 use Rattle.laid.specs.Laid.{items, WholeItems}
 use Rattle.flipped.specs.declared.FlipRefusal.{FlipRefusal}
 use Rattle.flipped.specs.declared.FlipRefusal.TheVariants.{UndoFails}
-use Rattle.flipped.specs.declared.Flipped.{Flipped}
+use Rattle.flipped.specs.declared.FlipHalt.{FlipHalt}
 use Rattle.flipped.specs.Answer.{flipped}
 use Rattle.fliplog.specs.Layout.{flip_log}
 
@@ -32,11 +31,11 @@ abbrev pub NotUndone : ℕ → List Row → Flip → FlipRefusal → Type 0
 NotUndone n T k r = ((T₀ : List Row) → ¬ Undone n T k T₀) × (r ≡ UndoFails)
 
 -- undoing a flip log on the table t over n corners
-abbrev pub undoing : ℕ → List ℕ → List ℕ → Call (List Row) Flip FlipRefusal Refusal Flipped (List ℕ)
+abbrev pub undoing : ℕ → List ℕ → List ℕ → Call (List Row) Flip FlipRefusal Refusal (Result ℕ FlipHalt) (List ℕ)
 undoing n t log = record {
   -- the first that holds; where none does, the table is a stage
-  Given = λ e. First (undo_refusals n t log) (verdict.Refused e);
-  Else = First (undo_refusals n t log) verdict.Passes × Stage n (rows t);
+  Given = λ e. First (undo_refusals n t log) (Err e);
+  Else = First (undo_refusals n t log) (Ok tt) × Stage n (rows t);
   -- "last record first"
   items = reverse (items flip_log log);
   start = rows t;
@@ -49,5 +48,5 @@ undoing n t log = record {
 }
 
 -- the answer a to undoing, and what then stands in the table
-pub record UndoneAs (n : ℕ) (t log : List ℕ) (a : Flipped) (t' : List ℕ) : Type 0 where
+pub record UndoneAs (n : ℕ) (t log : List ℕ) (a : Result ℕ FlipHalt) (t' : List ℕ) : Type 0 where
   pub outcome : Outcome (undoing n t log) a t'

@@ -1,10 +1,13 @@
 -- The local rule from the two rows that stand at a record's places.
 use mathlib.Core.Path.{◌≡◌, refl, sym, ◌∙◌, ap}
-use mathlib.Core.Bool.{true, false}
+use mathlib.Core.Bool.{Bool, true, false}
 use mathlib.Core.List.{List}
-use Prim.Native.Nat.{ℕ, ◌≤◌, ◌<◌}
+use Prim.Native.Nat.{ℕ, ◌%◌, ◌≤◌, ◌<◌}
 use native.Mathlib.Omega.{arith}
 use lib.ListN.{length}
+use Rattle.std.specs.Prelude.{Option, Some, None, is_some, not}
+use Rattle.refusal.specs.InnerTells.{Tells}
+use Rattle.refusal.proofs.Tells.{tells_true, tells_false}
 use Rattle.surface.specs.Rows.{Row, row, rows, Turned, turn_0, turn_1, turn_2}
 use Rattle.surface.specs.Table.{Follows, Edge}
 use Rattle.surface.proofs.Once.{turn}
@@ -16,9 +19,9 @@ use Rattle.record.specs.declared.Corner.{Corner}
 use Rattle.record.specs.declared.Leaving.{Leaving}
 use Rattle.slots.specs.Slot.{Whole, Under}
 use Rattle.slots.proofs.Slots.{follows_at}
-use Rattle.ends.specs.declared.Ends.TheVariants.{At, Nothing}
 use Rattle.ends.specs.Rows.{row_of, PairIs}
-use Rattle.chart.specs.Chart.{Numbered}
+use Rattle.chart.specs.Chart.{SlotIs, Numbered}
+use Rattle.chart.proofs.Looking.{none_found, found_edge}
 use Rattle.fliplog.specs.declared.FlipRecord.{FlipRecord}
 use Rattle.fliplog.specs.InnerMeant.{meant}
 use Rattle.flip.specs.Inner.{RowAt}
@@ -34,11 +37,11 @@ turned_one {r} {a} {b} {c} {d} t u = go (third t u)
     go (third_2 i j l) = cc
 
 -- what a pair of third corners says, and that there is none
-pub paired : {a b : ℕ} {r z : Row} {x y : Corner} → PairIs a b r z (At x y) → Turned r a b x.0 × Turned z b a y.0
+pub paired : {a b : ℕ} {r z : Row} {x y : Corner} → PairIs a b r z (Some (x, y)) → Turned r a b x.0 × Turned z b a y.0
 unfolding PairIs
 paired p = p
 
-pub unpaired : {a b : ℕ} {r z : Row} → PairIs a b r z Nothing → (x y : ℕ) → Turned r a b x → Turned z b a y → ⊥
+pub unpaired : {a b : ℕ} {r z : Row} → PairIs a b r z None → (x y : ℕ) → Turned r a b x → Turned z b a y → ⊥
 unfolding PairIs
 unpaired p = p
 
@@ -98,6 +101,13 @@ module _ (t : List ℕ) (r : FlipRecord) where
       stands_2 = rw (w.same_c, w.same_d) q.stands;
       no_edge = n;
     }
+
+    -- whether the edge is found tells the rule
+    pub rule_tells : length t % 3 ≡ 0 → Wrote upper lower r → (e : Option ℕ) → SlotIs t upper.b.0 lower.c.0 e → (none : Bool) → is_some e ≡ not none → Tells none (Undoable (rows t) (meant r)) (¬ Undoable (rows t) (meant r))
+    rule_tells three w None f true s = tells_true (rule_holds w (none_found t three _ _ f))
+    rule_tells three w None f false s = absurd (cc)
+    rule_tells three w (Some e) f true s = absurd (cc)
+    rule_tells three w (Some e) f false s = tells_false (λ u. rule_no_edge u (found_edge t three _ _ e f))
 
 -- the numbers of a row that is turned to numbers below n are below n
 turned_small : (r : Leaving) {a b c n : ℕ} → Turned (row_of r) a b c → a < n → b < n → c < n → Numbered r n

@@ -11,7 +11,6 @@ ghost use Rattle.chart.specs.Chart.{InChains};
 ghost use Rattle.fliplog.specs.InnerMeant.{meant};
 ghost use Rattle.unflip.specs.Inner.{Wrote, Undoes};
 
-use ends::Ends;
 use fliplog::FlipRecord;
 use record::{Corner, Leaving};
 
@@ -19,29 +18,13 @@ use record::{Corner, Leaving};
 fn wrote(upper: Leaving, lower: Leaving, r: FlipRecord) -> bool
     ensures { Tells result (Wrote upper lower r) (¬ Wrote upper lower r) }
 {
-    let first = r.first;
-    let second = r.second;
-    let a = upper.b;
-    let b = lower.c;
-    if upper.a.0 != lower.a.0 {
+    if upper.a.0 != lower.a.0 || upper.c.0 != lower.b.0 {
         return false;
     }
-    if upper.c.0 != lower.b.0 {
+    let Some((c, d)) = ends::pair_of(r.first, r.second, upper.b, lower.c) else {
         return false;
-    }
-    let e = ends::pair_of(first, second, a, b);
-    match e {
-        Ends::Nothing => false,
-        Ends::At(c, d) => {
-            if c.0 != upper.a.0 {
-                return false;
-            }
-            if d.0 != upper.c.0 {
-                return false;
-            }
-            true
-        }
-    }
+    };
+    c.0 == upper.a.0 && d.0 == upper.c.0
 }
 
 // Whether a record is undone.
@@ -52,10 +35,7 @@ fn undoable(t: &[u32], last: &[usize], prev: &[usize], r: FlipRecord) -> bool
 {
     let p = r.first.place.0 as usize;
     let q = r.second.place.0 as usize;
-    if t.len() / 3 <= p {
-        return false;
-    }
-    if t.len() / 3 <= q {
+    if t.len() / 3 <= p || t.len() / 3 <= q {
         return false;
     }
     let upper = flip::row_at(t, p);
@@ -65,10 +45,7 @@ fn undoable(t: &[u32], last: &[usize], prev: &[usize], r: FlipRecord) -> bool
     }
     let a = upper.b;
     let b = lower.c;
-    if chart::slot_of(t, last, prev, a, b) != 0 {
-        return false;
-    }
-    true
+    chart::slot_of(t, last, prev, a, b).is_none()
 }
 
 // Inner: undoes a record where it is undone, and tells whether it is.

@@ -38,7 +38,7 @@ unfolding waiters
 waiters_most bits zero = omega arith
 waiters_most bits (suc k) = let r = waiters_most bits k in let b = bit_most bits k in omega arith
 
-module _ {v : ℕ} {bits bits' tops' : List ℕ} (t : Released v bits bits' tops') where
+module _ {v : ℕ} {bits bits' : List ℕ} (t : Released v bits bits') where
   bit_kept : (k : ℕ) → k < most_corners → k ≢ v → bit bits' k ≡ bit bits k
   bit_kept k h d = go (ℕ_discrete (digit_of bits k) 1)
     where

@@ -1,32 +1,13 @@
--- Whole parts and rests over ℤ: what a carry, a borrow and a bound come to, and that every sum has one whole part and one rest.
+-- Whole parts and rests over ℤ: what a bound comes to, and that every sum has one whole part and one rest.
 use mathlib.Core.Path.{◌≡◌, sym, ◌∙◌, ap}
 use Prim.Native.Nat.{ℕ, suc, ◌+◌, ◌-◌, ◌*◌, ◌/◌, ◌%◌, ◌≤◌, ◌<◌}
 use native.Mathlib.Omega.{arith}
-use lib.IntN.{ℤ, pos, negsuc, neg_ℤ, ◌+ℤ◌, ◌-ℤ◌, ◌*ℤ◌, nat_abs, pos-ne-negsuc, +ℤ_comm, +ℤ_assoc, -ℤ-+ℤ_cancel}
-use Rattle.ints.proofs.Ints.{abs_neg, plus_parts, minus_parts, minus_back, times_plus, times_minus, pos_minus}
+use lib.IntN.{ℤ, pos, negsuc, neg_ℤ, ◌+ℤ◌, ◌-ℤ◌, ◌*ℤ◌, nat_abs, pos-ne-negsuc, +ℤ_comm}
+use Rattle.ints.proofs.Ints.{abs_neg, minus_back, pos_minus}
 use Rattle.wide.specs.declared.Wide.{Wide}
 use Rattle.wide.specs.Rounding.{divisor}
 use Rattle.wide.specs.Wide.{value, Exact}
 use Rattle.wide.specs.Inner.{most_whole, most_wide, Fits}
-
--- ---- a whole more is as much as the divisor in the rest
-
-pub carried : (w x : ℤ) → pos divisor *ℤ (w +ℤ pos 1) +ℤ x ≡ pos divisor *ℤ w +ℤ (x +ℤ pos divisor)
-carried w x =
-    ap (λ (t : ℤ). t +ℤ x) (times_plus (pos divisor) w (pos 1))
-    ∙ +ℤ_assoc (pos divisor *ℤ w) (pos divisor) x
-    ∙ ap (λ (t : ℤ). pos divisor *ℤ w +ℤ t) (+ℤ_comm (pos divisor) x)
-
-pub borrowed : (w x : ℤ) → pos divisor *ℤ (w -ℤ pos 1) +ℤ (x +ℤ pos divisor) ≡ pos divisor *ℤ w +ℤ x
-borrowed w x = sym (carried (w -ℤ pos 1) x) ∙ ap (λ (t : ℤ). pos divisor *ℤ t +ℤ x) (-ℤ-+ℤ_cancel w (pos 1))
-
--- ---- sums and differences, part by part
-
-pub added : (w v x y : ℤ) → pos divisor *ℤ (w +ℤ v) +ℤ (x +ℤ y) ≡ (pos divisor *ℤ w +ℤ x) +ℤ (pos divisor *ℤ v +ℤ y)
-added w v x y = ap (λ (t : ℤ). t +ℤ (x +ℤ y)) (times_plus (pos divisor) w v) ∙ plus_parts (pos divisor *ℤ w) (pos divisor *ℤ v) x y
-
-pub lessened : (w v x y : ℤ) → pos divisor *ℤ (w -ℤ v) +ℤ (x -ℤ y) ≡ (pos divisor *ℤ w +ℤ x) -ℤ (pos divisor *ℤ v +ℤ y)
-lessened w v x y = ap (λ (t : ℤ). t +ℤ (x -ℤ y)) (times_minus (pos divisor) w v) ∙ sym (minus_parts (pos divisor *ℤ w) x (pos divisor *ℤ v) y)
 
 -- ---- below zero the rest takes away from the size
 

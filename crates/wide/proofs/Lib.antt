@@ -1,6 +1,5 @@
 pub mod Rounded
 pub mod Laws
-pub mod Division
 pub mod Parts
 pub mod Ways
 pub mod Examples

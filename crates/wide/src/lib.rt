@@ -22,23 +22,13 @@ pub struct Wide {
     pub rest: u64,
 }
 
-// Inner: a sum as whole part and rest, any sum at all. The remainder has the sum's sign, so below zero one is borrowed.
+// Inner: a sum as whole part and rest, any sum at all: the rest is never below zero, whatever the sum's sign.
 pub fn enter(s: i64) -> Wide
     ensures { Exact s result }
 {
-    let q = s / DIVISOR;
-    let r = s % DIVISOR;
-    if r < 0 {
-        let whole = q - 1;
-        let rest = r + DIVISOR;
-        return Wide {
-            whole,
-            rest: rest as u64,
-        };
-    }
     Wide {
-        whole: q,
-        rest: r as u64,
+        whole: s.div_euclid(DIVISOR),
+        rest: s.rem_euclid(DIVISOR) as u64,
     }
 }
 

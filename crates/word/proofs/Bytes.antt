@@ -1,6 +1,10 @@
 -- Numbers and their bytes: reading a word, writing one, and reading what was written.
-use Rattle.std.proofs.Common.{◌≡◌, ℕ, zero, suc, ◌+◌, ◌-◌, ◌*◌, ◌/◌, ◌%◌, ◌^◌, ◌<◌, ◌≤◌, List, [], ◌∷◌, ◌++◌, length, get_or, take, drop, set, refl, ap, ◌∙◌, append_assoc, pow-suc, arith, length-drop, length-take-le, drop-cons, drop-drop, take_at, take-add, drop_at}
-use lib.Seq.{sets, sets-eq}
+use Rattle.std.proofs.Common.{◌≡◌, ℕ, zero, suc, ◌+◌, ◌*◌, ◌/◌, ◌^◌, ◌<◌, ◌≤◌, List, [], ◌∷◌, ◌++◌, length, get_or, take, drop, refl, sym, ap, ◌∙◌, append_assoc, pow-suc, arith, length-take-le, drop-cons, drop-drop, take_at, drop_at}
+use Rattle.std.specs.Int.{w64, from_le_bytes, to_le_bytes}
+use Rattle.std.proofs.lemmas.List.{take_all}
+use Rattle.std.proofs.lemmas.List.Edits.{sets, sets-eq}
+use Rattle.std.proofs.Math.Nat.{div-div-eq-div-mul}
+use borrow.Rule.Slice.PartMut.{put_mid}
 use Rattle.word.specs.Bytes.{of_bytes, bytes_of, bytes_at}
 
 -- ---- reading
@@ -16,47 +20,44 @@ one_more : (n : ℕ) (b : List ℕ) (i j : ℕ) → j ≡ suc i → i < length b
 unfolding of_bytes
 one_more n b i j e h = rw (e, drop-cons b i 0 h)
 
--- what `half_at` sums
-pub half : (b : List ℕ) (i : ℕ) → i + 4 ≤ length b
-    → bytes_at 4 b i ≡ get_or b i 0 + get_or b (i + 1) 0 * 256 + get_or b (i + 2) 0 * 65536 + get_or b (i + 3) 0 * 16777216
-half b i h =
-    let s = one_more 3 b i (i + 1) (omega arith) (omega arith) in
-    let t = one_more 2 b (i + 1) (i + 2) (omega arith) (omega arith) in
-    let u = one_more 1 b (i + 2) (i + 3) (omega arith) (omega arith) in
-    let v = one_more 0 b (i + 3) (i + 4) (omega arith) (omega arith) in
-    let none : bytes_at 0 b (i + 4) ≡ 0 = unfold of_bytes in refl in
+-- what the library reads of eight bytes
+pub read_eight : (l : List ℕ) → length l ≡ 8 → from_le_bytes w64 l ≡ of_bytes l
+unfolding of_bytes
+read_eight l e =
+    let s0 = one_more 7 l 0 1 refl (omega arith) in
+    let s1 = one_more 6 l 1 2 refl (omega arith) in
+    let s2 = one_more 5 l 2 3 refl (omega arith) in
+    let s3 = one_more 4 l 3 4 refl (omega arith) in
+    let s4 = one_more 3 l 4 5 refl (omega arith) in
+    let s5 = one_more 2 l 5 6 refl (omega arith) in
+    let s6 = one_more 1 l 6 7 refl (omega arith) in
+    let s7 = one_more 0 l 7 8 refl (omega arith) in
+    let none : bytes_at 0 l 8 ≡ 0 = refl in
+    let all : take 8 l ≡ l = take_all 8 l (omega arith) in
+    let whole = ap of_bytes all in
     omega arith
 
--- what `word_at` sums
-pub halves : (b : List ℕ) (i : ℕ) → i + 8 ≤ length b → bytes_at 8 b i ≡ bytes_at 4 b i + bytes_at 4 b (i + 4) * 4294967296
-halves b i h =
-    let low = take 4 (drop i b) in
-    let n : length low ≡ 4 = length-take-le 4 (drop i b) (omega (arith, length-drop i b)) in
-    let e = ap of_bytes (take-add 4 4 (drop i b)) ∙ of_bytes_append low (take 4 (drop 4 (drop i b))) in
-    e ∙ rw (n, drop-drop 4 i b) (omega arith)
-
 -- ---- writing
-
--- one byte more is written: what is left of the word has one byte less
-pub turn : (b : List ℕ) (i k left : ℕ) → k < 8
-    → sets (set b (i + k) (left % 256)) (i + (k + 1)) (bytes_of (8 - (k + 1)) (left / 256)) ≡ sets b (i + k) (bytes_of (8 - k) left)
-unfolding bytes_of
-turn b i k left h =
-    let e : 8 - k ≡ suc (8 - (k + 1)) = omega arith in
-    let f : i + (k + 1) ≡ suc (i + k) = omega arith in
-    rw (e, f)
-
--- nothing is left to write
-pub ended : (b : List ℕ) (at k left : ℕ) → 8 ≤ k → sets b at (bytes_of (8 - k) left) ≡ b
-unfolding bytes_of
-ended b at k left h = let e : 8 - k ≡ 0 = omega arith in rw e
-
--- ---- reading what was written
 
 pub length_bytes : (n w : ℕ) → length (bytes_of n w) ≡ n
 unfolding bytes_of
 length_bytes zero w = refl
 length_bytes (suc n) w = ap suc (length_bytes n (w / 256))
+
+-- what the library writes of a word
+pub write_eight : (w : ℕ) → to_le_bytes w64 w ≡ bytes_of 8 w
+unfolding bytes_of
+write_eight w = simp div-div-eq-div-mul
+
+-- the word's bytes in the place of as many
+pub put_eight : (b : List ℕ) (i w : ℕ) {k : ℕ} → k ≡ 8 → i + 8 ≤ length b → put_mid i k b (to_le_bytes w64 w) ≡ sets b i (bytes_of 8 w)
+put_eight b i w {k} e h =
+    let l = bytes_of 8 w in
+    let n = length_bytes 8 w in
+    let behind : drop (i + length l) b ≡ drop 8 (drop i b) = rw n (sym (drop-drop 8 i b)) in
+    ap (put_mid i k b) (write_eight w) ∙ rw e (sym (sets-eq l b i (omega arith) ∙ ap (λ m. take i b ++ l ++ m) behind ∙ append_assoc (take i b) l (drop 8 (drop i b))))
+
+-- ---- reading what was written
 
 -- the number of a number's bytes is the number, where they are enough
 pub of_bytes_of : (n w : ℕ) → w < 256 ^ n → of_bytes (bytes_of n w) ≡ w

@@ -1,7 +1,5 @@
 -- Signed numbers as words: two's complement.
-use Rattle.std.specs.Prelude.{◌≡◌, ℕ, suc, ◌-◌, ◌^◌, ℤ, pos, negsuc, neg_ℤ, ◌≤ℤ◌, ◌<ℤ◌}
-use Rattle.word.specs.declared.Signed.{Signed}
-use Rattle.word.specs.declared.Signed.TheVariants as signed
+use Rattle.std.specs.Prelude.{◌≡◌, ℕ, suc, ◌-◌, ◌^◌, ℤ, pos, negsuc, neg_ℤ, ◌≤ℤ◌, ◌<ℤ◌, Option, Some, None}
 
 -- the word of a signed number of 64 bits: the number itself where it is not below zero, else 2 ^ 64 less its size
 unfoldable pub twos : ℤ → ℕ
@@ -15,6 +13,6 @@ pub record Narrow (w : ℕ) (x : ℤ) : Type 0 where
   pub most : x <ℤ pos (2 ^ 31)
 
 -- the signed number of 32 bits whose word it is; or it is none's
-unfoldable pub ReadNarrow : ℕ → Signed → Type 0
-ReadNarrow w (signed.Is x) = Narrow w x
-ReadNarrow w signed.Nothing = (x : ℤ) → ¬ Narrow w x
+unfoldable pub ReadNarrow : ℕ → Option ℤ → Type 0
+ReadNarrow w (Some x) = Narrow w x
+ReadNarrow w None = (x : ℤ) → ¬ Narrow w x

@@ -1,17 +1,17 @@
 -- One thing written after another: what is left to write, so that every writer's loop has one invariant.
 use mathlib.Core.Path.{◌≡◌, refl, sym, ◌∙◌, ap, subst}
 use mathlib.Core.List.{List, [], ◌∷◌, ◌++◌, map}
-use Prim.Native.Nat.{ℕ, zero, suc, ◌+◌, ◌-◌, ◌*◌, ◌≤◌, ◌<◌}
+use Prim.Native.Nat.{ℕ, suc, ◌+◌, ◌-◌, ◌*◌, ◌≤◌, ◌<◌}
 use native.Mathlib.Omega.{arith}
 use native.Mathlib.Numerals.{add-one}
 use native.Mathlib.Nat.{mul-le-mul, le_refl}
-use lib.IntN.{ℤ, pos}
-use lib.ListN.{length, length-append, take, drop, get_or, set, length-drop}
+use lib.IntN.{ℤ}
+use lib.ListN.{length, length-append, take, drop, get_or, set, drop_of_length-le}
 use lib.Seq.{sets, length-sets, drop-cons, drop-drop}
 use Rattle.text.specs.Decimal.{signed}
 use Rattle.text.specs.InnerReading.{Written}
 use Rattle.text.proofs.Spell.{write_after}
-use Rattle.lines.specs.Lines.{tab, newline, fields, line, lines, plain}
+use Rattle.lines.specs.Lines.{tab, newline, fields, line, lines}
 use Rattle.lines.proofs.Cut.{map_take, map_drop}
 use Rattle.lines.proofs.Turns.{sets_append}
 
@@ -48,42 +48,26 @@ module _ {l₀ : List ℕ} {k₀ : ℕ} {w₀ l : List ℕ} {k : ℕ} where
   pub onward_front : (w v : List ℕ) → Onward l₀ k₀ w₀ l k (w ++ v) → k₀ + length w₀ ≤ length l₀ → k + length w ≤ length l
   onward_front w v o h = let a = onward_fits (w ++ v) o h in omega (arith, length-append w v)
 
--- ---- bytes
+-- ---- fields, of numbers that stand in a line as up says
 
-stored : (l : List ℕ) (k b : ℕ) → Written l k (b ∷ []) (k + 1) (set l k b)
-stored l k b = record { place = refl; text = refl }
+module _ {A : Type 0} (up : A → ℤ) (xs : List A) (i : ℕ) (x : A) (h : i < length xs) (e : x ≡ get_or xs i x) where
+  one_field : fields (map up (drop i xs)) ≡ (tab ∷ signed (up x)) ++ fields (map up (drop (i + 1) xs))
+  one_field = rw (add-one, drop-cons xs i x h, ← e)
 
-module _ {l₀ : List ℕ} {k₀ : ℕ} {l : List ℕ} {k : ℕ} (w : List ℕ) (i : ℕ) (h : i < length w) (o : Onward l₀ k₀ w l k (drop i w)) where
-  pub byte_fits : k₀ + length w ≤ length l₀ → k < length l
-  byte_fits f = let a = onward_fits (drop i w) o f in omega (arith, length-drop i w)
+  pub field_length : length (fields (map up (drop i xs))) ≡ 1 + length (signed (up x)) + length (fields (map up (drop (i + 1) xs)))
+  field_length = let e = ap length one_field in omega (arith, length-append (tab ∷ signed (up x)) (fields (map up (drop (i + 1) xs))))
 
-  pub byte_written : Onward l₀ k₀ w (set l k (get_or w i 0)) (k + 1) (drop (i + 1) w)
-  byte_written = onward (drop i w) (get_or w i 0 ∷ []) (drop (i + 1) w) (rw (add-one, drop-cons w i 0 h)) o (stored l k (get_or w i 0))
+  module _ {l₀ : List ℕ} {k₀ : ℕ} {l : List ℕ} {k : ℕ} (o : Onward l₀ k₀ (fields (map up xs)) l k (fields (map up (drop i xs)))) where
+    pub field_fits : k₀ + length (fields (map up xs)) ≤ length l₀ → k + 1 + length (signed (up x)) ≤ length l
+    field_fits f = let a = onward_fits (fields (map up (drop i xs))) o f in omega (arith, field_length)
+
+    pub field_written : {r : ℕ} {l₁ : List ℕ} → Written (set l k tab) (k + 1) (signed (up x)) r l₁ → Onward l₀ k₀ (fields (map up xs)) l₁ r (fields (map up (drop (i + 1) xs)))
+    field_written {r} {l₁} p =
+        onward (fields (map up (drop i xs))) (tab ∷ signed (up x)) (fields (map up (drop (i + 1) xs))) one_field o (write_after l l₁ k tab r (signed (up x)) p)
 
 -- none are left at the end
-pub all_written : {A : Type 0} (w : List A) (i : ℕ) → length w ≤ i → drop i w ≡ []
-all_written [] zero h = refl
-all_written [] (suc i) h = refl
-all_written (x ∷ w) zero h = absurd (omega arith)
-all_written (x ∷ w) (suc i) h = all_written w i (omega arith)
-
--- ---- fields
-
-one_field : (zs : List ℤ) (i : ℕ) → i < length zs → fields (drop i zs) ≡ (tab ∷ signed (get_or zs i (pos 0))) ++ fields (drop (i + 1) zs)
-one_field zs i h = rw (add-one, drop-cons zs i (pos 0) h)
-
-pub field_length : (zs : List ℤ) (i : ℕ) → i < length zs → length (fields (drop i zs)) ≡ 1 + length (signed (get_or zs i (pos 0))) + length (fields (drop (i + 1) zs))
-field_length zs i h =
-    let e = ap length (one_field zs i h) in
-    omega (arith, length-append (tab ∷ signed (get_or zs i (pos 0))) (fields (drop (i + 1) zs)))
-
-module _ {l₀ : List ℕ} {k₀ : ℕ} {l : List ℕ} {k : ℕ} (zs : List ℤ) (i : ℕ) (h : i < length zs) (o : Onward l₀ k₀ (fields zs) l k (fields (drop i zs))) where
-  pub field_fits : k₀ + length (fields zs) ≤ length l₀ → k + 1 + length (signed (get_or zs i (pos 0))) ≤ length l
-  field_fits f = let a = onward_fits (fields (drop i zs)) o f in omega (arith, field_length zs i h)
-
-  pub field_written : {r : ℕ} {l₁ : List ℕ} → Written (set l k tab) (k + 1) (signed (get_or zs i (pos 0))) r l₁ → Onward l₀ k₀ (fields zs) l₁ r (fields (drop (i + 1) zs))
-  field_written {r} {l₁} p =
-      onward (fields (drop i zs)) (tab ∷ signed (get_or zs i (pos 0))) (fields (drop (i + 1) zs)) (one_field zs i h) o (write_after l l₁ k tab r (signed (get_or zs i (pos 0))) p)
+pub none_left : {A : Type 0} (up : A → ℤ) (xs : List A) (i : ℕ) → length xs ≤ i → fields (map up (drop i xs)) ≡ []
+none_left up xs i h = rw (drop_of_length-le xs h)
 
 -- ---- a line
 
@@ -108,41 +92,41 @@ module _ (w : List ℕ) (zs : List ℤ) (l : List ℕ) (at : ℕ) (f : at + leng
       pub line_written : {r₃ : ℕ} {l₃ : List ℕ} → Written l₂ r₂ (newline ∷ []) r₃ l₃ → Written l at (line w zs) r₃ l₃
       line_written t = onward_end (onward (newline ∷ []) (newline ∷ []) [] refl after_numbers t)
 
--- ---- lines of plain numbers
+-- ---- lines
 
 -- i lines are written, with the numbers before from
-pub record Lining (l₀ : List ℕ) (at : ℕ) (w ns : List ℕ) (width count : ℕ) (l : List ℕ) (k from i : ℕ) : Type 0 where
-  pub within : i ≤ count
-  pub passed : from ≡ i * width
-  pub left : Onward l₀ at (plain w width count ns) l k (plain w width (count - i) (drop from ns))
+pub record Lining {A : Type 0} (up : A → ℤ) (l₀ : List ℕ) (at : ℕ) (w : List ℕ) (ns : List A) (width count : ℕ) (l : List ℕ) (k i : ℕ) : Type 0 where
+  pub left : Onward l₀ at (lines w width count (map up ns)) l k (lines w width (count - i) (map up (drop (i * width) ns)))
 
-pub lining_start : (l₀ : List ℕ) (at : ℕ) (w ns : List ℕ) (width count : ℕ) → Lining l₀ at w ns width count l₀ at 0 0
-lining_start l₀ at w ns width count =
+pub lining_start : {A : Type 0} (up : A → ℤ) (l₀ : List ℕ) (at : ℕ) (w : List ℕ) (ns : List A) (width count : ℕ) → Lining up l₀ at w ns width count l₀ at 0
+lining_start up l₀ at w ns width count =
     let e : count ≡ count - 0 = omega arith in
-    record { within = omega arith; passed = omega arith; left = subst (λ (n : ℕ). Onward l₀ at (plain w width count ns) l₀ at (plain w width n ns)) e (onward_start l₀ at (plain w width count ns)) }
+    let f : 0 ≡ 0 * width = omega arith in
+    record { left = subst (λ (n : ℕ). Onward l₀ at (lines w width count (map up ns)) l₀ at (lines w width n (map up (drop (0 * width) ns)))) e (subst (λ (n : ℕ). Onward l₀ at (lines w width count (map up ns)) l₀ at (lines w width count (map up (drop n ns)))) f (onward_start l₀ at (lines w width count (map up ns)))) }
 
-module _ {l₀ : List ℕ} {at : ℕ} {w ns : List ℕ} {width count : ℕ} {l : List ℕ} {k from i : ℕ} (o : Lining l₀ at w ns width count l k from i) where
+module _ {A : Type 0} {up : A → ℤ} {l₀ : List ℕ} {at : ℕ} {w : List ℕ} {ns : List A} {width count : ℕ} {l : List ℕ} {k i : ℕ} (o : Lining up l₀ at w ns width count l k i) where
   module _ (h : i < count) where
-    one_line : plain w width (count - i) (drop from ns) ≡ line w (map pos (take width (drop from ns))) ++ plain w width (count - (i + 1)) (drop (from + width) ns)
+    -- its numbers
+    abbrev these : List A
+    these = take width (drop (i * width) ns)
+
+    one_line : lines w width (count - i) (map up (drop (i * width) ns)) ≡ line w (map up these) ++ lines w width (count - (i + 1)) (map up (drop ((i + 1) * width) ns))
     one_line =
         let e : count - i ≡ suc (count - (i + 1)) = omega arith in
-        let f = sym (map_take pos width (drop from ns)) in
-        let g = sym (map_drop pos width (drop from ns)) ∙ ap (map pos) (drop-drop width from ns) in
-        (λ j. plain w width (e j) (drop from ns)) ∙ (λ j. line w (f j) ++ lines w width (count - (i + 1)) (g j))
+        let d : i * width + width ≡ (i + 1) * width = omega arith in
+        let f = sym (map_take up width (drop (i * width) ns)) in
+        let g = sym (map_drop up width (drop (i * width) ns)) ∙ ap (map up) (drop-drop width (i * width) ns ∙ ap (λ (n : ℕ). drop n ns) d) in
+        (λ j. lines w width (e j) (map up (drop (i * width) ns))) ∙ (λ j. line w (f j) ++ lines w width (count - (i + 1)) (g j))
 
-    -- its numbers are there
-    pub numbers_there : count * width ≤ length ns → from + width ≤ length ns
-    numbers_there f = let p = o.passed in let a : i + 1 ≤ count = omega arith in let m : (i + 1) * width ≤ count * width = mul-le-mul a (le_refl width) in omega arith
+    -- they are there
+    pub numbers_there : count * width ≤ length ns → i * width + width ≤ length ns
+    numbers_there f = let a : i + 1 ≤ count = omega arith in let m : (i + 1) * width ≤ count * width = mul-le-mul a (le_refl width) in omega arith
 
-    pub line_fits : at + length (plain w width count ns) ≤ length l₀ → k + length (line w (map pos (take width (drop from ns)))) ≤ length l
-    line_fits f = onward_front (line w (map pos (take width (drop from ns)))) (plain w width (count - (i + 1)) (drop (from + width) ns)) (subst (Onward _ _ _ _ _) one_line o.left) f
+    pub line_fits : at + length (lines w width count (map up ns)) ≤ length l₀ → k + length (line w (map up these)) ≤ length l
+    line_fits f = onward_front (line w (map up these)) (lines w width (count - (i + 1)) (map up (drop ((i + 1) * width) ns))) (subst (Onward _ _ _ _ _) one_line o.left) f
 
-    pub lining_more : {r : ℕ} {l₁ : List ℕ} → Written l k (line w (map pos (take width (drop from ns)))) r l₁ → Lining l₀ at w ns width count l₁ r (from + width) (i + 1)
-    lining_more p = let q = o.passed in record {
-      within = omega arith;
-      passed = omega arith;
-      left = onward _ (line w (map pos (take width (drop from ns)))) _ one_line o.left p;
-    }
+    pub lining_more : {r : ℕ} {l₁ : List ℕ} → Written l k (line w (map up these)) r l₁ → Lining up l₀ at w ns width count l₁ r (i + 1)
+    lining_more p = record { left = onward _ (line w (map up these)) _ one_line o.left p }
 
-  pub lining_end : count ≤ i → Written l₀ at (plain w width count ns) k l
-  lining_end h = let e : count - i ≡ 0 = omega arith in onward_end (subst (λ (n : ℕ). Onward l₀ at (plain w width count ns) l k (plain w width n (drop from ns))) e o.left)
+  pub lining_end : count ≤ i → Written l₀ at (lines w width count (map up ns)) k l
+  lining_end h = let e : count - i ≡ 0 = omega arith in onward_end (subst (λ (n : ℕ). Onward l₀ at (lines w width count (map up ns)) l k (lines w width n (map up (drop (i * width) ns)))) e o.left)

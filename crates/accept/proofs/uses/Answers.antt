@@ -1,34 +1,18 @@
 -- `uses` meets its contract.
 use borrow.Author.Count.{below_more}
-use Rattle.refusal.proofs.Tells.{tells_true, tells_false}
+use Rattle.refusal.proofs.Tells.{tells_true}
 use Rattle.accept.proofs.Holding.{held_used, not_held}
 use native.Mathlib.Omega.{arith}
-use Rattle.accept.proofs.uses.Goals.{then-t-e, else-t-e}
+use Rattle.accept.proofs.uses.Goals.{then-x-v, else-x-v}
 use Rattle.accept.proofs.uses.Goals as goal
 
-pub loop-e-init : goal.loop-e-init
-loop-e-init c = (omega arith, tells_false (λ k h. absurd (omega arith)))
-
-pub loop-e-preserved : goal.loop-e-preserved
-loop-e-preserved c =
-    let loop = c.loop-e in
-    let loop-test = c.loop-e-test in
-    let args = c.args in
-    let pre = c.requires in
-    let if1 = c.if-t-e in
-    let told = loop.invariant.1 in
-    let h = loop-test.true in
-    elim if1.branch [
-      | then-t-e w ↦ rw w.found-is (omega arith, tells_true (held_used args.t.now pre args.v.0 loop.e h w.if-t-e.true))
-      | else-t-e w ↦ rw w.found-is (omega arith, record { when_true = told.when_true; when_false = λ z. below_more _ loop.e (told.when_false z) w.if-t-e.false })
+pub loop-x-preserved : goal.loop-x-preserved
+loop-x-preserved c =
+    elim c.if-x-v.branch [
+      | then-x-v w ↦ rw w.found-is (tells_true (held_used c.args.t.now c.requires c.args.v.0 c.loop-x.x-index (omega arith) w.if-x-v.true))
+      | else-x-v w ↦ rw w.found-is (record { when_true = c.loop-x.invariant.when_true; when_false = λ z. below_more _ _ (c.loop-x.invariant.when_false z) w.if-x-v.false })
     ]
 
 pub returns : goal.returns
 returns c =
-    let loop = c.loop-e in
-    let loop-test = c.loop-e-test in
-    let args = c.args in
-    let pre = c.requires in
-    let told = loop.invariant.1 in
-    let past = loop-test.false in
-    record { when_true = told.when_true; when_false = λ z. not_held args.t.now pre args.v.0 (λ k h. told.when_false z k (omega arith)) }
+    record { when_true = c.loop-x.invariant.when_true; when_false = λ z. not_held c.args.t.now c.requires c.args.v.0 (λ k h. c.loop-x.invariant.when_false z k (omega arith)) }

@@ -12,4 +12,4 @@ pub returns-in-End : goal.returns-in-End
 returns-in-End c = (said told_next c.in-End.is (record { status = refl; values = refl }), refl)
 
 pub returns-in-Bad : goal.returns-in-Bad
-returns-in-Bad c = (said told_next c.in-Bad.is (record { status = c.number_of.ensures; values = refl }), refl)
+returns-in-Bad c = (said told_next c.in-Bad.is (record { status = c.from.ensures; values = refl }), refl)

@@ -1,11 +1,12 @@
--- By the answer.
-use mathlib.Core.Path.{refl}
+-- By the answer (`said_crossed`).
+use Rattle.std.proofs.Common.{refl}
 use Rattle.sheet.specs.Answer.{told}
-use Rattle.across.proofs.Saying.{said}
+use Rattle.across.specs.Fields.{of_counts}
+use Rattle.across.proofs.Saying.{said_crossed}
 use Rattle.across.proofs.counts_of.Goals as goal
 
-pub returns-in-Read : goal.returns-in-Read
-returns-in-Read c = said told c.in-Read.is (record { status = refl; values = refl })
-
-pub returns-in-Refused : goal.returns-in-Refused
-returns-in-Refused c = said told c.in-Refused.is (record { status = c.number_of.ensures; values = refl })
+pub returns : goal.returns
+returns c =
+    let crossed = c.crossed-status.ensures in
+    said_crossed told (λ s v. of_counts (record { status = s; corners = v.0; rows = v.1 })) c.args.a crossed.done crossed.refused
+    (λ v. record { status = refl; values = refl }) (λ e n h. record { status = h; values = refl })

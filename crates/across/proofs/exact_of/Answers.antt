@@ -1,18 +1,14 @@
--- By the answer.
-use mathlib.Core.Path.{refl, ap}
-use mathlib.Core.List.{[], ◌∷◌}
-use lib.IntN.{pos}
-use mir.Syntax.{w64}
+-- By the answer (`said_crossed`).
+use Rattle.std.proofs.Common.{refl, rules, w64}
 use mir.ValLaws.{to_z-of_z}
 use Rattle.volume.specs.Answer.{told_exact}
-use Rattle.across.proofs.Saying.{said}
+use Rattle.across.specs.Fields.{of_exact}
+use Rattle.across.proofs.Saying.{said_crossed}
 use Rattle.across.proofs.exact_of.Goals as goal
 
-pub returns-in-Sum : goal.returns-in-Sum
-returns-in-Sum c =
-    let w = c.in-Sum.w in
-    let f = to_z-of_z w64 w.whole (record { sfits = c.struct_told-1.given.0.1 }) in
-    said told_exact c.in-Sum.is (record { status = refl; values = ap (λ z. z ∷ pos w.rest ∷ []) f })
-
-pub returns-in-Refused : goal.returns-in-Refused
-returns-in-Refused c = said told_exact c.in-Refused.is (record { status = c.number_of.ensures; values = refl })
+pub returns : goal.returns
+returns c =
+    let crossed = c.crossed-status.ensures in
+    let same = to_z-of_z w64 c.crossed-status.result.1.whole (search rules) in
+    rw same (said_crossed told_exact (λ s v. of_exact (record { status = s; whole = v.whole; rest = v.rest })) c.args.a crossed.done crossed.refused
+    (λ v. record { status = refl; values = refl }) (λ e n h. record { status = h; values = refl }))

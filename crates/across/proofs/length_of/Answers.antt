@@ -1,26 +1,25 @@
 -- By the unit.
-use mathlib.Core.Path.{refl}
-use borrow.Author.Tests.{eq-eqb, ne_eqb}
-use lib.Ieee.{div, of_bits}
+use Rattle.std.proofs.Common.{refl, rules}
+use lib.Ieee.{of_bits}
 use Rattle.across.specs.Units.{length_of_lem}
 use Rattle.across.proofs.length_of.Goals as goal
 
-pub returns-then-unit-eq1 : goal.returns-then-unit-eq1
+pub returns-in-1 : goal.returns-in-1
 unfolding length_of_lem
-returns-then-unit-eq1 c = rw (eq-eqb _ _ c.if-unit-eq1.true) refl
+returns-in-1 c = rw c.in-1.is refl
 
-pub returns-then-unit-eq2 : goal.returns-then-unit-eq2
+pub returns-in-2 : goal.returns-in-2
 unfolding length_of_lem
-returns-then-unit-eq2 c = rw (ne_eqb _ _ c.if-unit-eq1.false, eq-eqb _ _ c.if-unit-eq2.true) refl
+returns-in-2 c = rw c.in-2.is refl
 
-pub returns-then-unit-eq3 : goal.returns-then-unit-eq3
+pub returns-in-3 : goal.returns-in-3
 unfolding length_of_lem
-returns-then-unit-eq3 c = rw (ne_eqb _ _ c.if-unit-eq1.false, ne_eqb _ _ c.if-unit-eq2.false, eq-eqb _ _ c.if-unit-eq3.true) refl
+returns-in-3 c = rw c.in-3.is refl
 
-pub returns-then-unit-eq4 : goal.returns-then-unit-eq4
+pub returns-in-4 : goal.returns-in-4
 unfolding length_of_lem
-returns-then-unit-eq4 c = rw (ne_eqb _ _ c.if-unit-eq1.false, ne_eqb _ _ c.if-unit-eq2.false, ne_eqb _ _ c.if-unit-eq3.false, eq-eqb _ _ c.if-unit-eq4.true) refl
+returns-in-4 c = rw c.in-4.is refl
 
-pub returns : goal.returns
-unfolding div length_of_lem of_bits
-returns c = rw (ne_eqb _ _ c.if-unit-eq1.false, ne_eqb _ _ c.if-unit-eq2.false, ne_eqb _ _ c.if-unit-eq3.false, ne_eqb _ _ c.if-unit-eq4.false) refl
+pub returns-in_default : goal.returns-in_default
+unfolding length_of_lem of_bits
+returns-in_default c = search rules

@@ -1,11 +1,12 @@
--- By the answer.
-use mathlib.Core.Path.{refl}
+-- By the answer (`said_crossed`).
+use Rattle.std.proofs.Common.{refl}
 use Rattle.logrecords.specs.Answer.{told_opened}
-use Rattle.across.proofs.Saying.{said}
+use Rattle.across.specs.Fields.{of_log_opened}
+use Rattle.across.proofs.Saying.{said_crossed}
 use Rattle.across.proofs.log_opened_of.Goals as goal
 
-pub returns-in-At : goal.returns-in-At
-returns-in-At c = said told_opened c.in-At.is (record { status = refl; values = refl })
-
-pub returns-in-Refused : goal.returns-in-Refused
-returns-in-Refused c = said told_opened c.in-Refused.is (record { status = c.number_of.ensures; values = refl })
+pub returns : goal.returns
+returns c =
+    let crossed = c.crossed-status.ensures in
+    said_crossed told_opened (λ s v. of_log_opened (record { status = s; corners = v.corners; rows = v.rows; place = v.after.at })) c.args.a crossed.done crossed.refused
+    (λ v. record { status = refl; values = refl }) (λ e n h. record { status = h; values = refl })

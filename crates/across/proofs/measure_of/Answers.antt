@@ -1,17 +1,14 @@
--- By the answer.
-use mathlib.Core.Path.{refl, ap}
-use mathlib.Core.List.{[], ◌∷◌}
-use mir.Syntax.{w64}
+-- By the answer (`said_crossed`).
+use Rattle.std.proofs.Common.{refl, rules, w64}
 use mir.ValLaws.{to_z-of_z}
 use Rattle.volume.specs.Answer.{told}
-use Rattle.across.proofs.Saying.{said}
-use borrow.Author.Rules.{rules}
+use Rattle.across.specs.Fields.{of_measure}
+use Rattle.across.proofs.Saying.{said_crossed}
 use Rattle.across.proofs.measure_of.Goals as goal
 
-pub returns-in-Figure : goal.returns-in-Figure
-returns-in-Figure c =
-    let f = to_z-of_z w64 c.in-Figure.f (search rules) in
-    said told c.in-Figure.is (record { status = refl; values = ap (λ z. z ∷ []) f })
-
-pub returns-in-Refused : goal.returns-in-Refused
-returns-in-Refused c = said told c.in-Refused.is (record { status = c.number_of.ensures; values = refl })
+pub returns : goal.returns
+returns c =
+    let crossed = c.crossed-status.ensures in
+    let same = to_z-of_z w64 c.crossed-status.result.1 (search rules) in
+    rw same (said_crossed told (λ s v. of_measure (record { status = s; figure = v })) c.args.a crossed.done crossed.refused
+    (λ v. record { status = refl; values = refl }) (λ e n h. record { status = h; values = refl }))

@@ -2,8 +2,8 @@
 use mathlib.Core.Path.{refl}
 use Rattle.across.proofs.stored_of.Goals as goal
 
-pub returns-in-Number : goal.returns-in-Number
-returns-in-Number c = rw c.in-Number.is (refl, refl)
+pub returns-in-Some : goal.returns-in-Some
+returns-in-Some c = rw c.in-Some.is (refl, refl)
 
-pub returns-in-Nothing : goal.returns-in-Nothing
-returns-in-Nothing c = rw c.in-Nothing.is (refl, refl)
+pub returns-in-None : goal.returns-in-None
+returns-in-None c = rw c.in-None.is (refl, refl)

@@ -1,9 +1,11 @@
 -- `answer` meets its contract: the text is never short.
-use Rattle.desk.proofs.Front.{stands_there, never_short}
+use mathlib.Core.Path.{refl}
+use Rattle.reply.proofs.Main.{reply_suffices}
+use Rattle.desk.proofs.Front.{stands_there}
 use Rattle.desk.proofs.answer.Goals as goal
 
-pub returns-in-Written : goal.returns-in-Written
-returns-in-Written c = stands_there c.requires c.reply-a.ensures c.in-Written.is
+pub unwrap-requires : goal.unwrap-requires
+unwrap-requires c = rw (reply_suffices c.requires c.reply.ensures).0 refl
 
-pub returns-in-Refused : goal.returns-in-Refused
-returns-in-Refused c = never_short c.requires c.reply-a.ensures c.in-Refused.is
+pub returns : goal.returns
+returns c = stands_there c.requires c.reply.ensures c.unwrap.ensures

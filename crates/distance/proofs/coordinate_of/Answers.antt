@@ -5,8 +5,5 @@ use Rattle.ints.proofs.Machine.{known, tells, fits, kept}
 use Rattle.distance.proofs.Ranges.{element}
 use Rattle.distance.proofs.coordinate_of.Goals as goal
 
-pub overflow_cast-result : goal.overflow_cast-result
-overflow_cast-result c = fits w64 (known (element c.args.xs.now c.requires.2 c.args.v c.args.j)).is (omega arith)
-
 pub returns : goal.returns
 returns c = tells (kept w64 (known (element c.args.xs.now c.requires.2 c.args.v c.args.j)).is (omega arith))

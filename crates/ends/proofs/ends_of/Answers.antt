@@ -4,17 +4,10 @@ use Rattle.ends.specs.Rows.{PairIs, EndsAre}
 use Rattle.ends.proofs.Pairs.{other_way}
 use Rattle.ends.proofs.ends_of.Goals as goal
 
-pub returns-in-At : goal.returns-in-At
+pub returns-in-Some : goal.returns-in-Some
 unfolding PairIs EndsAre
-returns-in-At c =
-    let enum_told = c.in-At in
-    let pair_of = c.pair_of-e in
-    rw enum_told.is (let p = rw enum_told.is at pair_of.ensures in in_order p.0 p.1)
+returns-in-Some c = rw c.in-Some.is (in_order c.in-Some.ensures.0 c.in-Some.ensures.1)
 
-pub returns-in-Nothing : goal.returns-in-Nothing
+pub returns-in-None : goal.returns-in-None
 unfolding PairIs
-returns-in-Nothing c =
-    let pair-of2 = c.pair_of in
-    let enum-told2 = c.in-Nothing in
-    let pair_of = c.pair_of-e in
-    other_way pair-of2.result (rw enum-told2.is at pair_of.ensures) pair-of2.ensures
+returns-in-None c = other_way c.pair_of.result c.in-None.ensures c.pair_of.ensures

@@ -1,10 +1,6 @@
-use Prim.Native.Nat.{◌-◌}
-use lib.ListN.{length}
+use Prim.Native.Nat.{◌*◌}
 use Rattle.figure.proofs.Turn.{Summing}
 use Rattle.figure.proofs.sixfold_sum.Given as goal
 
-abbrev pub invariant-loop-i : goal.invariant-loop-i
-invariant-loop-i l = Summing l.t l.xs l.s l.i
-
-abbrev pub decreases-loop-i : goal.decreases-loop-i
-decreases-loop-i l = length l.t - l.i
+abbrev pub invariant-loop-a : goal.invariant-loop-a
+invariant-loop-a l = Summing l.t l.xs l.s (3 * l.a-index)

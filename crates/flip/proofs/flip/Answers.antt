@@ -1,132 +1,56 @@
 -- `flip` meets its contract.
-use Prim.Native.Nat.{◌<◌}
-use mathlib.Core.Path.{refl}
-use Rattle.flip.proofs.Flipping.{stage_chains, edge_missing, reverse_found, edge_blocked, flip_logs, slot_inside, place_inside, found_as, first_small, third_small, new_fits}
-use native.Mathlib.Omega.{arith}
+use mathlib.Core.Path.{refl, sym}
+use Rattle.flip.proofs.Flipping.{stage_chains, edge_missing, reverse_found, edge_blocked, flip_logs, place_inside, found_as, first_small, third_small}
 use Rattle.flip.proofs.flip.Goals as goal
 
-pub slot_of-x-requires : goal.slot_of-x-requires
-slot_of-x-requires c =
-    let pre = c.requires in
-    stage_chains pre.charted pre.most_corners_in_bounds
-
-pub returns-then-x-eq0 : goal.returns-then-x-eq0
-returns-then-x-eq0 c =
-    let pre = c.requires in
-    let slot_of = c.slot_of-x in
-    let if1 = c.if-x-eq0 in
-    record { tries = edge_missing pre.charted slot_of.ensures if1.true; in_chains = stage_chains pre.charted pre.most_corners_in_bounds }
-
-pub slot_of-y-requires : goal.slot_of-y-requires
-slot_of-y-requires c =
-    let pre = c.requires in
-    stage_chains pre.charted pre.most_corners_in_bounds
-
-pub third_of-c-requires : goal.third_of-c-requires
-third_of-c-requires c =
-    let args = c.args in
-    let pre = c.requires in
-    let slot_of = c.slot_of-x in
-    let if1 = c.if-x-eq0 in
-    record { whole = (stage_chains pre.charted pre.most_corners_in_bounds).whole; e_in_bounds = slot_inside args.t.now (stage_chains pre.charted pre.most_corners_in_bounds).whole slot_of.ensures (omega (arith, if1.false)) }
-
-pub overflow_sub-y : goal.overflow_sub-y
-overflow_sub-y c =
-    let pre = c.requires in
-    let slot_of = c.slot_of-x in
-    let if1 = c.if-x-eq0 in
-    let slot-of2 = c.slot_of-y in
-    let h = reverse_found pre.charted slot_of.ensures (omega (arith, if1.false)) slot-of2.ensures in omega (arith, h)
-
-pub third_of-d-requires : goal.third_of-d-requires
-third_of-d-requires c =
-    let args = c.args in
-    let pre = c.requires in
-    let slot_of = c.slot_of-x in
-    let if1 = c.if-x-eq0 in
-    let slot-of2 = c.slot_of-y in
-    record { whole = (stage_chains pre.charted pre.most_corners_in_bounds).whole; e_in_bounds = slot_inside args.t.now (stage_chains pre.charted pre.most_corners_in_bounds).whole slot-of2.ensures (reverse_found pre.charted slot_of.ensures (omega (arith, if1.false)) slot-of2.ensures) }
-
 pub slot_of-requires : goal.slot_of-requires
-slot_of-requires c =
-    let pre = c.requires in
-    stage_chains pre.charted pre.most_corners_in_bounds
+slot_of-requires c = stage_chains c.requires.charted c.requires.most_corners_in_bounds
 
-pub returns-then-slot_of-ne0 : goal.returns-then-slot_of-ne0
-returns-then-slot_of-ne0 c =
-    let pre = c.requires in
-    let slot_of = c.slot_of-x in
-    let if1 = c.if-x-eq0 in
-    let slot-of2 = c.slot_of-y in
-    let third_of = c.third_of-c in
-    let third-of2 = c.third_of-d in
-    let slot-of3 = c.slot_of in
-    let if2 = c.if-slot_of-ne0 in
-    record { tries = edge_blocked pre.charted slot_of.ensures (omega (arith, if1.false)) slot-of2.ensures (found_as third_of.ensures third-of2.ensures slot-of3.ensures) (omega (arith, if2.true)); in_chains = stage_chains pre.charted pre.most_corners_in_bounds }
+pub returns-in_default-clause-tries : goal.returns-in_default-clause-tries
+returns-in_default-clause-tries c = edge_missing c.requires.charted c.in_default.ensures
 
-pub row_at-first-requires : goal.row_at-first-requires
-row_at-first-requires c =
-    let args = c.args in
-    let pre = c.requires in
-    let slot_of = c.slot_of-x in
-    let if1 = c.if-x-eq0 in
-    record { whole = (stage_chains pre.charted pre.most_corners_in_bounds).whole; p_in_bounds = place_inside args.t.now (stage_chains pre.charted pre.most_corners_in_bounds).whole slot_of.ensures (omega (arith, if1.false)) }
+pub returns-in_default-clause-in_chains : goal.returns-in_default-clause-in_chains
+returns-in_default-clause-in_chains c = stage_chains c.requires.charted c.requires.most_corners_in_bounds
 
-pub overflow_sub-y-2 : goal.overflow_sub-y-2
-overflow_sub-y-2 c =
-    let pre = c.requires in
-    let slot_of = c.slot_of-x in
-    let if1 = c.if-x-eq0 in
-    let slot-of2 = c.slot_of-y in
-    let h = reverse_found pre.charted slot_of.ensures (omega (arith, if1.false)) slot-of2.ensures in omega (arith, h)
+pub slot_of-requires-2 : goal.slot_of-requires-2
+slot_of-requires-2 c = stage_chains c.requires.charted c.requires.most_corners_in_bounds
 
-pub row_at-second-requires : goal.row_at-second-requires
-row_at-second-requires c =
-    let args = c.args in
-    let pre = c.requires in
-    let slot_of = c.slot_of-x in
-    let if1 = c.if-x-eq0 in
-    let slot-of2 = c.slot_of-y in
-    record { whole = (stage_chains pre.charted pre.most_corners_in_bounds).whole; p_in_bounds = place_inside args.t.now (stage_chains pre.charted pre.most_corners_in_bounds).whole slot-of2.ensures (reverse_found pre.charted slot_of.ensures (omega (arith, if1.false)) slot-of2.ensures) }
+pub unwrap-y-requires : goal.unwrap-y-requires
+unwrap-y-requires c = reverse_found c.requires.charted c.in-Some.ensures c.slot_of-2.result c.slot_of-2.ensures
 
-pub put_rows-requires : goal.put_rows-requires
-put_rows-requires c =
-    let args = c.args in
-    let pre = c.requires in
-    let slot_of = c.slot_of-x in
-    let if1 = c.if-x-eq0 in
-    let slot-of2 = c.slot_of-y in
-    let third_of = c.third_of-c in
-    let third-of2 = c.third_of-d in
-    let row_at = c.row_at-first in
-    let row-at2 = c.row_at-second in
-    let new_rows_lem = c.new_rows-new in
-    let t = args.t.now in
-    let k = stage_chains pre.charted pre.most_corners_in_bounds in
-    let some : 0 < slot_of.result = omega (arith, if1.false) in
-    let more = reverse_found pre.charted slot_of.ensures some slot-of2.ensures in
-    let q = new_fits _ _ _ (record { first = row_at.result; second = row-at2.result }) args.a args.b third_of.result third-of2.result new_rows_lem.ensures
-    (rw row_at.ensures.place (place_inside t k.whole slot_of.ensures some))
-    (rw row-at2.ensures.place (place_inside t k.whole slot-of2.ensures more))
-    (first_small t k.whole slot_of.ensures some k.under)
-    (first_small t k.whole slot-of2.ensures more k.under)
-    (rw third_of.ensures (third_small t k.whole slot_of.ensures some k.under))
-    (rw third-of2.ensures (third_small t k.whole slot-of2.ensures more k.under)) in
-    record { in_chains = k; place_in_bounds = q.0; place_in_bounds_2 = q.1 }
+pub slot_of-requires-3 : goal.slot_of-requires-3
+slot_of-requires-3 c = stage_chains c.requires.charted c.requires.most_corners_in_bounds
 
-pub returns : goal.returns
-returns c =
-    let pre = c.requires in
-    let slot_of = c.slot_of-x in
-    let if1 = c.if-x-eq0 in
-    let slot-of2 = c.slot_of-y in
-    let third_of = c.third_of-c in
-    let third-of2 = c.third_of-d in
-    let slot-of3 = c.slot_of in
-    let if2 = c.if-slot_of-ne0 in
-    let row_at = c.row_at-first in
-    let row-at2 = c.row_at-second in
-    let new_rows_lem = c.new_rows-new in
-    let put_rows_lem = c.put_rows in
-    let some : 0 < slot_of.result = omega (arith, if1.false) in
-    record { tries = flip_logs pre.charted slot_of.ensures some slot-of2.ensures (found_as third_of.ensures third-of2.ensures slot-of3.ensures) row_at.result row-at2.result row_at.ensures row-at2.ensures _ refl refl third_of.ensures third-of2.ensures if2.false (rw new_rows_lem.ensures at put_rows_lem.ensures.t_after); in_chains = put_rows_lem.ensures.in_chains_2 }
+pub returns-then-is_some-clause-tries : goal.returns-then-is_some-clause-tries
+returns-then-is_some-clause-tries c =
+    let g = rw c.unwrap-y.ensures at c.slot_of-2.ensures in
+    edge_blocked c.requires.charted c.in-Some.ensures g c.slot_of-3.result (found_as c.args.t.now _ c.third_of-c.ensures c.third_of-d.ensures c.slot_of-3.ensures) (sym c.if-is_some.ensures)
+
+pub returns-then-is_some-clause-in_chains : goal.returns-then-is_some-clause-in_chains
+returns-then-is_some-clause-in_chains c = stage_chains c.requires.charted c.requires.most_corners_in_bounds
+
+pub put_rows-requires-clause-in_chains : goal.put_rows-requires-clause-in_chains
+put_rows-requires-clause-in_chains c = stage_chains c.requires.charted c.requires.most_corners_in_bounds
+
+pub put_rows-requires-clause-place_in_bounds : goal.put_rows-requires-clause-place_in_bounds
+put_rows-requires-clause-place_in_bounds c =
+    let t = c.args.t.now in
+    let k = stage_chains c.requires.charted c.requires.most_corners_in_bounds in
+    let f = c.in-Some.ensures in
+    let g = rw c.unwrap-y.ensures at c.slot_of-2.ensures in
+    rw c.new_rows.ensures (rw c.row_at.ensures.place (place_inside t k.whole f), record { a = rw c.third_of-c.ensures (third_small t k.whole f k.under); b = first_small t k.whole f k.under; c = rw c.third_of-d.ensures (third_small t k.whole g k.under) })
+
+pub put_rows-requires-clause-place_in_bounds_2 : goal.put_rows-requires-clause-place_in_bounds_2
+put_rows-requires-clause-place_in_bounds_2 c =
+    let t = c.args.t.now in
+    let k = stage_chains c.requires.charted c.requires.most_corners_in_bounds in
+    let f = c.in-Some.ensures in
+    let g = rw c.unwrap-y.ensures at c.slot_of-2.ensures in
+    rw c.new_rows.ensures (rw c.row_at-2.ensures.place (place_inside t k.whole g), record { a = rw c.third_of-c.ensures (third_small t k.whole f k.under); b = rw c.third_of-d.ensures (third_small t k.whole g k.under); c = first_small t k.whole g k.under })
+
+pub returns-clause-tries : goal.returns-clause-tries
+returns-clause-tries c =
+    let g = rw c.unwrap-y.ensures at c.slot_of-2.ensures in
+    flip_logs c.requires.charted c.in-Some.ensures g c.row_at.result c.row_at-2.result c.row_at.ensures c.row_at-2.ensures
+    c.slot_of-3.result (found_as c.args.t.now _ c.third_of-c.ensures c.third_of-d.ensures c.slot_of-3.ensures) (sym c.if-is_some.ensures)
+    _ refl refl c.third_of-c.ensures c.third_of-d.ensures (rw c.new_rows.ensures at c.put_rows.ensures.t_after)

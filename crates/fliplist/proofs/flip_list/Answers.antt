@@ -1,27 +1,16 @@
 -- `flip_list` meets its contract.
 use mathlib.Core.Path.{refl}
+use Rattle.std.proofs.lemmas.Result.{err_from_is_err_and}
 use Rattle.follow.specs.Follow.{refused, followed}
 use Rattle.fliplist.proofs.flip_list.Goals as goal
 
-pub flip_edges-requires : goal.flip_edges-requires
-flip_edges-requires c =
-    let args = c.args in
-    let fits = c.ranges in
-    let judge = c.judge-v in
-    let enum_told = c.in-Passes in
-    record { corners = args.corners; table = judge.ensures.table enum_told.is; fits = judge.ensures.room enum_told.is }
+pub returns-in_err-judge : goal.returns-in_err-judge
+returns-in_err-judge c =
+    let p = err_from_is_err_and c.from_residual.result c.from_residual.ensures.1 in
+    rw (p.1, p.2) (record { outcome = refused c.in_err-judge.ensures.holds refl refl })
 
-pub returns-in-Refused : goal.returns-in-Refused
-returns-in-Refused c =
-    let judge = c.judge-v in
-    let v = c.in-Refused in
-    record { outcome = refused (rw v.is at judge.ensures.holds) refl refl }
-
-pub returns-in-Passes : goal.returns-in-Passes
-returns-in-Passes c =
-    let args = c.args in
-    let judge = c.judge-v in
-    let enum_told = c.in-Passes in
-    let flip-edges = c.flip_edges in
-    let f = flip-edges.ensures.followed args.corners in
-    record { outcome = followed (rw enum_told.is at judge.ensures.holds, (judge.ensures.table enum_told.is).stage) f.reached f.left }
+pub returns : goal.returns
+returns c =
+    let f = c.flip_edges.ensures.followed c.args.corners in
+    let judged = c.in_ok-judge.ensures in
+    record { outcome = followed (judged.holds, (judged.table refl).stage) f.reached f.left }

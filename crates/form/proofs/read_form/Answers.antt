@@ -15,47 +15,33 @@ unfolding ReadForm ReadFirst
 returns-in_default c =
     let args = c.args in
     let if1 = c.if-bytes-gt-MOST_BYTES in
-    let first_line_lem = c.first_line-first in
-    no_first_line args.bytes.now if1.false (rw c.in_default.is at first_line_lem.ensures)
+    no_first_line args.bytes.now if1.false c.in_default.ensures
 
 pub returns-then-not-counts_in : goal.returns-then-not-counts_in
 unfolding ReadForm ReadFirst
 returns-then-not-counts_in c =
-    let first = c.in-Read in
-    let first_line_lem = c.first_line-first in
     let if1 = c.if-bytes-gt-MOST_BYTES in
-    let line = rw first.is at first_line_lem.ensures in
+    let line = c.in-Some.ensures in
     refuse_counts _ if1.false _ _ _ line (c.counts_in.ensures.when_false c.if-not-counts_in.true)
-
-pub read_body-requires : goal.read_body-requires
-read_body-requires c =
-    let counts_in_lem = c.counts_in in
-    let if2 = c.if-not-counts_in in
-    let pre = c.requires in
-    (counts_in_lem.ensures.when_true if2.false, pre)
 
 pub returns-then-not-read_body : goal.returns-then-not-read_body
 unfolding ReadForm ReadFirst
 returns-then-not-read_body c =
-    let first = c.in-Read in
-    let first_line_lem = c.first_line-first in
     let counts_in_lem = c.counts_in in
     let if2 = c.if-not-counts_in in
     let if1 = c.if-bytes-gt-MOST_BYTES in
     let read-body = c.read_body in
-    let line = rw first.is at first_line_lem.ensures in
+    let line = c.in-Some.ensures in
     let fit = counts_in_lem.ensures.when_true if2.false in
     refuse_lines _ if1.false _ _ _ line fit (read-body.ensures.when_false c.if-not-read_body.true)
 
 pub returns : goal.returns
 unfolding ReadForm ReadFirst
 returns c =
-    let first = c.in-Read in
-    let first_line_lem = c.first_line-first in
     let counts_in_lem = c.counts_in in
     let if2 = c.if-not-counts_in in
     let if1 = c.if-bytes-gt-MOST_BYTES in
     let read-body = c.read_body in
-    let line = rw first.is at first_line_lem.ensures in
+    let line = c.in-Some.ensures in
     let fit = counts_in_lem.ensures.when_true if2.false in
     form_read _ if1.false _ _ _ line fit _ _ (read-body.ensures.when_true c.if-not-read_body.false)

@@ -10,43 +10,28 @@ use Rattle.jobform.proofs.Parts.{no_word, no_letter, no_name, no_sum, no_end, wh
 use native.Mathlib.Omega.{arith}
 use Rattle.jobform.proofs.read_entry.Goals as goal
 
-pub returns-in_default : goal.returns-in_default
+pub returns-in_err-start : goal.returns-in_err-start
 unfolding Expected ReadEntry
-returns-in_default c = no_word (rw c.in_default.is at c.expect-word.ensures)
+returns-in_err-start c = rw c.from_residual.ensures (no_word c.in_err-start.ensures)
 
-pub returns-in_default-letter : goal.returns-in_default-letter
+pub returns-in_err-letter : goal.returns-in_err-letter
 unfolding Expected ReadLetter ReadEntry
-returns-in_default-letter c = no_letter (rw c.in-To.is at c.expect-word.ensures) (rw c.in_default-letter.is at c.read_letter-letter.ensures)
+returns-in_err-letter c = rw c.from_residual-in_err-letter.ensures (no_letter c.in_ok-start.ensures c.in_err-letter.ensures)
 
-pub returns-in_default-naming : goal.returns-in_default-naming
+pub returns-in_err-name : goal.returns-in_err-name
 unfolding Expected ReadLetter ReadName ReadEntry
-returns-in_default-naming c =
-    let word = rw c.in-To.is at c.expect-word.ensures in
-    let letter = rw c.in-Read.is at c.read_letter-letter.ensures in
-    no_name word letter (rw c.in_default-naming.is at c.read_name-naming.ensures)
+returns-in_err-name c = rw c.from_residual-in_err-name.ensures (no_name c.in_ok-start.ensures c.in_ok-letter.ensures c.in_err-name.ensures)
 
-pub returns-in_default-sum : goal.returns-in_default-sum
+pub returns-in_err-sum : goal.returns-in_err-sum
 unfolding Expected ReadLetter ReadName ReadField ReadEntry
-returns-in_default-sum c =
-    let word = rw c.in-To.is at c.expect-word.ensures in
-    let letter = rw c.in-Read.is at c.read_letter-letter.ensures in
-    let name = rw c.in-Read-naming.is at c.read_name-naming.ensures in
-    no_sum word letter name (rw c.in_default-sum.is at c.read_field-sum.ensures)
+returns-in_err-sum c = rw c.from_residual-in_err-sum.ensures (no_sum c.in_ok-start.ensures c.in_ok-letter.ensures c.in_ok-name.ensures c.in_err-sum.ensures)
 
-pub returns-in-To-end : goal.returns-in-To-end
+pub returns-in_err-next : goal.returns-in_err-next
 unfolding Expected ReadLetter ReadName ReadField ReadEntry
-returns-in-To-end c =
-    let word = rw c.in-To.is at c.expect-word.ensures in
-    let letter = rw c.in-Read.is at c.read_letter-letter.ensures in
-    let name = rw c.in-Read-naming.is at c.read_name-naming.ensures in
-    let sum = rw c.in-Read-sum.is at c.read_field-sum.ensures in
-    whole_line word letter name sum (sym (to_z-of_z w64 c.in-Read-sum.z (field_small (omega arith) sum))) (rw c.in-To-end.is at c.expect-end.ensures)
+returns-in_err-next c = rw c.from_residual-in_err-next.ensures (no_end c.in_ok-start.ensures c.in_ok-letter.ensures c.in_ok-name.ensures c.in_ok-sum.ensures c.in_err-next.ensures)
 
-pub returns-in-Bad : goal.returns-in-Bad
+pub returns : goal.returns
 unfolding Expected ReadLetter ReadName ReadField ReadEntry
-returns-in-Bad c =
-    let word = rw c.in-To.is at c.expect-word.ensures in
-    let letter = rw c.in-Read.is at c.read_letter-letter.ensures in
-    let name = rw c.in-Read-naming.is at c.read_name-naming.ensures in
-    let sum = rw c.in-Read-sum.is at c.read_field-sum.ensures in
-    no_end word letter name sum (rw c.in-Bad.is at c.expect-end.ensures)
+returns c =
+    let sum = c.in_ok-sum.ensures in
+    whole_line c.in_ok-start.ensures c.in_ok-letter.ensures c.in_ok-name.ensures sum (sym (to_z-of_z w64 c.in_ok-sum.sum (field_small (omega arith) sum))) c.in_ok-next.ensures

@@ -1,35 +1,35 @@
 -- `read_letter` meets its contract.
+use mathlib.Core.Path.{sym}
+use Rattle.std.proofs.lemmas.Bool.{ltb-true}
+use Rattle.std.proofs.lemmas.List.{get_or_read}
 use Rattle.text.specs.InnerReading.{Expected}
 use Rattle.jobform.specs.Inner.{ReadLetter}
 use Rattle.jobform.proofs.Reading.{untabbed_letter, letter_past, other_letter, letter_here}
 use native.Mathlib.Omega.{arith}
 use Rattle.jobform.proofs.read_letter.Goals as goal
 
-pub returns-in_default : goal.returns-in_default
+pub returns-in_err-start : goal.returns-in_err-start
 unfolding Expected ReadLetter
-returns-in_default c = untabbed_letter (rw c.in_default.is at c.expect-tab.ensures)
+returns-in_err-start c = rw c.from_residual.ensures (untabbed_letter c.in_err-start.ensures)
 
-pub returns-then-s-at : goal.returns-then-s-at
+pub returns-in_err-b : goal.returns-in_err-b
 unfolding Expected ReadLetter
-returns-then-s-at c = letter_past c.args.s.now c.in-To.c.at (rw c.in-To.is at c.expect-tab.ensures) c.if-s-at.true
+returns-in_err-b c = rw c.from_residual-in_err-b.ensures (letter_past c.args.s.now c.in_ok-start.start.at c.in_ok-start.ensures (omega (arith, c.in_err-b.ensures.lookup)))
 
-pub returns-then-b-lt65 : goal.returns-then-b-lt65
+pub returns-then-not-is_ascii_uppercase : goal.returns-then-not-is_ascii_uppercase
 unfolding Expected ReadLetter
-returns-then-b-lt65 c =
-    let args = c.args in
-    let tab = c.in-To in
-    other_letter args.s.now tab.c.at (rw tab.is at c.expect-tab.ensures) c.if-s-at.false (λ k. let h = k.least in let g = c.if-b-lt65.true in omega arith)
-
-pub returns-then-b-gt90 : goal.returns-then-b-gt90
-unfolding Expected ReadLetter
-returns-then-b-gt90 c =
-    let args = c.args in
-    let tab = c.in-To in
-    other_letter args.s.now tab.c.at (rw tab.is at c.expect-tab.ensures) c.if-s-at.false (λ k. let h = k.most in let g = c.if-b-gt90.true in omega arith)
+returns-then-not-is_ascii_uppercase c =
+    let there = c.in_ok-b.ensures.lookup in
+    let inside = ltb-true _ _ (sym there.0) in
+    let e = get_or_read c.args.s.now c.in_ok-start.start.at c.in_ok-b.field-0.now inside there.1 0 in
+    let h = c.if-not-is_ascii_uppercase.ensures.cases in
+    other_letter c.args.s.now c.in_ok-start.start.at c.in_ok-start.ensures inside (λ k. let p = k.least in let q = k.most in omega arith)
 
 pub returns : goal.returns
 unfolding Expected ReadLetter
 returns c =
-    let args = c.args in
-    let tab = c.in-To in
-    letter_here args.s.now tab.c.at (rw tab.is at c.expect-tab.ensures) c.if-s-at.false c.if-b-lt65.false c.if-b-gt90.false
+    let there = c.in_ok-b.ensures.lookup in
+    let inside = ltb-true _ _ (sym there.0) in
+    let e = get_or_read c.args.s.now c.in_ok-start.start.at c.in_ok-b.field-0.now inside there.1 0 in
+    let h = c.if-not-is_ascii_uppercase.ensures.cases in
+    rw e (letter_here c.args.s.now c.in_ok-start.start.at c.in_ok-start.ensures inside (omega arith) (omega arith))

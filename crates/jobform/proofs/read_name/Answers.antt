@@ -2,25 +2,21 @@
 use Rattle.text.specs.InnerReading.{ReadNumber, Expected}
 use Rattle.jobform.specs.Inner.{ReadName}
 use Rattle.jobform.proofs.Parts.{number_name}
-use Rattle.jobform.proofs.Reading.{untabbed_name, none_named, no_name_there, name_fits}
+use Rattle.jobform.proofs.Reading.{untabbed_name, none_named, no_name_there}
 use Rattle.jobform.proofs.read_name.Goals as goal
 
-pub returns-in_default : goal.returns-in_default
+pub returns-in_err-start : goal.returns-in_err-start
 unfolding Expected ReadName
-returns-in_default c = untabbed_name (rw c.in_default.is at c.expect-tab.ensures)
+returns-in_err-start c = rw c.from_residual.ensures (untabbed_name c.in_err-start.ensures)
 
-pub returns-in-To-none : goal.returns-in-To-none
+pub returns-in-Some : goal.returns-in-Some
 unfolding Expected ReadName
-returns-in-To-none c = none_named (rw c.in-To.is at c.expect-tab.ensures) (rw c.in-To-none.is at c.expect-none.ensures)
+returns-in-Some c = none_named c.in_ok-start.ensures c.in-Some.ensures
 
-pub overflow_cast-result : goal.overflow_cast-result
-unfolding ReadNumber
-overflow_cast-result c = name_fits (rw c.in-Read.is at c.read_number-number.ensures)
-
-pub returns-in-Read : goal.returns-in-Read
+pub returns-in_err-number : goal.returns-in_err-number
 unfolding Expected ReadNumber ReadName
-returns-in-Read c = number_name (rw c.in-To.is at c.expect-tab.ensures) (rw c.in-Read.is at c.read_number-number.ensures)
+returns-in_err-number c = rw c.from_residual-in_err-number.ensures (no_name_there c.in_ok-start.ensures c.in_default.ensures c.in_err-number.ensures)
 
-pub returns-in-Bad : goal.returns-in-Bad
+pub returns : goal.returns
 unfolding Expected ReadNumber ReadName
-returns-in-Bad c = no_name_there (rw c.in-To.is at c.expect-tab.ensures) (rw c.in_default-none.is at c.expect-none.ensures) (rw c.in-Bad.is at c.read_number-number.ensures)
+returns c = number_name c.in_ok-start.ensures c.in_ok-number.ensures

@@ -5,31 +5,20 @@ use Rattle.leaving.proofs.Leave.{some_next, passed_more}
 use native.Mathlib.Omega.{arith}
 use Rattle.leaving.proofs.next_leaving.Goals as goal
 
-pub loop-p-init : goal.loop-p-init
-loop-p-init c = (omega arith, c.requires.t_len_bound, c.requires.some_leaves, λ q h k. absurd (omega arith))
-
 pub loop-p-preserved : goal.loop-p-preserved
 loop-p-preserved c =
-    let args = c.args in
-    let loop = c.loop-p in
-    let row-leaves = c.row_leaves in
-    let i = loop.invariant in
-    let h = i.0 in
-    let k = not_leaves args.a args.b _ _ _ (sym (sym c.loop-p-test.true ∙ row-leaves.ensures)) in
-    (omega arith, i.1, some_next i.2 k, passed_more args.t.now i.3 k)
+    let i = c.loop-p.invariant in
+    let k = not_leaves c.args.a c.args.b _ _ _ (sym c.row_leaves.ensures ∙ c.loop-p-test.true) in
+    (omega (arith, i.0), some_next i.1 k, passed_more c.args.t.now i.2 k)
 
 pub returns : goal.returns
 returns c =
-    let args = c.args in
-    let loop = c.loop-p in
-    let row-leaves = c.row_leaves in
-    let if1 = c.loop-p-test in
-    let i = loop.invariant in
-    let w = i.2 in
+    let i = c.loop-p.invariant in
+    let w = i.1 in
     record {
       from = i.0;
       inside = omega arith;
       stands = refl;
-      leaves = leaves_not args.a args.b _ _ _ (sym (sym if1.false ∙ row-leaves.ensures));
-      passed = i.3;
+      leaves = leaves_not c.args.a c.args.b _ _ _ (sym c.row_leaves.ensures ∙ c.loop-p-test.false);
+      passed = i.2;
     }

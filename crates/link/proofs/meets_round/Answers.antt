@@ -1,6 +1,4 @@
 -- `meets_round` meets its contract.
-use mathlib.Core.Path.{sym}
-use lib.Seq.{length-take-le}
 use Rattle.refusal.proofs.Tells.{tells_false}
 use Rattle.link.proofs.Condition.{four_rows, two_common}
 use Rattle.neighbours.proofs.Marking.{neighbours_corners}
@@ -13,11 +11,6 @@ returns-then-t-le-FOUR_ROWS c =
     let args = c.args in
     let pre = c.requires in
     record { tells_edge = (λ a f. let h = if1.true in tells_false (four_rows args.t.now pre.charted.table (omega arith))); unmarked_2 = pre.unmarked }
-
-pub slice_bounds-common-end-2 : goal.slice_bounds-common-end-2
-slice_bounds-common-end-2 c =
-    let gather = c.gather-k in
-    sym (length-take-le _ _ gather.ensures.fits)
 
 pub common-requires : goal.common-requires
 common-requires c =

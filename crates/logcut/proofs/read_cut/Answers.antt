@@ -1,58 +1,27 @@
 -- `read_cut` meets its contract: the whole lines are read as a log sheet, and its counts are held against the skin's.
-use mathlib.Core.Path.{sym}
-use lib.Seq.{length-take-le}
+use Rattle.std.proofs.lemmas.Result.{err_from_is_err_and}
 use Rattle.logcut.specs.Inner.{ReadCut}
 use Rattle.logcut.proofs.Reading.{cut_long, cut_refused, cut_counts, cut_kept}
 use Rattle.logcut.proofs.read_cut.Goals as goal
 
 pub returns-then-bytes-gt-MOST_LOG_BYTES : goal.returns-then-bytes-gt-MOST_LOG_BYTES
 unfolding ReadCut
-returns-then-bytes-gt-MOST_LOG_BYTES c =
-    let args = c.args in
-    cut_long args.bytes.now args.n args.m c.if-bytes-gt-MOST_LOG_BYTES.true
+returns-then-bytes-gt-MOST_LOG_BYTES c = cut_long c.args.bytes.now c.args.n c.args.m c.if-bytes-gt-MOST_LOG_BYTES.true
 
-pub slice_bounds-read_log_sheet-end : goal.slice_bounds-read_log_sheet-end
-slice_bounds-read_log_sheet-end c =
-    let whole-end = c.whole_end-end in
-    sym (length-take-le whole-end.result _ whole-end.ensures.none_after.inside)
-
-pub returns-then-corners-n : goal.returns-then-corners-n
+pub returns-in_err-read : goal.returns-in_err-read
 unfolding ReadCut
-returns-then-corners-n c =
-    let if1 = c.if-bytes-gt-MOST_LOG_BYTES in
-    let whole-end = c.whole_end-end in
-    let pre = c.requires in
-    let read-log-sheet = c.read_log_sheet-read in
-    let read2 = c.in-Read in
-    cut_counts if1.false whole-end.ensures pre (rw read2.is at read-log-sheet.ensures) (λ e. c.if-corners-n.true e.0)
+returns-in_err-read c =
+    let p = err_from_is_err_and c.from_residual.result c.from_residual.ensures.1 in
+    rw (p.1, p.2) (cut_refused c.if-bytes-gt-MOST_LOG_BYTES.false c.whole_end-end.ensures c.requires c.in_err-read.ensures)
 
-pub returns-then-rows-m : goal.returns-then-rows-m
+pub returns-then-read-n : goal.returns-then-read-n
 unfolding ReadCut
-returns-then-rows-m c =
-    let if1 = c.if-bytes-gt-MOST_LOG_BYTES in
-    let whole-end = c.whole_end-end in
-    let pre = c.requires in
-    let read-log-sheet = c.read_log_sheet-read in
-    let read2 = c.in-Read in
-    cut_counts if1.false whole-end.ensures pre (rw read2.is at read-log-sheet.ensures) (λ e. c.if-rows-m.true e.1)
+returns-then-read-n c = cut_counts c.if-bytes-gt-MOST_LOG_BYTES.false c.whole_end-end.ensures c.requires c.in_ok-read.ensures (λ e. c.if-read-n.true e.0)
 
-pub returns-in-Refused : goal.returns-in-Refused
+pub returns-then-read-m : goal.returns-then-read-m
 unfolding ReadCut
-returns-in-Refused c =
-    let if1 = c.if-bytes-gt-MOST_LOG_BYTES in
-    let whole-end = c.whole_end-end in
-    let pre = c.requires in
-    let read-log-sheet = c.read_log_sheet-read in
-    let read = c.in-Refused in
-    cut_refused if1.false whole-end.ensures pre (rw read.is at read-log-sheet.ensures)
+returns-then-read-m c = cut_counts c.if-bytes-gt-MOST_LOG_BYTES.false c.whole_end-end.ensures c.requires c.in_ok-read.ensures (λ e. c.if-read-m.true e.1)
 
-pub returns-else-rows-m : goal.returns-else-rows-m
+pub returns : goal.returns
 unfolding ReadCut
-returns-else-rows-m c =
-    let if1 = c.if-bytes-gt-MOST_LOG_BYTES in
-    let if2 = c.if-corners-n in
-    let whole-end = c.whole_end-end in
-    let pre = c.requires in
-    let read-log-sheet = c.read_log_sheet-read in
-    let read2 = c.in-Read in
-    cut_kept if1.false whole-end.ensures pre (rw read2.is at read-log-sheet.ensures) if2.false c.if-rows-m.false
+returns c = cut_kept c.if-bytes-gt-MOST_LOG_BYTES.false c.whole_end-end.ensures c.requires c.in_ok-read.ensures c.if-read-n.false c.if-read-m.false

@@ -5,30 +5,18 @@ use Rattle.logform.proofs.Forming.{no_first, no_records, log_form}
 use Rattle.logform.proofs.read_log_form.Goals as goal
 
 pub returns-then-bytes-gt-MOST_LOG_BYTES : goal.returns-then-bytes-gt-MOST_LOG_BYTES
-unfolding ReadFirst WhatIsLeft ReadLogForm
+unfolding ReadLogForm
 returns-then-bytes-gt-MOST_LOG_BYTES c = too_long c.if-bytes-gt-MOST_LOG_BYTES.true
 
-pub returns-in_default : goal.returns-in_default
-unfolding ReadFirst WhatIsLeft ReadLogForm
-returns-in_default c =
-    let if1 = c.if-bytes-gt-MOST_LOG_BYTES in
-    let first_line_lem = c.first_line-first in
-    no_first if1.false (rw c.in_default.is at first_line_lem.ensures)
+pub returns-in_err-first : goal.returns-in_err-first
+unfolding ReadFirst ReadLogForm
+returns-in_err-first c = rw c.from_residual.ensures (no_first c.if-bytes-gt-MOST_LOG_BYTES.false c.in_err-first.ensures)
 
-pub returns-in-Lines : goal.returns-in-Lines
+pub returns-in_err-records : goal.returns-in_err-records
 unfolding ReadFirst WhatIsLeft ReadLogForm
-returns-in-Lines c =
-    let if1 = c.if-bytes-gt-MOST_LOG_BYTES in
-    let first = c.in-Read in
-    let first_line_lem = c.first_line-first in
-    let lines_left = c.lines_left-left in
-    log_form if1.false _ (rw first.is at first_line_lem.ensures) (rw c.in-Lines.is at lines_left.ensures)
+returns-in_err-records c =
+    rw c.from_residual-in_err-records.ensures (no_records c.if-bytes-gt-MOST_LOG_BYTES.false c.in_ok-first.first.after.at c.in_ok-first.ensures c.in_err-records.ensures)
 
-pub returns-in-Other : goal.returns-in-Other
+pub returns : goal.returns
 unfolding ReadFirst WhatIsLeft ReadLogForm
-returns-in-Other c =
-    let if1 = c.if-bytes-gt-MOST_LOG_BYTES in
-    let first = c.in-Read in
-    let first_line_lem = c.first_line-first in
-    let lines_left = c.lines_left-left in
-    no_records if1.false first.after.at (rw first.is at first_line_lem.ensures) (rw c.in-Other.is at lines_left.ensures)
+returns c = log_form c.if-bytes-gt-MOST_LOG_BYTES.false _ c.in_ok-first.ensures c.in_ok-records.ensures

@@ -1,4 +1,3 @@
-use Prim.Native.Nat.{◌-◌}
 use lib.IntN.{pos}
 use Rattle.record.specs.Layout.{width}
 use Rattle.lines.specs.Kinds.{K}
@@ -7,7 +6,4 @@ use Rattle.heading.specs.Heading.{most_digits}
 use Rattle.logreader.proofs.put_records.Given as goal
 
 abbrev pub invariant-loop-i : goal.invariant-loop-i
-invariant-loop-i l = Lined pos most_digits width l.count l.bytes l.initial.k K l.initial.log l.log l.k l.start l.i
-
-abbrev pub decreases-loop-i : goal.decreases-loop-i
-decreases-loop-i l = l.count - l.i
+invariant-loop-i l = Lined pos most_digits width l.count l.bytes l.fn.from.at K l.fn.log l.log l.k l.i

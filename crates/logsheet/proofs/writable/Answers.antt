@@ -1,5 +1,6 @@
 -- `writable` meets its contract.
-use Rattle.refusal.proofs.Tells.{tells_false}
+use Rattle.refusal.proofs.Tells.{true_false, tells_false}
+use Rattle.logsheet.proofs.Shortness.{short_each, all_short}
 use Rattle.logsheet.proofs.writable.Goals as goal
 
 pub returns-then-log-ne0 : goal.returns-then-log-ne0
@@ -10,6 +11,11 @@ returns-then-not-counts_in c = tells_false (λ w. c.counts_in.ensures.when_false
 
 pub returns : goal.returns
 returns c =
+    let log = c.args.log.now in
     let if1 = c.if-log-ne0 in
     let counts_in_lem = c.counts_in in
-    record { when_true = λ e. record { whole = if1.false; counts = counts_in_lem.ensures.when_true c.if-not-counts_in.false; short = c.short.ensures.when_true e }; when_false = λ e w. c.short.ensures.when_false e w.short }
+    let each = c.short.ensures in
+    record {
+      when_true = λ e. record { whole = if1.false; counts = counts_in_lem.ensures.when_true c.if-not-counts_in.false; short = all_short log (each.0 e) };
+      when_false = λ e w. true_false (each.1 (short_each log w.short)) e;
+    }

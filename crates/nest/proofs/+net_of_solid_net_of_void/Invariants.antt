@@ -1,4 +1,3 @@
-use Rattle.std.proofs.Common.{length, ◌-◌, ◌≤◌}
 use Rattle.nest.proofs.Adding.{Added}
 use Rattle.nest.proofs.+net_of_solid_net_of_void.Given as goal
 
@@ -12,15 +11,9 @@ decreases-net_of_void l = l.left
 -- ---- the net of a solid
 
 abbrev pub invariant-net_of_solid-loop-k : goal.invariant-net_of_solid-loop-k
-invariant-net_of_solid-loop-k l = (l.k ≤ length l.names) × Added l.names l.sums l.i l.left l.k l.voids
-
-abbrev pub decreases-net_of_solid-loop-k : goal.decreases-net_of_solid-loop-k
-decreases-net_of_solid-loop-k l = length l.names - l.k
+invariant-net_of_solid-loop-k l = Added l.entries l.i l.left l.k l.voids
 
 -- ---- the net of a void
 
 abbrev pub invariant-net_of_void-loop-k : goal.invariant-net_of_void-loop-k
-invariant-net_of_void-loop-k l = (l.k ≤ length l.names) × Added l.names l.sums l.i l.left l.k l.solids
-
-abbrev pub decreases-net_of_void-loop-k : goal.decreases-net_of_void-loop-k
-decreases-net_of_void-loop-k l = length l.names - l.k
+invariant-net_of_void-loop-k l = Added l.entries l.i l.left l.k l.solids

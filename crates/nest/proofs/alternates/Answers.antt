@@ -1,19 +1,35 @@
 -- `alternates` meets its contract.
-use Rattle.nest.proofs.Asking.{alternates_none, alternates_some}
+use Rattle.nest.specs.Questions.{Alternates}
+use Rattle.refusal.proofs.Tells.{tells_true}
+use Rattle.nest.proofs.Entries.{read, here, stands_earlier}
+use Rattle.nest.proofs.Asking.{kinds_apart, answered, alternates_none, alternates_some}
 use native.Mathlib.Omega.{arith}
+use borrow.Author.Rules.{rules}
 use Rattle.nest.proofs.alternates.Goals as goal
 
-pub returns-then-name-eq0 : goal.returns-then-name-eq0
-returns-then-name-eq0 c = alternates_none c.args.i c.args.letters.now c.args.names.now c.if-name-eq0.true
+pub offset_bounds-entries-j : goal.offset_bounds-entries-j
+offset_bounds-entries-j c =
+    let h = stands_earlier c.args.entries.now c.requires.0 c.args.i c.in-Some.j c.requires.1 c.in-Some.is in
+    let k = c.requires.1 in search rules
 
-pub bounds-letters-name : goal.bounds-letters-name
-bounds-letters-name c =
-    let pre = c.requires in
-    let h = pre.2 c.args.i (rw pre.0 pre.1) in
-    omega (arith, h, pre.1)
+pub bounds-entries-j : goal.bounds-entries-j
+bounds-entries-j c =
+    let h = stands_earlier c.args.entries.now c.requires.0 c.args.i c.in-Some.j c.requires.1 c.in-Some.is in
+    omega (arith, c.requires.1)
 
-pub returns : goal.returns
-returns c =
-    let args = c.args in
-    let pre = c.requires in
-    alternates_some args.i args.letters.now args.names.now pre.2 (rw pre.0 pre.1) c.if-name-eq0.false c.differ.result (rw (c.kind_of.ensures, c.kind_of-2.ensures) at c.differ.ensures)
+pub returns-in-None : goal.returns-in-None
+returns-in-None c =
+    let es = c.args.entries.now in
+    let i = c.args.i in
+    answered Alternates es i (read es i) (here es i c.requires.1) _ (tells_true (alternates_none es i (read es i) c.in-None.is))
+
+pub returns-in-Some : goal.returns-in-Some
+returns-in-Some c =
+    let es = c.args.entries.now in
+    let i = c.args.i in
+    let j = c.in-Some.j in
+    let h = stands_earlier es c.requires.0 i j c.requires.1 c.in-Some.is in
+    rw (c.ne.ensures, c.kind_of.ensures, c.kind_of-in-Some.ensures) (
+    answered Alternates es i (read es i) (here es i c.requires.1) _
+    (alternates_some es i (read es i) j c.in-Some.is (read es j) (here es j (omega (arith, c.requires.1))) _ (kinds_apart _ _))
+    )

@@ -1,5 +1,4 @@
 use mathlib.Core.Path.{◌≡◌}
-use Prim.Native.Nat.{◌-◌, ◌≤◌}
 use lib.ListN.{length}
 use Rattle.ranks.specs.InnerRanks.{blocks}
 use Rattle.ranks.proofs.Filling.{Filled}
@@ -7,7 +6,4 @@ use Rattle.ranks.proofs.Leaving.{sum_left}
 use Rattle.ranks.proofs.leave_sums.Given as goal
 
 abbrev pub invariant-loop-k : goal.invariant-loop-k
-invariant-loop-k l = (l.k ≤ blocks) × (length l.less ≡ blocks) × Filled (sum_left l.i l.j l.sup) l.k l.less
-
-abbrev pub decreases-loop-k : goal.decreases-loop-k
-decreases-loop-k l = blocks - l.k
+invariant-loop-k l = (length l.less ≡ blocks) × Filled (sum_left l.i l.j l.sup) l.k l.less

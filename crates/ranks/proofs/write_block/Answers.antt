@@ -6,21 +6,10 @@ use native.Mathlib.Omega.{arith}
 use Rattle.ranks.proofs.write_block.Goals as goal
 
 pub loop-k-init : goal.loop-k-init
-loop-k-init c = (omega arith, write_none (block * (c.args.i / block)) c.args.less.now c.args.sub.now)
+loop-k-init c = write_none (block * (c.args.i / block)) c.args.less.now c.args.sub.now
 
 pub loop-k-preserved : goal.loop-k-preserved
-loop-k-preserved c =
-    let loop = c.loop-k in
-    let args = c.args in
-    let pre = c.requires in
-    let taken = c.loop-k-test.true in
-    let small = pre.i_lt_most_rows in
-    let size = pre.sub_len in
-    let same = loop.invariant.1.size in
-    (omega arith, write_more (block * (args.i / block)) loop.k args.less.now args.sub.now loop.sub (omega arith) loop.invariant.1)
+loop-k-preserved c = write_more (block * (c.args.i / block)) c.loop-k.k c.args.less.now c.args.sub.now c.loop-k.sub (omega (arith, c.requires.i_lt_most_rows)) c.loop-k.invariant
 
 pub returns : goal.returns
-returns c =
-    let loop = c.loop-k in
-    let args = c.args in
-    write_end args.i loop.k args.less.now args.sub.now loop.sub c.loop-k-test.false loop.invariant.0 loop.invariant.1
+returns c = write_end c.args.i c.loop-k.k c.args.less.now c.args.sub.now c.loop-k.sub c.loop-k-test.false (omega arith) c.loop-k.invariant

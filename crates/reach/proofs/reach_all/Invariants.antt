@@ -1,11 +1,10 @@
 use Rattle.reach.proofs.Growing.{Reaching}
-use mathlib.Core.Path.{◌≡◌}
-use Prim.Native.Nat.{◌-◌, ◌≤◌}
+use Prim.Native.Nat.{◌-◌}
 use lib.ListN.{length}
 use Rattle.reach.proofs.reach_all.Given as goal
 
 abbrev pub invariant-loop-h : goal.invariant-loop-h
-invariant-loop-h l = (l.h ≤ l.l) × (length l.m ≡ length l.initial.m) × (length l.q ≡ length l.initial.q) × Reaching l.t l.m l.q l.h l.l
+invariant-loop-h l = Reaching l.t l.m l.q l.h l.l
 
 abbrev pub decreases-loop-h : goal.decreases-loop-h
 decreases-loop-h l = length l.m - l.h

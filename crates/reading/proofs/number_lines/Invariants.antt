@@ -1,10 +1,5 @@
-use Prim.Native.Nat.{◌-◌}
-use lib.IntN.{pos}
 use Rattle.reading.proofs.Lining.{Lined}
 use Rattle.reading.proofs.number_lines.Given as goal
 
 abbrev pub invariant-loop-i : goal.invariant-loop-i
-invariant-loop-i l = Lined pos l.most l.width l.count l.s l.initial.k l.w l.initial.room l.room l.k l.start l.i
-
-abbrev pub decreases-loop-i : goal.decreases-loop-i
-decreases-loop-i l = l.count - l.i
+invariant-loop-i g l = Lined g.F.Field.up l.most l.width l.count l.s l.fn.from.at l.w l.fn.room l.room l.at.at l.i

@@ -1,31 +1,18 @@
 -- `lesser` meets its contract.
 use mathlib.Core.Path.{sym}
-use Prim.Native.Nat.{◌≤◌, ◌<◌}
-use Rattle.refusal.specs.Number.{number}
+use native.Mathlib.Omega.{arith}
 use Rattle.refusal.specs.Inner.{lesser_of}
 use Rattle.refusal.proofs.Either.{lesser_left, lesser_right}
-use native.Mathlib.Omega.{arith}
 use Rattle.refusal.proofs.lesser.Goals as goal
+use Rattle.refusal.proofs.lesser.Goals.{in_default-via-in-Err-Err+else-from, in_default-via-in-Err+in_default, in_default-via-in_default}
 
-pub returns-in-Passes : goal.returns-in-Passes
+pub returns-in-Err-Err : goal.returns-in-Err-Err
+returns-in-Err-Err c = let e = c.in-Err-Err in rw (e.is-0, e.is-1) (sym (lesser_right e.a e.b (omega arith)))
+
+pub returns-in_default : goal.returns-in_default
 unfolding lesser_of
-returns-in-Passes c = rw c.in-Passes.is
-
-pub returns-in-Passes-w : goal.returns-in-Passes-w
-unfolding lesser_of
-returns-in-Passes-w c = let v = c.in-Refused in
-    rw (v.is, c.in-Passes-w.is)
-
-pub returns-then-number_of : goal.returns-then-number_of
-returns-then-number_of c = let w = c.in-Refused-w in
-    let v = c.in-Refused in
-    let number_of_lem = c.number_of in
-    let h : number w.b < number v.a = omega (arith, number_of_lem.ensures, c.number_of-in-Refused-w.ensures) in
-    rw (v.is, w.is) (sym (lesser_right v.a w.b h))
-
-pub returns-else-number_of : goal.returns-else-number_of
-returns-else-number_of c = let v = c.in-Refused in
-    let w = c.in-Refused-w in
-    let number_of_lem = c.number_of in
-    let h : number v.a ≤ number w.b = omega (arith, number_of_lem.ensures, c.number_of-in-Refused-w.ensures) in
-    rw (v.is, w.is) (sym (lesser_left v.a w.b h))
+returns-in_default c = elim c.in_default.branch [
+  | in_default-via-in-Err-Err+else-from w ↦ (let e = w.in-Err-Err in rw (c.and.ensures, e.is-0, e.is-1) (sym (lesser_left e.a e.b (omega arith))))
+  | in_default-via-in-Err+in_default w ↦ rw (c.and.ensures, w.in_default.is-0, w.in_default.is-1)
+  | in_default-via-in_default w ↦ rw (c.and.ensures, w.in_default.is-0)
+]

@@ -1,5 +1,6 @@
 -- `grow_log` meets its contract: the records done are the last of the log.
 use mathlib.Core.Path.{◌∙◌}
+use native.Mathlib.Omega.{arith}
 use Rattle.regrow.proofs.Undoing.{undone_none, table_stands, done_all, same, room_for_two, next_fails, next_done}
 use Rattle.regrow.proofs.grow_log.Goals as goal
 
@@ -60,4 +61,4 @@ returns c =
     let pre = c.requires in
     let loop = c.loop-done in
     let loop-test = c.loop-done-test in
-    done_all args.corners args.rows args.room.now args.log.now (pre) loop.done loop.room loop.invariant loop-test.false
+    done_all args.corners args.rows args.room.now args.log.now (pre) loop.done loop.room loop.invariant (omega arith) loop-test.false

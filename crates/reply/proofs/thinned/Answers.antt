@@ -1,12 +1,11 @@
 -- `thinned` meets its contract: the run without limit, its figures, and the text of both.
 use mathlib.Core.Path.{sym, ◌∙◌}
-use Prim.Native.Nat.{◌-◌, ◌*◌}
+use Prim.Native.Nat.{◌*◌}
 use lib.Seq.{length-take-le}
-use lib.ListN.{length}
 use mir.Syntax.{w64}
 use mir.ValLaws.{to_z-of_z}
 use Rattle.record.specs.Layout.{width}
-use Rattle.reply.proofs.Running.{first_coordinates, can_go_on, log_room, left_room, last_coordinates, can_tell, run_put}
+use Rattle.reply.proofs.Running.{first_coordinates, can_go_on, log_room, left_room, last_coordinates, run_put}
 use native.Mathlib.Omega.{arith}
 use borrow.Author.Rules.{rules}
 use Rattle.reply.proofs.thinned.Goals as goal
@@ -16,10 +15,10 @@ volume_of-before-requires c =
     let pre = c.requires in
     first_coordinates pre
 
-pub go_on-k-requires : goal.go_on-k-requires
-go_on-k-requires c =
+pub go_on-k-requires-clause-can_go_on : goal.go_on-k-requires-clause-can_go_on
+go_on-k-requires-clause-can_go_on c =
     let pre = c.requires in
-    record { can_go_on = can_go_on pre; measurable = tt }
+    can_go_on pre
 
 pub overflow_mul-left : goal.overflow_mul-left
 overflow_mul-left c =
@@ -33,12 +32,6 @@ overflow_sub-left c =
     let go_on = c.go_on-k in
     let table = c.go_on-k in
     left_room pre go_on.ensures c.go_on-k.auto.log table.auto.table
-
-pub slice_bounds-volume_of-end-2 : goal.slice_bounds-volume_of-end-2
-slice_bounds-volume_of-end-2 c =
-    let go_on = c.go_on-k in
-    let table = go_on.new.table in
-    sym (length-take-le (length table - go_on.result * 6) table (omega arith))
 
 pub volume_of-after-requires : goal.volume_of-after-requires
 volume_of-after-requires c =
@@ -54,12 +47,6 @@ overflow_mul-logged c =
     let log2 = c.go_on-k in
     let h = log_room pre go_on.ensures log2.auto.log in search rules
 
-pub slice_bounds-tell_run-end-2 : goal.slice_bounds-tell_run-end-2
-slice_bounds-tell_run-end-2 c =
-    let go_on = c.go_on-k in
-    let table = go_on.new.table in
-    sym (length-take-le (length table - go_on.result * 6) table (omega arith))
-
 pub slice_bounds-log-end : goal.slice_bounds-log-end
 slice_bounds-log-end c =
     let pre = c.requires in
@@ -74,14 +61,6 @@ slice_bounds-tell_run-end-3 c =
     let log2 = c.go_on-k in
     let h = log_room pre go_on.ensures log2.auto.log in
     sym (length-take-le (go_on.result * width) _ (omega (arith, log2.auto.log)))
-
-pub tell_run-requires : goal.tell_run-requires
-tell_run-requires c =
-    let pre = c.requires in
-    let go_on = c.go_on-k in
-    let log2 = c.go_on-k in
-    let table = c.go_on-k in
-    can_tell pre go_on.ensures log2.auto.log table.auto.table
 
 pub returns : goal.returns
 returns c =

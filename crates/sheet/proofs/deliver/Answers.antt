@@ -1,4 +1,6 @@
 -- `deliver` meets its contract.
+use mathlib.Core.Path.{refl}
+use Rattle.std.proofs.lemmas.Result.{err_from_is_err_and}
 use Rattle.sheet.proofs.Last.{no_table_room, no_corner_room, refused_skin, skin_put}
 use Rattle.sheet.proofs.deliver.Goals as goal
 
@@ -14,23 +16,13 @@ returns-then-corners-xs c =
     let args = c.args in
     no_corner_room pre args.table.now args.corners.now c.if-corners-xs.true
 
-pub returns-in-Refused : goal.returns-in-Refused
-returns-in-Refused c =
-    let pre = c.requires in
-    let args = c.args in
-    let if1 = c.if-table-t in
-    let if2 = c.if-corners-xs in
-    let check-first = c.check_first-verdict in
-    refused_skin pre args.table.now args.corners.now if1.false if2.false _ _ check-first.ensures c.in-Refused.is
+pub returns-in_err-check_first : goal.returns-in_err-check_first
+returns-in_err-check_first c =
+    let p = err_from_is_err_and c.from_residual.result c.from_residual.ensures.1 in
+    rw (p.1, p.2) (refused_skin c.requires c.args.table.now c.args.corners.now c.if-table-t.false c.if-corners-xs.false _ _ c.in_err-check_first.ensures refl)
 
-pub returns-in-Passes : goal.returns-in-Passes
-returns-in-Passes c =
-    let enum_told = c.in-Passes in
-    let pre = c.requires in
-    let args = c.args in
-    let if1 = c.if-table-t in
-    let if2 = c.if-corners-xs in
-    let copy-numbers = c.copy_numbers in
-    let check = c.check_first-verdict in
-    let passes = enum_told.is in
-    skin_put pre args.table.now args.corners.now if1.false if2.false _ check.ensures passes _ _ copy-numbers.ensures c.copy_coordinates.ensures
+pub returns : goal.returns
+returns c =
+    rw (c.copy_from_slice.ensures.after, c.copy_from_slice-2.ensures.after) (
+    skin_put c.requires c.args.table.now c.args.corners.now c.if-table-t.false c.if-corners-xs.false _ c.in_ok-check_first.ensures refl
+    )

@@ -1,20 +1,14 @@
 -- `follow` meets its contract: `Following` holds at every place of the log.
-use Rattle.standin.proofs.Following.{follow_start, follow_moved, follow_stayed, follow_end}
+use Rattle.standin.proofs.Following.{follow_moved, follow_stayed, follow_end}
 use native.Mathlib.Omega.{arith}
 use Rattle.standin.proofs.follow.Goals.{then-e-at, else-e-at}
 use Rattle.standin.proofs.follow.Goals as goal
 
-pub loop-j-init : goal.loop-j-init
-loop-j-init c = follow_start
-
 pub loop-j-preserved : goal.loop-j-preserved
 loop-j-preserved c =
-    let loop = c.loop-j in
-    let loop-test = c.loop-j-test in
-    let read-contracted = c.read_contracted-e in
-    let f = loop.invariant in
-    let h = loop-test.true in
-    let is = read-contracted.ensures in
+    let f = c.loop-j.invariant in
+    let h = c.loop-j-test.true in
+    let is = c.read_contracted-e.ensures in
     elim c.if-e-at.branch [
       | then-e-at w ↦ rw (w.at-is, w.moved-is) (follow_moved f h is w.if-e-at.true)
       | else-e-at w ↦ rw (w.at-is, w.moved-is) (follow_stayed f h is w.if-e-at.false)

@@ -2,11 +2,6 @@
 use Rattle.step.proofs.Stepping.{step_done}
 use Rattle.step.proofs.contract.Goals as goal
 
-pub record_of-r-requires : goal.record_of-r-requires
-record_of-r-requires c =
-    let pre = c.requires in
-    pre
-
 pub returns : goal.returns
 returns c =
     let args = c.args in

@@ -1,33 +1,30 @@
--- `expect` meets its contract.
+-- `expect` meets its contract: what is left of the text from a place on begins with the bytes, or does not.
+use Rattle.std.proofs.Common.{◌≡◌, ℕ, ◌+◌, ◌-◌, List, ◌++◌, min, Bool, true, false, length, take, drop}
+use Rattle.std.specs.List.{starts_with}
+use Rattle.std.proofs.Math.Dec.{eqb}
+use Rattle.std.proofs.lemmas.Bool.Decides.{Decides-eqb}
+use Rattle.std.proofs.lemmas.List.{drop_min, drop-drop, take_rest}
+use Rattle.std.proofs.lemmas.Slice.Eq.{starts_is}
 use Rattle.text.specs.InnerReading.{Expected}
-use Rattle.text.proofs.Words.{compare_start, compare_past, compare_other, compare_more, compare_end}
 use Rattle.text.proofs.expect.Goals as goal
 
-pub loop-i-init : goal.loop-i-init
-loop-i-init c = compare_start c.args.w.now c.args.s.now c.args.from.at
+module _ (s w : List ℕ) (at m : ℕ) (r : Bool) (e : m ≡ min at (length s)) (v : r ≡ starts_with eqb (take (length s - m) (drop m s)) w) where
+  rest_is : take (length s - m) (drop m s) ≡ drop at s
+  rest_is = rw (take_rest, e, drop_min)
 
-pub returns-then-s-k : goal.returns-then-s-k
+  told : r ≡ starts_with eqb (drop at s) w
+  told = rw rest_is at v
+
+  there : r ≡ true → drop at s ≡ w ++ drop (at + length w) s
+  there t = rw drop-drop at ((starts_is Decides-eqb (drop at s) w r told).0 t)
+
+  not_there : r ≡ false → (x : List ℕ) → drop at s ≡ w ++ x → ⊥
+  not_there f x h = let t : r ≡ true = (starts_is Decides-eqb (drop at s) w r told).1 x h in cc
+
+pub returns-then-starts_with : goal.returns-then-starts_with
 unfolding Expected
-returns-then-s-k c = let args = c.args in
-    let loop = c.loop-i in
-    let loop-test = c.loop-i-test in
-    λ r. compare_past args.w.now args.s.now args.from.at loop.k loop.i loop.invariant r loop-test.true c.if-s-k.true
+returns-then-starts_with c = there c.args.s.now c.args.w.now c.args.from.at c.min.result _ c.min.ensures c.starts_with.ensures.value c.if-starts_with.true
 
-pub returns-then-s-k-2 : goal.returns-then-s-k-2
+pub returns-else-starts_with : goal.returns-else-starts_with
 unfolding Expected
-returns-then-s-k-2 c = let args = c.args in
-    let loop = c.loop-i in
-    let loop-test = c.loop-i-test in
-    let if1 = c.if-s-k in
-    λ r. compare_other args.w.now args.s.now args.from.at loop.k loop.i loop.invariant r loop-test.true if1.false c.if-s-k-2.true
-
-pub loop-i-preserved : goal.loop-i-preserved
-loop-i-preserved c = let args = c.args in
-    let loop = c.loop-i in
-    let loop-test = c.loop-i-test in
-    let if1 = c.if-s-k in
-    compare_more args.w.now args.s.now args.from.at loop.k loop.i loop.invariant loop-test.true if1.false c.if-s-k-2.false
-
-pub returns : goal.returns
-unfolding Expected
-returns c = compare_end c.args.w.now c.args.s.now c.args.from.at c.loop-i.k c.loop-i.i c.loop-i.invariant c.loop-i-test.false
+returns-else-starts_with c = not_there c.args.s.now c.args.w.now c.args.from.at c.min.result _ c.min.ensures c.starts_with.ensures.value c.if-starts_with.false

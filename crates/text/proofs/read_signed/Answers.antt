@@ -1,33 +1,36 @@
 -- `read_signed` meets its contract.
-use mathlib.Core.Path.{sym, subst}
-use mathlib.Core.List.{[], ◌∷◌}
-use Rattle.text.specs.Decimal.{minus}
-use Rattle.text.specs.InnerReading.{Expected, ReadSigned}
-use Rattle.text.proofs.Signs.{signed_below, signed_above, small_enough}
+use Rattle.text.specs.InnerReading.{ReadNumber, ReadSigned, Expected}
+use Rattle.text.proofs.Signs.{fits_above, fits_below, read_above, read_below, small_enough, signed_below, signed_above, minus_zero, minus_none, none_above}
 use Rattle.text.proofs.read_signed.Goals as goal
 
-pub below_zero-requires : goal.below_zero-requires
-below_zero-requires c = let args = c.args in
-    let pre = c.requires in
-    let minus = c.in-To in
-    small_enough args.most args.s.now minus.c.at pre.1 c.read_number.result c.read_number.ensures
+pub returns-in_err-v : goal.returns-in_err-v
+unfolding ReadNumber ReadSigned Expected
+returns-in_err-v c = rw c.from_residual.ensures (none_above c.args.most c.args.s.now c.args.from.at c.in_default.ensures c.in_err-v.ensures)
 
-pub above_zero-requires : goal.above_zero-requires
-above_zero-requires c = let args = c.args in
-    let pre = c.requires in
-    small_enough args.most args.s.now args.from.at pre.1 c.read_number-in-Bad.result c.read_number-in-Bad.ensures
+pub overflow_cast-result : goal.overflow_cast-result
+unfolding ReadNumber
+overflow_cast-result c = fits_above _ (small_enough c.requires.1 c.in_ok-v.ensures)
 
-pub returns-in-To : goal.returns-in-To
-unfolding Expected
-returns-in-To c = let args = c.args in
-    let expect = c.expect-minus in
-    let read_number = c.read_number in
-    subst (ReadSigned args.most args.s.now args.from.at) (sym c.below_zero.ensures) (signed_below args.most args.s.now args.from.at c.in-To.c.at (subst (Expected (minus ∷ []) args.s.now args.from.at) c.in-To.is expect.ensures) read_number.result read_number.ensures)
+pub returns-in_default : goal.returns-in_default
+unfolding ReadNumber ReadSigned
+returns-in_default c = rw (read_above c.in_ok-v.v (small_enough c.requires.1 c.in_ok-v.ensures)) (signed_above c.args.most c.args.s.now c.args.from.at c.in_ok-v.ensures)
 
-pub returns-in-Bad : goal.returns-in-Bad
-unfolding Expected
-returns-in-Bad c = let args = c.args in
-    let expect = c.expect-minus in
-    let enum_told = c.in-Bad in
-    let read-number2 = c.read_number-in-Bad in
-    subst (ReadSigned args.most args.s.now args.from.at) (sym c.above_zero.ensures) (signed_above args.most args.s.now args.from.at (subst (Expected (minus ∷ []) args.s.now args.from.at) enum_told.is expect.ensures) read-number2.result read-number2.ensures)
+pub returns-in_err-size : goal.returns-in_err-size
+unfolding ReadNumber ReadSigned Expected
+returns-in_err-size c = rw c.from_residual-in_err-size.ensures (minus_none c.args.most c.args.s.now c.args.from.at c.in-Some.after.at c.in-Some.ensures c.in_err-size.ensures)
+
+pub returns-then-size-eq0 : goal.returns-then-size-eq0
+unfolding ReadNumber ReadSigned Expected
+returns-then-size-eq0 c = minus_zero c.args.most c.args.s.now c.args.from.at c.in-Some.after.at c.in-Some.ensures (rw c.if-size-eq0.true at c.in_ok-size.ensures)
+
+pub overflow_cast-result-2 : goal.overflow_cast-result-2
+unfolding ReadNumber
+overflow_cast-result-2 c = fits_above _ (small_enough c.requires.1 c.in_ok-size.ensures)
+
+pub overflow_sub-result : goal.overflow_sub-result
+unfolding ReadNumber
+overflow_sub-result c = fits_below _ (small_enough c.requires.1 c.in_ok-size.ensures)
+
+pub returns : goal.returns
+unfolding ReadNumber ReadSigned Expected
+returns c = rw (read_below c.in_ok-size.size (small_enough c.requires.1 c.in_ok-size.ensures)) (signed_below c.args.most c.args.s.now c.args.from.at c.in-Some.after.at c.in_ok-size.size c.in-Some.ensures c.in_ok-size.ensures c.if-size-eq0.false)

@@ -1,26 +1,19 @@
 -- `undo_flips` meets its contract.
 use mathlib.Core.Path.{refl}
+use Rattle.std.proofs.lemmas.Result.{err_from_is_err_and}
 use Rattle.follow.specs.Follow.{refused, followed}
 use Rattle.undoflips.proofs.undo_flips.Goals as goal
 
 pub undo_log-requires : goal.undo_log-requires
-undo_log-requires c =
-    let args = c.args in
-    let judge = c.judge-v in
-    let enum_told = c.in-Passes in
-    record { corners = args.corners; table = judge.ensures.table enum_told.is }
+undo_log-requires c = record { corners = c.args.corners; table = c.in_ok-judge.ensures.table refl }
 
-pub returns-in-Refused : goal.returns-in-Refused
-returns-in-Refused c =
-    let judge = c.judge-v in
-    let v = c.in-Refused in
-    record { outcome = refused (rw v.is at judge.ensures.holds) refl refl }
+pub returns-in_err-judge : goal.returns-in_err-judge
+returns-in_err-judge c =
+    let p = err_from_is_err_and c.from_residual.result c.from_residual.ensures.1 in
+    rw (p.1, p.2) (record { outcome = refused c.in_err-judge.ensures.holds refl refl })
 
-pub returns-in-Passes : goal.returns-in-Passes
-returns-in-Passes c =
-    let args = c.args in
-    let judge = c.judge-v in
-    let enum_told = c.in-Passes in
-    let undo-log = c.undo_log in
-    let f = undo-log.ensures.followed args.corners (judge.ensures.table enum_told.is) in
-    record { outcome = followed (rw enum_told.is at judge.ensures.holds, (judge.ensures.table enum_told.is).stage) f.reached f.left }
+pub returns : goal.returns
+returns c =
+    let judged = c.in_ok-judge.ensures in
+    let f = c.undo_log.ensures.followed c.args.corners (judged.table refl) in
+    record { outcome = followed (judged.holds, (judged.table refl).stage) f.reached f.left }

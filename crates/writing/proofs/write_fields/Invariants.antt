@@ -1,11 +1,7 @@
-use Prim.Native.Nat.{◌-◌, ◌≤◌}
-use lib.ListN.{length, drop}
+use Rattle.std.proofs.Common.{drop, map}
 use Rattle.lines.specs.Lines.{fields}
 use Rattle.writing.proofs.Writing.{Onward}
 use Rattle.writing.proofs.write_fields.Given as goal
 
-abbrev pub invariant-loop-i : goal.invariant-loop-i
-invariant-loop-i l = (l.i ≤ length l.zs) × Onward l.initial.out l.at (fields l.zs) l.out l.k (fields (drop l.i l.zs))
-
-abbrev pub decreases-loop-i : goal.decreases-loop-i
-decreases-loop-i l = length l.zs - l.i
+abbrev pub invariant-loop-z : goal.invariant-loop-z
+invariant-loop-z g l = Onward l.fn.out l.at (fields (map g.F.Field.up l.zs)) l.out l.k (fields (map g.F.Field.up (drop l.z-index l.zs)))

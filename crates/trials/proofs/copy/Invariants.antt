@@ -1,9 +1,0 @@
--- The second list keeps its length.
-use Rattle.std.proofs.Common.{length, ◌-◌, ◌≡◌}
-use Rattle.trials.proofs.copy.Given as goal
-
-abbrev pub invariant-loop-i : goal.invariant-loop-i
-invariant-loop-i l = length l.to ≡ length l.initial.to
-
-abbrev pub decreases-loop-i : goal.decreases-loop-i
-decreases-loop-i l = length l.from - l.i
