@@ -28,7 +28,18 @@ fn next_edge(
     let mut last = [0usize; surface::MOST_CORNERS];
     let mut prev = [0usize; slots::MOST_SLOTS];
     slots::chains(t, &mut last, &mut prev);
-    least::least_edge(t, n, &last, &prev, xs, bound, scratch)
+    least::least_edge(
+        t,
+        n,
+        &last,
+        &prev,
+        xs,
+        bound,
+        &mut scratch.first,
+        &mut scratch.near,
+        &mut scratch.second,
+        &mut scratch.far,
+    )
 }
 
 // Inner: goes on thinning the first rows of a lent table, with done records in the log already; answers how many records there are in all.

@@ -11,7 +11,7 @@ use jobform::Entry;
 use nest::Question;
 
 // One case for each number of a job's list: 01's for a bad form, and 02's six.
-#[derive(Clone, Copy)]
+#[derive(Clone, Copy, Debug, PartialEq, Eq)]
 pub enum JobRefusal {
     SheetForm,
     JobCount,

@@ -10,7 +10,6 @@ ghost use Rattle.least.specs.Limited.{Allowed};
 ghost use Rattle.least.specs.Inner.{MeasurableAt};
 ghost use Rattle.least.specs.InnerSearch.{Searchable, SearchableAt, FoundAt, FoundLeast};
 
-use neighbours::Scratch;
 use record::Corner;
 
 // Whether the edge ab is short enough. The bound is an order's limit in whole centimetres, where it has one: its squared length is at most the squared limit.
@@ -83,7 +82,8 @@ fn least_at(
     found
 }
 
-// Inner: the least edge that qualifies, its lower number first, if any does. Corners are tried in rising order.
+// Inner: the least edge that qualifies, its lower number first, if any does. Corners are tried in rising order. The rest is scratch: room for the ring
+// of a corner and marks for it, and the same for the link test; the marks are blank again when the search ends.
 pub fn least_edge(
     t: &[u32],
     n: usize,
@@ -91,14 +91,20 @@ pub fn least_edge(
     prev: &[usize],
     xs: &[i32],
     bound: Option<u64>,
-    scratch: &mut Scratch,
+    ring: &mut [u32],
+    near: &mut [u8],
+    second: &mut [u32],
+    far: &mut [u8],
 ) -> Option<(Corner, Corner)>
     requires searchable { Searchable n t.now last.now prev.now bound xs.now }
-    ensures { FoundLeast (Allowed bound xs.now) (rows t.now) result }
+    requires most_corners_in_bounds { (most_corners ≤ length ring.old) × (most_corners ≤ length second.old) }
+    requires unmarked { Unmarked near.old × Unmarked far.old }
+    ensures found_least { FoundLeast (Allowed bound xs.now) (rows t.now) result }
+    ensures unmarked_2 { Unmarked near.new × Unmarked far.new }
 {
     for a in 0..n {
         let corner = Corner(a as u32);
-        let k = neighbours::gather(t, last, prev, corner, &mut scratch.first);
+        let k = neighbours::gather(t, last, prev, corner, ring);
         let found = least_at(
             t,
             last,
@@ -106,10 +112,10 @@ pub fn least_edge(
             xs,
             bound,
             corner,
-            &scratch.first[..k],
-            &mut scratch.near,
-            &mut scratch.second,
-            &mut scratch.far,
+            &ring[..k],
+            near,
+            second,
+            far,
         );
         if found.is_some() {
             return found;

@@ -60,7 +60,9 @@ pub struct Scratch {
 
 impl Scratch {
     // Inner: scratch with no mark.
-    pub fn new() -> Self {
+    pub fn new() -> Self
+        ensures { Unmarked result.near × Unmarked result.far }
+    {
         Scratch {
             first: [0; surface::MOST_CORNERS],
             near: [0; surface::MOST_CORNERS],

@@ -14,7 +14,7 @@ use Rattle.jobform.specs.declared.Entry.{Entry}
 use Rattle.refusal.proofs.Tells.{true_false}
 use Rattle.nest.specs.Questions.{At, Every, NameGood, Named}
 use Rattle.nest.specs.Net.{names, told_sum}
-use Rattle.nest.specs.Inner.{told_name, named_in}
+use Rattle.nest.specs.Inner.{Earlier, told_name, named_in}
 
 pub at_get : {A : Type 0} (f : Entry → A) (d : A) (es : List Entry) (i : ℕ) (e : Entry) → At es i e → get_or (map f es) i d ≡ f e
 at_get f d [] i e a = absurd a
@@ -84,9 +84,13 @@ names_is i (Some j) h = go (ℕ_discrete j i)
     go (yes e) = ap Some e
     go (no n) = absurd (true_false h (ne_eqb j i n))
 
+-- the entry that one stands in, where each names an earlier one or none
+pub stands_earlier : (es : List Entry) → Earlier es → (i j : ℕ) → i < length es → (read es i).name ≡ Some j → j < i
+stands_earlier es early i j h n = early i j (read es i) (here es i h) n
+
 -- a good name is that of an earlier entry
-pub stands_earlier : (es : List Entry) → Every Named es → (i j : ℕ) → i < length es → (read es i).name ≡ Some j → j < i
-stands_earlier es named i j h n = go i (subst (NameGood i) n (named i (read es i) (here es i h)))
+pub earlier : (es : List Entry) → Every Named es → Earlier es
+earlier es named i j e a n = go i (subst (NameGood i) n (named i e a))
   where
     go : (i : ℕ) → NameGood i (Some j) → j < i
     go zero g = absurd g

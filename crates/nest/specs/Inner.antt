@@ -1,12 +1,12 @@
 -- What inner functions are asked on and give: no public contract names it.
-use Rattle.std.specs.Prelude.{Bool, List, map, ℕ, zero, suc, ◌≤◌, ℤ, pos, ◌-ℤ◌, nat_abs, length, get_or, Option, None}
+use Rattle.std.specs.Prelude.{◌≡◌, Bool, List, map, ℕ, zero, suc, ◌≤◌, ◌<◌, ℤ, pos, ◌-ℤ◌, nat_abs, length, get_or, Option, Some, None}
 use Rattle.refusal.specs.InnerTells.{Tells}
 use Rattle.jobform.specs.declared.Entry.{Entry}
 use Rattle.jobform.specs.Limits.{most_entries}
 use Rattle.nest.specs.declared.Question.{Question}
 use Rattle.nest.specs.declared.Question.TheVariants as ask
 use Rattle.nest.specs.Limits.{most_sum}
-use Rattle.nest.specs.Questions.{At, Every, Marked, Named, Alternates, Shallow, SumIn}
+use Rattle.nest.specs.Questions.{At, Marked, Named, Alternates, Shallow, SumIn}
 use Rattle.nest.specs.Net.{names, added, told_sum}
 
 -- what each question asks of an entry
@@ -17,12 +17,16 @@ asks ask.Alternation = Alternates
 asks ask.Depth = Shallow
 asks ask.Sum = SumIn
 
+-- each names one with a lesser number, or none
+abbrev pub Earlier : List Entry → Type 0
+Earlier es = (i j : ℕ) (e : Entry) → At es i e → e.name ≡ Some j → j < i
+
 -- and what was asked before it
 abbrev pub Before : Question → List Entry → Type 0
 Before ask.Kind es = Unit
 Before ask.Name es = Unit
-Before ask.Alternation es = Every Named es
-Before ask.Depth es = Every Named es
+Before ask.Alternation es = Earlier es
+Before ask.Depth es = Earlier es
 Before ask.Sum es = Unit
 
 -- yes where entry i answers a question well, and no where it does not

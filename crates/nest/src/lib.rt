@@ -6,8 +6,8 @@ ghost use Rattle.refusal.specs.InnerTells.{Tells};
 ghost use Rattle.wide.specs.Rounding.{figure};
 ghost use Rattle.wide.specs.Wide.{Exact};
 ghost use Rattle.nest.specs.Limits.{most_depth};
-ghost use Rattle.nest.specs.Questions.{kind_of_lem, NameGood, Named, Alternates, Every, Deep};
-ghost use Rattle.nest.specs.Inner.{Answered, asks, Before, net_within, Summable};
+ghost use Rattle.nest.specs.Questions.{kind_of_lem, NameGood, Alternates, Every, Deep};
+ghost use Rattle.nest.specs.Inner.{Answered, asks, Earlier, Before, net_within, Summable};
 
 use jobform::Entry;
 use wide::Wide;
@@ -59,7 +59,7 @@ fn named(name: Option<usize>, i: usize) -> bool
 
 // Whether entry i is of another kind than the one that it stands in.
 fn alternates(entries: &[Entry], i: usize) -> bool
-    requires { Every Named entries.now × (i < length entries.now) }
+    requires { Earlier entries.now × (i < length entries.now) }
     ensures { Answered Alternates i entries.now result }
 {
     let e = entries[i];
@@ -71,7 +71,7 @@ fn alternates(entries: &[Entry], i: usize) -> bool
 
 // How deep an entry stands.
 fn depth_of(entries: &[Entry], i: usize) -> usize
-    requires { Every Named entries.now × (i < length entries.now) }
+    requires { Earlier entries.now × (i < length entries.now) }
     ensures { Deep entries.now i result × (result ≤ i + 1) }
 {
     match entries[i].name {

@@ -9,6 +9,8 @@ use Rattle.run.proofs.Main.{step_one}
 use Rattle.record.specs.declared.Record.{Record}
 use Rattle.record.specs.Meant.{meant}
 use Rattle.record.specs.Front.{front_rows, standing}
+-- a caller's scratch, as it is made
+pub use Rattle.neighbours.proofs.Marking.{unmarked_new}
 use Rattle.step.specs.Front.{SteppedFront}
 use Rattle.step.proofs.Front.{fallen_none, front_replays, fallen_on, fallen_left}
 use Rattle.redo.specs.Redo.{Accepts, Redid}

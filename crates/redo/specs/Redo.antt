@@ -4,6 +4,8 @@ use Rattle.surface.specs.Rows.{Row, row}
 use Rattle.surface.specs.Record.{Placed, at, Record, Replays}
 use Rattle.record.specs.declared.Leaving.{Leaving}
 use Rattle.record.specs.Front.{standing, lowered}
+-- what is asked of the scratch that a caller lends
+pub use Rattle.neighbours.specs.Around.{Unmarked}
 
 -- a leaving row with its place
 abbrev pub placed_as : Leaving → Placed

@@ -16,12 +16,21 @@ pub fn replay_log(table: &mut [u32], n: usize, log: &[u32]) -> Result<usize, Hal
     requires { StageTable n table.old }
     ensures { FollowedIn (replaying n table.old log.now) result table.new }
 {
-    let mut scratch = Scratch::new();
+    let scratch = &mut Scratch::new();
     let all = log.len() / record::WIDTH;
     let rows = table.len() / 3;
     for done in 0..all {
         let r = record::read_record(log, record::WIDTH * done);
-        if !redo::redo(table, rows - 2 * done, n, r, &mut scratch) {
+        if !redo::redo(
+            table,
+            rows - 2 * done,
+            n,
+            r,
+            &mut scratch.first,
+            &mut scratch.near,
+            &mut scratch.second,
+            &mut scratch.far,
+        ) {
             return Err(Halt::Stopped(done));
         }
     }

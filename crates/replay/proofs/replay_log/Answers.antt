@@ -17,12 +17,15 @@ overflow_sub-rows c =
     let loop = c.loop-done in
     rows_there args.n args.table.now args.log.now pre loop.done loop.table loop.invariant
 
-pub redo-requires : goal.redo-requires
-redo-requires c =
-    let args = c.args in
-    let pre = c.requires in
+pub redo-requires-clause-stage_table : goal.redo-requires-clause-stage_table
+redo-requires-clause-stage_table c =
     let loop = c.loop-done in
-    record { stage_table = table_stands args.n args.table.now args.log.now pre loop.done loop.table loop.invariant; rows_in_bounds = rows_inside args.n args.table.now args.log.now pre loop.done loop.table loop.invariant }
+    table_stands c.args.n c.args.table.now c.args.log.now c.requires loop.done loop.table loop.invariant
+
+pub redo-requires-clause-rows_in_bounds : goal.redo-requires-clause-rows_in_bounds
+redo-requires-clause-rows_in_bounds c =
+    let loop = c.loop-done in
+    rows_inside c.args.n c.args.table.now c.args.log.now c.requires loop.done loop.table loop.invariant
 
 pub shape_of-table-then-not-redo : goal.shape_of-table-then-not-redo
 shape_of-table-then-not-redo c =
@@ -41,7 +44,7 @@ returns-then-not-redo c =
     let read-record = c.read_record-r in
     let redo = c.redo in
     let if1 = c.if-not-redo in
-    next_fails args.n args.table.now args.log.now pre loop.done loop.table loop.invariant loop-test.true (rw read-record.ensures at (rw if1.true at redo.ensures))
+    next_fails args.n args.table.now args.log.now pre loop.done loop.table loop.invariant loop-test.true (rw read-record.ensures at (rw if1.true at redo.ensures.redid))
 
 pub loop-done-preserved : goal.loop-done-preserved
 loop-done-preserved c =
@@ -52,7 +55,7 @@ loop-done-preserved c =
     let read-record = c.read_record-r in
     let redo = c.redo in
     let if1 = c.if-not-redo in
-    next_done args.n args.table.now args.log.now pre loop.done loop.table loop.invariant loop-test.true (rw read-record.ensures at (rw if1.false at redo.ensures))
+    next_done args.n args.table.now args.log.now pre loop.done loop.table loop.invariant loop-test.true (rw read-record.ensures at (rw if1.false at redo.ensures.redid))
 
 pub shape_of-table : goal.shape_of-table
 shape_of-table c =
