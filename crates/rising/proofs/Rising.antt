@@ -1,15 +1,17 @@
 -- The least number above one that is passed: found by looking a list through, or by the marks of it.
-use mathlib.Core.Path.{◌≡◌, refl, sym, ◌∙◌}
+use mathlib.Core.Path.{◌≡◌, refl, sym, ap, ◌∙◌}
 use mathlib.Core.Logic.{◌⊎◌, inl, inr}
 use mathlib.Core.Bool.{Bool, true, false, cond}
 use mathlib.Core.List.Memᴰ
 use mathlib.Core.List.{List, [], ◌∷◌}
+use lib.ListN.{length, drop, drop_of_length-le}
 use Prim.Native.Nat.{ℕ, ◌≤◌, ◌<◌, min}
 use native.Mathlib.Decide.{dec_lt}
 use native.Mathlib.Omega.{arith}
 use Rattle.std.specs.Prelude.{Option, Some, None, nat_lt}
+use Rattle.std.specs.Bool.{then_some}
 use Rattle.std.specs.List.{fold, reduce, filter}
-use Rattle.std.proofs.lemmas.Bool.{ltb-true, lt-ltb}
+use Rattle.std.proofs.lemmas.Bool.{ltb-true, lt-ltb, le-ltb}
 use Rattle.surface.specs.Lists.{◌∈◌}
 use Rattle.rising.specs.Next.{NextAbove}
 
@@ -55,6 +57,33 @@ module _ (p : ℕ → Bool) where
 module _ (past : ℕ) where
   abbrev above : ℕ → Bool
   above w = nat_lt past w
+
+  -- of numbers below n, the least with n itself is the least of them all, where any is above
+  pub least_below : (n : ℕ) (l : List ℕ) → ((w : ℕ) → w ∈ l → w < n)
+      → then_some (nat_lt (fold min n (filter above l)) n) (fold min n (filter above l)) ≡ reduce min (filter above l)
+  least_below n [] h = ap (λ b. then_some b n) (le-ltb n n (omega arith))
+  least_below n (y ∷ l) h = go (least_below n l (λ w m. h w (Memᴰ.tail m))) (above y) refl
+    where
+      f : ℕ → List ℕ → ℕ
+      f x m = fold min x m
+
+      y_less : y < n
+      y_less = h y (Memᴰ.head refl)
+
+      least_is : min n y ≡ y → f y (filter above l) < n → then_some (nat_lt (f (min n y) (filter above l)) n) (f (min n y) (filter above l)) ≡ Some (f y (filter above l))
+      least_is e lt = rw e (ap (λ b. then_some b (f y (filter above l))) (lt-ltb (f y (filter above l)) n lt))
+
+      go : then_some (nat_lt (f n (filter above l)) n) (f n (filter above l)) ≡ reduce min (filter above l) → (b : Bool) → above y ≡ b
+          → then_some (nat_lt (f n (cond b (y ∷ filter above l) (filter above l))) n) (f n (cond b (y ∷ filter above l) (filter above l))) ≡ reduce min (cond b (y ∷ filter above l) (filter above l))
+      go k true e = let a = (least_fold above y l).first in least_is (omega (arith, y_less)) (omega (arith, y_less))
+      go k false e = k
+
+  -- the same once all are looked at
+  pub all_looked_at : (n least i : ℕ) (l : List ℕ) → ((w : ℕ) → w ∈ l → w < n) → length l ≤ i → fold min least (filter above (drop i l)) ≡ fold min n (filter above l)
+      → then_some (nat_lt least n) least ≡ reduce min (filter above l)
+  all_looked_at n least i l h end e =
+      let k : least ≡ fold min n (filter above l) = rw (drop_of_length-le l end) at e in
+      ap (λ r. then_some (nat_lt r n) r) k ∙ least_below n l h
 
   one_more : (y : ℕ) (l : List ℕ) → above y ≡ false → (o : Option ℕ) → NextAbove l past o → NextAbove (y ∷ l) past o
   one_more y l e None g = λ w m. go w (Memᴰ.cases_cons m)

@@ -4,14 +4,23 @@
 ghost use Rattle.std.specs.Prelude.{◌≡◌, ◌≤◌, length, min, nat_lt};
 ghost use Rattle.std.specs.List.{filter, reduce};
 ghost use Rattle.surface.specs.Limits.{most_corners};
-ghost use Rattle.neighbours.specs.Around.{Marked};
+ghost use Rattle.neighbours.specs.Around.{CornerNumbers, Marked};
 ghost use Rattle.rising.specs.Next.{NextAbove, NextMarked};
 
-// The least number of a ring above past.
+// Above every number that a ring may have.
+const NONE: u32 = surface::MOST_CORNERS as u32;
+
+// The least number of a ring above past. What is not above counts as NONE, so that no turn jumps: a filter jumps for each number, in rings without order
+// by chance, and thinning under a limit took half as long again.
 fn least_above(ring: &[u32], past: u32) -> Option<u32>
+    requires { CornerNumbers ring.now }
     ensures { result ≡ reduce min (filter (λ w. nat_lt past w) ring.now) }
 {
-    ring.iter().copied().filter(|w| past < *w).min()
+    let mut least = NONE;
+    for w in ring {
+        least = least.min(if past < *w { *w } else { NONE });
+    }
+    (least < NONE).then_some(least)
 }
 
 // The first number above past that is marked, if it is among the next few.

@@ -1,4 +1,5 @@
 pub mod Digits
 pub mod Scan
+pub mod Words
 pub mod Signs
 pub mod Spell

@@ -66,14 +66,14 @@ pub fn read_signed(s: &[u8], from: Cursor, most: usize) -> Option<(i64, Cursor)>
 pub fn expect(s: &[u8], from: Cursor, w: &[u8]) -> Option<Cursor>
     ensures { Expected w.now s.now from.at result }
 {
-    let rest = &s[from.at.min(s.len())..];
-    if rest.starts_with(w) {
-        Some(Cursor {
-            at: from.at + w.len(),
-        })
-    } else {
-        None
+    let mut at = from.at;
+    for b in w {
+        if s.get(at)? != b {
+            return None;
+        }
+        at += 1;
     }
+    Some(Cursor { at })
 }
 
 // Inner: how many bytes a number takes.
