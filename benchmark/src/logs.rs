@@ -143,12 +143,12 @@ impl Written<'_> {
         }
     }
 
-    /// A line of plain numbers, staged with their signs.
+    /// A line of plain numbers.
     fn line<const N: usize>(&mut self, word: &[u8], numbers: &[u32; N]) {
         word.iter().for_each(|&byte| self.put(byte));
-        for z in numbers.map(i64::from) {
+        for &number in numbers {
             self.put(b'\t');
-            self.signed(z);
+            self.signed(i64::from(number));
         }
         self.put(b'\n');
     }

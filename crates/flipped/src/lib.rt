@@ -29,7 +29,7 @@ impl From<FlipRefusal> for u32 {
 }
 
 // Not all are done: those before one that is refused are, or none, by the refusal of table, list, log or room.
-#[derive(Clone, Copy)]
+#[derive(Clone, Copy, Debug, PartialEq, Eq)]
 pub enum FlipHalt {
     Stopped(FlipRefusal, usize),
     Refused(Refusal),

@@ -21,12 +21,12 @@ pub trait Field: Copy {
 
     ghost limit: { ℕ };
 
-    // The number after a tab at a place, in at most so many digits, and the place after it.
+    // Inner: the number after a tab at a place, in at most so many digits, and the place after it.
     fn read(s: &[u8], from: Cursor, most: usize) -> Option<(Self, Cursor)>
         requires { (0 < most) × (most ≤ limit) }
         ensures { ReadField up most s.now from.at result };
 
-    // The number as it is written.
+    // Inner: the number as it is written.
     fn widened(self) -> i64
         ensures { result ≡ up self };
 }

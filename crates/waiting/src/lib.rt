@@ -11,7 +11,7 @@ use std::marker::Model;
 // Bits in a word, and words for the bits of all corners.
 const WORD: usize = 64;
 
-const WORDS: usize = surface::MOST_CORNERS / WORD + 1;
+pub const WORDS: usize = surface::MOST_CORNERS / WORD + 1;
 
 // A bit for each corner, and one for each word of them that is not nought.
 #[derive(Drop)]

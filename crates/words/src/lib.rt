@@ -1,6 +1,9 @@
 // Lists of numbers as words on standard input and standard output. There is None once a word is missing, is none of its type, or is not taken.
 #![tactic(auto)]
 
+ghost use Rattle.std.specs.Prelude.{◌≡◌, ℕ, ◌^◌, ◌<◌, MatchOption};
+ghost use Rattle.word.specs.Twos.{Narrow};
+
 // The most numbers that a list may have, and the most bytes.
 pub const MOST_NUMBERS: usize = 16384;
 
@@ -8,14 +11,21 @@ pub const MOST_BYTES: usize = 131072;
 
 // A type whose values cross as words.
 pub trait Cross: Copy {
-    // The value that a word is, or that it is none of the type.
-    fn of_word(w: u64) -> Option<Self>;
+    // A word, and the value of the type that it is.
+    ghost is_word: { ℕ → Self → Type 0 };
 
-    // The word of a value.
-    fn to_word(self) -> u64;
+    // Inner: the value that a word is, or that it is none of the type.
+    fn of_word(w: u64) -> Option<Self>
+        ensures { MatchOption result ((x : Self) → ¬ is_word w x) (λ x. is_word w x) };
+
+    // Inner: the word of a value.
+    fn to_word(self) -> u64
+        ensures { is_word result self };
 }
 
 impl Cross for u64 {
+    ghost is_word = { λ w x. w ≡ x };
+
     fn of_word(w: u64) -> Option<u64> {
         Some(w)
     }
@@ -26,6 +36,8 @@ impl Cross for u64 {
 }
 
 impl Cross for usize {
+    ghost is_word = { λ w x. w ≡ x };
+
     fn of_word(w: u64) -> Option<usize> {
         usize::try_from(w).ok()
     }
@@ -36,6 +48,8 @@ impl Cross for usize {
 }
 
 impl Cross for u32 {
+    ghost is_word = { λ w x. (w ≡ x) × (x < 2 ^ 32) };
+
     fn of_word(w: u64) -> Option<u32> {
         u32::try_from(w).ok()
     }
@@ -46,6 +60,8 @@ impl Cross for u32 {
 }
 
 impl Cross for u8 {
+    ghost is_word = { λ w x. (w ≡ x) × (x < 2 ^ 8) };
+
     fn of_word(w: u64) -> Option<u8> {
         u8::try_from(w).ok()
     }
@@ -56,6 +72,9 @@ impl Cross for u8 {
 }
 
 impl Cross for i32 {
+    ghost is_word = { Narrow };
+
+    #[tactic(auto, unfolding(word::specs::Twos::ReadNarrow))]
     fn of_word(w: u64) -> Option<i32> {
         word::signed_of(w)
     }
