@@ -11,75 +11,98 @@ pub const MOST_BYTES: usize = 131072;
 
 // A type whose values cross as words.
 pub trait Cross: Copy {
+    // The value that a word is, or that it is none of the type.
+    fn of_word(w: u64) -> Option<Self>;
+
+    // The word of a value.
+    fn to_word(self) -> u64;
+}
+
+// A type of whose values it is known which word each is. It crosses by that; any other type may still cross by two bodies alone.
+pub trait KnownWord: Copy {
     // A word, and the value of the type that it is.
     ghost is_word: { ℕ → Self → Type 0 };
 
     // Inner: the value that a word is, or that it is none of the type.
-    fn of_word(w: u64) -> Option<Self>
+    fn of_known_word(w: u64) -> Option<Self>
         ensures { MatchOption result ((x : Self) → ¬ is_word w x) (λ x. is_word w x) };
 
     // Inner: the word of a value.
-    fn to_word(self) -> u64
+    fn to_known_word(self) -> u64
         ensures { is_word result self };
 }
 
-impl Cross for u64 {
+impl<T: KnownWord> Cross for T {
+    fn of_word(w: u64) -> Option<T>
+        ensures { MatchOption result ((x : T) → ¬ T.is_word w x) (λ x. T.is_word w x) }
+    {
+        T::of_known_word(w)
+    }
+
+    fn to_word(self) -> u64
+        ensures { T.is_word result self }
+    {
+        self.to_known_word()
+    }
+}
+
+impl KnownWord for u64 {
     ghost is_word = { λ w x. w ≡ x };
 
-    fn of_word(w: u64) -> Option<u64> {
+    fn of_known_word(w: u64) -> Option<u64> {
         Some(w)
     }
 
-    fn to_word(self) -> u64 {
+    fn to_known_word(self) -> u64 {
         self
     }
 }
 
-impl Cross for usize {
+impl KnownWord for usize {
     ghost is_word = { λ w x. w ≡ x };
 
-    fn of_word(w: u64) -> Option<usize> {
+    fn of_known_word(w: u64) -> Option<usize> {
         usize::try_from(w).ok()
     }
 
-    fn to_word(self) -> u64 {
+    fn to_known_word(self) -> u64 {
         self as u64
     }
 }
 
-impl Cross for u32 {
+impl KnownWord for u32 {
     ghost is_word = { λ w x. (w ≡ x) × (x < 2 ^ 32) };
 
-    fn of_word(w: u64) -> Option<u32> {
+    fn of_known_word(w: u64) -> Option<u32> {
         u32::try_from(w).ok()
     }
 
-    fn to_word(self) -> u64 {
+    fn to_known_word(self) -> u64 {
         u64::from(self)
     }
 }
 
-impl Cross for u8 {
+impl KnownWord for u8 {
     ghost is_word = { λ w x. (w ≡ x) × (x < 2 ^ 8) };
 
-    fn of_word(w: u64) -> Option<u8> {
+    fn of_known_word(w: u64) -> Option<u8> {
         u8::try_from(w).ok()
     }
 
-    fn to_word(self) -> u64 {
+    fn to_known_word(self) -> u64 {
         u64::from(self)
     }
 }
 
-impl Cross for i32 {
+impl KnownWord for i32 {
     ghost is_word = { Narrow };
 
     #[tactic(auto, unfolding(word::specs::Twos::ReadNarrow))]
-    fn of_word(w: u64) -> Option<i32> {
+    fn of_known_word(w: u64) -> Option<i32> {
         word::signed_of(w)
     }
 
-    fn to_word(self) -> u64 {
+    fn to_known_word(self) -> u64 {
         word::word_of(i64::from(self))
     }
 }
@@ -122,4 +145,52 @@ pub fn write_each<T: Cross>(list: &[T]) -> Option<()> {
 pub fn write_list<T: Cross>(list: &[T]) -> Option<()> {
     write(list.len())?;
     write_each(list)
+}
+
+#[cfg(test)]
+mod tests {
+    use super::*;
+    use std::test::Fail;
+
+    // It crosses by two bodies alone.
+    #[derive(Clone, Copy)]
+    struct Half(u64);
+
+    impl Cross for Half {
+        fn of_word(w: u64) -> Option<Half> {
+            if w % 2 == 0 { Some(Half(w / 2)) } else { None }
+        }
+
+        fn to_word(self) -> u64 {
+            self.0.wrapping_mul(2)
+        }
+    }
+
+    // The word of the value that a word is.
+    fn crossed<T: Cross>(w: u64) -> Option<u64> {
+        Some(T::of_word(w)?.to_word())
+    }
+
+    #[test]
+    fn values_cross() -> Result<(), Fail> {
+        for (word, wanted) in [
+            (crossed::<Half>(6), Some(6)),
+            (crossed::<Half>(7), None),
+            (crossed::<u64>(u64::MAX), Some(u64::MAX)),
+            (crossed::<usize>(u64::MAX), Some(u64::MAX)),
+            (crossed::<u32>(4294967295), Some(4294967295)),
+            (crossed::<u32>(4294967296), None),
+            (crossed::<u8>(255), Some(255)),
+            (crossed::<u8>(256), None),
+            (i32::of_word(u64::MAX).map(|x| u64::from(x == -1)), Some(1)),
+            (crossed::<i32>(u64::MAX), Some(u64::MAX)),
+            (crossed::<i32>(2147483647), Some(2147483647)),
+            (crossed::<i32>(2147483648), None),
+        ] {
+            (word == wanted)
+                .then_some(())
+                .ok_or("a word is told otherwise")?;
+        }
+        Ok(())
+    }
 }
